@@ -1,0 +1,109 @@
+-- Boolean tests over lists of numbers, and what a passed test says.
+use Prim.Native.Nat.{ℕ, zero, suc, _+_, _≤_, _<_}
+use mathlib.Core.Path.{_≡_, refl, ap, sym, _∙_, subst}
+use mathlib.Core.List.{List, [], _∷_, _++_}
+use mathlib.Core.Bool.{Bool, true, false, _&&_, _||_, not}
+use mathlib.Core.Logic.{_≢_}
+use native.Mathlib.Omega.{arith}
+use lib.Dec.{T, leb, ltb, eqb, eqb→eq, eqb-refl, leb→le, ltb→lt}
+
+-- ---------------------------------------------------------------- definitions
+
+-- are the two lists equal, element by element
+unfoldable pub same : List ℕ → List ℕ → Bool
+same [] [] = true
+same [] (y ∷ ys) = false
+same (x ∷ xs) [] = false
+same (x ∷ xs) (y ∷ ys) = eqb x y && same xs ys
+
+-- is the list n one of the lists
+abbrev pub inList : List ℕ → List (List ℕ) → Bool
+inList n [] = false
+inList n (m ∷ ms) = same n m || inList n ms
+
+-- is the number c one of the numbers
+abbrev pub among : List ℕ → ℕ → Bool
+among [] c = false
+among (x ∷ s) c = eqb c x || among s c
+
+-- does every element pass the test
+abbrev pub every : {A : Type 0} → (A → Bool) → List A → Bool
+every p [] = true
+every p (x ∷ xs) = p x && every p xs
+
+-- every element passes the test, as a type
+abbrev pub All : {A : Type 0} → (A → Bool) → List A → Type 0
+All p [] = Unit
+All p (x ∷ xs) = T (p x) × All p xs
+
+-- ---------------------------------------------------------------- laws
+
+pub and-T : (a b : Bool) → T a → T b → T (a && b)
+and-T true b p q = q
+and-T false b p q = p
+
+pub and-0 : (a b : Bool) → T (a && b) → T a
+and-0 true b p = tt
+and-0 false b p = p
+
+pub and-1 : (a b : Bool) → T (a && b) → T b
+and-1 true b p = p
+and-1 false b p = absurd p
+
+pub or-l : (a b : Bool) → T a → T (a || b)
+or-l true b h = tt
+or-l false b h = absurd h
+
+pub or-r : (a b : Bool) → T b → T (a || b)
+or-r true b h = tt
+or-r false b h = h
+
+pub or-not : (a b : Bool) → T (a || b) → T (not a) → T b
+or-not true b h k = absurd k
+or-not false b h k = h
+
+pub T→true : (b : Bool) → T b → b ≡ true
+T→true true h = refl
+T→true false h = absurd h
+
+pub true→T : {b : Bool} → b ≡ true → T b
+true→T e = subst T (sym e) tt
+
+-- for a list that is written out: `by-test p xs tt`
+pub by-test : {A : Type 0} (p : A → Bool) (xs : List A) → T (every p xs) → All p xs
+by-test p [] h = tt
+by-test p (x ∷ xs) h = (and-0 (p x) (every p xs) h, by-test p xs (and-1 (p x) (every p xs) h))
+
+pub all-append : {A : Type 0} (p : A → Bool) (xs ys : List A) → All p xs → All p ys → All p (xs ++ ys)
+all-append p [] ys h k = k
+all-append p (x ∷ xs) ys h k = (h .0, all-append p xs ys (h .1) k)
+
+pub same→eq : (s t : List ℕ) → T (same s t) → s ≡ t
+unfolding same
+same→eq [] [] h = refl
+same→eq [] (y ∷ ys) h = absurd h
+same→eq (x ∷ xs) [] h = absurd h
+same→eq (x ∷ xs) (y ∷ ys) h =
+    let p : x ≡ y = eqb→eq x y (and-0 (eqb x y) (same xs ys) h) in
+    let q : xs ≡ ys = same→eq xs ys (and-1 (eqb x y) (same xs ys) h) in
+    cc
+
+pub same-refl : (s : List ℕ) → T (same s s)
+unfolding same
+same-refl [] = tt
+same-refl (x ∷ s) = and-T (eqb x x) (same s s) (eqb-refl x) (same-refl s)
+
+-- a test at each number from a on, n of them
+abbrev pub everyFrom : (ℕ → Bool) → ℕ → ℕ → Bool
+everyFrom p a zero = true
+everyFrom p a (suc n) = p a && everyFrom p (suc a) n
+
+pub every-at : (p : ℕ → Bool) (a n : ℕ) → T (everyFrom p a n) → (k : ℕ) → a ≤ k → k < a + n → T (p k)
+every-at p a zero h k l m = absurd (omega arith)
+every-at p a (suc n) h k l m = go (eqb a k) refl (λ q. every-at p (suc a) n (and-1 (p a) (everyFrom p (suc a) n) h) k q (omega arith))
+  where
+    go : (b : Bool) → eqb a k ≡ b → (suc a ≤ k → T (p k)) → T (p k)
+    go true e rest = subst (λ (x : ℕ). T (p x)) (eqb→eq a k (true→T e)) (and-0 (p a) (everyFrom p (suc a) n) h)
+    go false e rest =
+        let far : a ≢ k = λ q. subst T e (subst (λ (x : ℕ). T (eqb a x)) q (eqb-refl a)) in
+        rest (omega arith)

@@ -1,0 +1,1 @@
+// No code: `specs/` has the types of document 01's trees and readings.
