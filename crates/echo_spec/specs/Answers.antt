@@ -1,0 +1,66 @@
+-- What the two entry points answer to every input: a number, a length or count, and the whole output.
+use Prim.Native.Nat.{ℕ, zero, suc}
+use mathlib.Core.List.{List, [], _∷_, _++_}
+use mathlib.Core.Bool.{Bool, true, false}
+use lib.Dec.{leb, eqb}
+use lib.ListN.{length, drop, replicate}
+use Rattle.echo_spec.specs.Refusals.{unless, _orElse_}
+use Rattle.echo_spec.specs.Input.{Problem, nodesWithin, withinLimits, nodesOf, encoded, Query, queryOf}
+use Rattle.echo_spec.specs.Widths.{ext-wf}
+use Rattle.echo_spec.specs.Trees.{readingOf}
+use Rattle.echo_spec.specs.Walk.{refusal}
+use Rattle.echo_spec.specs.Render.{render}
+
+-- number 0 is an acceptance
+pub record Answer : Type 0 where
+  pub number : ℕ
+  pub count : ℕ
+  pub output : List ℕ
+
+-- the result at the front of what was lent, the rest of it unchanged
+abbrev pub written : List ℕ → List ℕ → List ℕ
+written result lent = result ++ drop (length result) lent
+
+abbrev pub zeroed : List ℕ → List ℕ
+zeroed lent = replicate (length lent) 0
+
+-- ---------------------------------------------------------------- the width pass
+
+-- ws are the widths of the nodes before the first that is not well formed; `room` is the length of the lent slice
+unfoldable pub widthRefusal : List ℕ → List ℕ → List ℕ → List ℕ → ℕ → ℕ
+widthRefusal nodes bits side ws room =
+    unless (nodesWithin nodes bits side) 9
+    orElse unless (encoded nodes bits) 8
+    orElse unless (eqb (length ws) (length (nodesOf nodes))) 1
+    orElse unless (leb (length ws) room) 10
+
+-- with 1 goes the number of the node refused
+unfoldable pub widthAnswer : ℕ → List ℕ → List ℕ → Answer
+widthAnswer zero ws lent = record { number = 0; count = length ws; output = written ws lent }
+widthAnswer (suc zero) ws lent = record { number = 1; count = length ws; output = zeroed lent }
+widthAnswer (suc (suc n)) ws lent = record { number = suc (suc n); count = 0; output = zeroed lent }
+
+unfoldable pub ext-wf-answer : List ℕ → List ℕ → List ℕ → List ℕ → Answer
+ext-wf-answer nodes bits side lent =
+    let ws : List ℕ = ext-wf (length bits) side (nodesOf nodes) in
+    widthAnswer (widthRefusal nodes bits side ws (length lent)) ws lent
+
+-- ---------------------------------------------------------------- the printer
+
+unfoldable pub script : Query → List ℕ
+script q = render (readingOf q (ext-wf (length (q .bits)) (q .dag .side) (q .dag .nodes)))
+
+-- ("room" is document 01's term: the length of the lent buffer)
+unfoldable pub echoRefusal : Problem → ℕ → ℕ
+echoRefusal p room =
+    unless (withinLimits p) 9
+    orElse unless (encoded (p .nodes) (p .bits)) 8
+    orElse refusal (queryOf p .dag) (length (p .bits)) (p .roots)
+    orElse unless (leb (length (script (queryOf p))) room) 10
+
+unfoldable pub echoAnswer : ℕ → List ℕ → List ℕ → Answer
+echoAnswer zero result lent = record { number = 0; count = length result; output = written result lent }
+echoAnswer (suc n) result lent = record { number = suc n; count = 0; output = zeroed lent }
+
+unfoldable pub echo-ext-answer : Problem → List ℕ → Answer
+echo-ext-answer p lent = echoAnswer (echoRefusal p (length lent)) (script (queryOf p)) lent

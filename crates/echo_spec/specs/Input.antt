@@ -1,0 +1,138 @@
+-- What is lent to the printer, its limits, and the query that it encodes.
+use Prim.Native.Nat.{ℕ, zero, suc, _+_, _*_, _/_, _%_}
+use mathlib.Core.List.{List, [], _∷_}
+use mathlib.Core.Bool.{Bool, true, false, _&&_, _||_, not}
+use lib.Dec.{leb, ltb, eqb}
+use lib.ListN.{length, take, drop, getD}
+use Rattle.lists.specs.Tests.{every}
+use Rattle.lists.specs.Build.{tabulate}
+use Rattle.reading.specs.Trees.{Name}
+use Rattle.echo_spec.specs.Shapes.{Shape, unknown, shapes, shapeOf, operandCount}
+
+-- ---------------------------------------------------------------- what is lent
+
+-- the sixteen inputs of `echo_ext`, in the Rust's order
+pub record Problem : Type 0 where
+  pub nodes : List ℕ
+  pub bits : List ℕ
+  pub side : List ℕ
+  pub roots : List ℕ
+  pub names : List ℕ
+  pub name-start : List ℕ
+  pub name-len : List ℕ
+  pub var-node : List ℕ
+  pub var-width : List ℕ
+  pub anames : List ℕ
+  pub aname-start : List ℕ
+  pub aname-len : List ℕ
+  pub fnames : List ℕ
+  pub fname-start : List ℕ
+  pub fname-len : List ℕ
+  pub func-width : List ℕ
+
+-- ---------------------------------------------------------------- 9: limits
+
+unfoldable pub nodesWithin : List ℕ → List ℕ → List ℕ → Bool
+nodesWithin nodes bits side = leb (length nodes) 34816 && (leb (length bits) 131072 && leb (length side) 8192)
+
+unfoldable pub columnWithin : List ℕ → Bool
+columnWithin c = leb (length c) 512
+
+unfoldable pub arenaWithin : List ℕ → Bool
+arenaWithin a = leb (length a) 16384
+
+unfoldable pub withinLimits : Problem → Bool
+withinLimits p =
+    nodesWithin (p .nodes) (p .bits) (p .side)
+    && (leb (length (p .roots)) 256
+    && (every columnWithin (p .name-start ∷ p .name-len ∷ p .var-node ∷ p .var-width ∷ p .aname-start ∷ p .aname-len ∷ p .fname-start ∷ p .fname-len ∷ p .func-width ∷ [])
+    && every arenaWithin (p .names ∷ p .anames ∷ p .fnames ∷ [])))
+
+-- ---------------------------------------------------------------- node records
+
+pub record Node : Type 0 where
+  pub kind : ℕ
+  pub a : ℕ
+  pub b : ℕ
+  pub c : ℕ
+  pub d : ℕ
+
+abbrev pub shape : Node → Shape
+shape n = shapeOf (n .kind)
+
+-- what stands past the last node
+abbrev pub no-node : Node
+no-node = record { kind = 255; a = 0; b = 0; c = 0; d = 0 }
+
+-- 32 bits from place i on, least significant byte first
+unfoldable pub word32 : List ℕ → ℕ → ℕ
+word32 s i = getD s i 0 + 256 * getD s (i + 1) 0 + 65536 * getD s (i + 2) 0 + 16777216 * getD s (i + 3) 0
+
+-- record i, of 17 bytes
+unfoldable pub nodeAt : List ℕ → ℕ → Node
+nodeAt s i = record {
+  kind = getD s (17 * i) 0;
+  a = word32 s (17 * i + 1);
+  b = word32 s (17 * i + 5);
+  c = word32 s (17 * i + 9);
+  d = word32 s (17 * i + 13);
+}
+
+unfoldable pub nodesOf : List ℕ → List Node
+nodesOf s = tabulate (length s / 17) (nodeAt s)
+
+-- ---------------------------------------------------------------- 8: encoding
+
+-- the kind is known and the operands that it does not have are 0
+unfoldable pub nodeEncoded : Node → Bool
+nodeEncoded n = ltb (n .kind) 39 && every (λ x. eqb x 0) (drop (operandCount (shape n)) (n .a ∷ n .b ∷ n .c ∷ n .d ∷ []))
+
+unfoldable pub encoded : List ℕ → List ℕ → Bool
+encoded nodes bits = eqb (length nodes % 17) 0 && (every nodeEncoded (nodesOf nodes) && every (λ b. leb b 1) bits)
+
+-- ---------------------------------------------------------------- the query
+
+-- entry's part of its arena; none of it where it does not lie inside
+unfoldable pub part : List ℕ → ℕ → ℕ → Name
+part arena start len = elim (leb (start + len) (length arena)) [ true ↦ take len (drop start arena) | false ↦ [] ]
+
+unfoldable pub namesOf : List ℕ → List ℕ → List ℕ → List Name
+namesOf arena starts lens = tabulate (length starts) (λ k. part arena (getD starts k 0) (getD lens k 0))
+
+-- the nodes with the side entries and the three tables; `columns` has the lengths of each table's columns
+pub record Dag : Type 0 where
+  pub nodes : List Node
+  pub side : List ℕ
+  pub names : List Name
+  pub var-node : List ℕ
+  pub var-width : List ℕ
+  pub anames : List Name
+  pub fnames : List Name
+  pub func-width : List ℕ
+  pub columns : List (List ℕ)
+
+-- no limit on anything: not on a length and not on a number
+pub record Query : Type 0 where
+  pub dag : Dag
+  pub bits : List ℕ
+  pub roots : List ℕ
+
+unfoldable pub dagOf : Problem → Dag
+dagOf p = record {
+  nodes = nodesOf (p .nodes);
+  side = p .side;
+  names = namesOf (p .names) (p .name-start) (p .name-len);
+  var-node = p .var-node;
+  var-width = p .var-width;
+  anames = namesOf (p .anames) (p .aname-start) (p .aname-len);
+  fnames = namesOf (p .fnames) (p .fname-start) (p .fname-len);
+  func-width = p .func-width;
+  columns =
+      (length (p .name-start) ∷ length (p .name-len) ∷ length (p .var-node) ∷ length (p .var-width) ∷ [])
+      ∷ (length (p .aname-start) ∷ length (p .aname-len) ∷ [])
+      ∷ (length (p .fname-start) ∷ length (p .fname-len) ∷ length (p .func-width) ∷ [])
+      ∷ [];
+}
+
+abbrev pub queryOf : Problem → Query
+queryOf p = record { dag = dagOf p; bits = p .bits; roots = p .roots }

@@ -1,0 +1,12 @@
+pub mod Refusals
+pub mod Shapes
+pub mod Input
+pub mod Widths
+pub mod Names
+pub mod Sharing
+pub mod Tables
+pub mod Trees
+pub mod Walk
+pub mod Render
+pub mod Answers
+pub mod Examples

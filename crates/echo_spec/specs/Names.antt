@@ -1,0 +1,51 @@
+-- Names: which a table may declare.
+use Prim.Native.Nat.{ℕ, zero, suc}
+use Prim.Native.String.{String}
+use mathlib.Core.List.{List, [], _∷_, _++_, map}
+use mathlib.Core.Bool.{Bool, true, false, _&&_, not}
+use lib.Dec.{leb, eqb}
+use Rattle.lists.specs.Bytes.{bytes}
+use Rattle.lists.specs.Tests.{every, inList}
+use Rattle.reading.specs.Trees.{Name}
+use Rattle.echo_spec.specs.Input.{Dag}
+
+-- `byte_ok`: from 32 to 126, no bar and no backslash
+unfoldable pub byteOk : ℕ → Bool
+byteOk c = leb 32 c && (leb c 126 && (not (eqb c 124) && not (eqb c 92)))
+
+-- `first_ok`: there is a first byte, and it is no @ and no full stop
+unfoldable pub firstOk : Name → Bool
+firstOk [] = false
+firstOk (c ∷ s) = not (eqb c 64) && not (eqb c 46)
+
+-- the 112 words of `reserved_0` to `reserved_4`, in that order
+unfoldable pub reservedWords : List String
+reservedWords =
+    "!" ∷ "_" ∷ "as" ∷ "BINARY" ∷ "DECIMAL" ∷ "exists" ∷ "HEXADECIMAL" ∷ "forall" ∷ "let" ∷ "match" ∷ "NUMERAL" ∷ "par" ∷ "STRING" ∷ "assert"
+    ∷ "check-sat" ∷ "check-sat-assuming" ∷ "declare-const" ∷ "declare-datatype" ∷ "declare-datatypes" ∷ "declare-fun" ∷ "declare-sort"
+    ∷ "define-fun" ∷ "define-fun-rec" ∷ "define-funs-rec"
+    ∷ "define-sort" ∷ "echo" ∷ "exit" ∷ "get-assertions" ∷ "get-assignment" ∷ "get-info" ∷ "get-model" ∷ "get-option" ∷ "get-proof"
+    ∷ "get-unsat-assumptions" ∷ "get-unsat-core" ∷ "get-value" ∷ "pop" ∷ "push" ∷ "reset" ∷ "reset-assertions" ∷ "set-info" ∷ "set-logic"
+    ∷ "set-option"
+    ∷ "Bool" ∷ "true" ∷ "false" ∷ "not" ∷ "=>" ∷ "and" ∷ "or" ∷ "xor" ∷ "=" ∷ "distinct" ∷ "ite" ∷ "QF_BV" ∷ "QF_ABV" ∷ "QF_AUFBV" ∷ "Array"
+    ∷ "select" ∷ "store" ∷ "BitVec" ∷ "concat" ∷ "extract" ∷ "repeat" ∷ "zero_extend" ∷ "sign_extend" ∷ "rotate_left" ∷ "rotate_right"
+    ∷ "bvnot" ∷ "bvneg" ∷ "bvand" ∷ "bvor" ∷ "bvxor" ∷ "bvnand" ∷ "bvnor" ∷ "bvxnor" ∷ "bvcomp" ∷ "bvadd" ∷ "bvsub" ∷ "bvmul" ∷ "bvudiv"
+    ∷ "bvurem" ∷ "bvsdiv" ∷ "bvsrem" ∷ "bvsmod" ∷ "bvshl" ∷ "bvlshr" ∷ "bvashr" ∷ "bvult" ∷ "bvule" ∷ "bvugt" ∷ "bvuge" ∷ "bvslt" ∷ "bvsle"
+    ∷ "bvsgt" ∷ "bvsge"
+    ∷ "bvnego" ∷ "bvuaddo" ∷ "bvsaddo" ∷ "bvumulo" ∷ "bvsmulo" ∷ "bvusubo" ∷ "bvssubo" ∷ "bvsdivo" ∷ "lambda" ∷ "define-const" ∷ "bvredor"
+    ∷ "bvredand" ∷ "bv2int" ∷ "int2bv" ∷ "bv2nat" ∷ "nat2bv" ∷ []
+
+unfoldable pub reserved : List Name
+reserved = map bytes reservedWords
+
+-- `entry_ok`: a name by itself, and after the names before it
+unfoldable pub entry-ok : List Name → Name → Bool
+entry-ok before n = every byteOk n && (firstOk n && (not (inList n reserved) && not (inList n before)))
+
+-- `table_ok`: each name of a table, after the names of the tables before it and those before it in its own
+unfoldable pub table-ok : List Name → List Name → Bool
+table-ok before [] = true
+table-ok before (n ∷ ns) = entry-ok before n && table-ok (before ++ (n ∷ [])) ns
+
+unfoldable pub namesOk : Dag → Bool
+namesOk d = table-ok [] (d .names) && (table-ok (d .names) (d .anames) && table-ok (d .names ++ d .anames) (d .fnames))
