@@ -5,7 +5,7 @@ use mathlib.Core.List.{List, [], _∷_, _++_}
 use mathlib.Core.Bool.{Bool, true, false, _&&_, _||_, not}
 use mathlib.Core.Logic.{_≢_}
 use native.Mathlib.Omega.{arith}
-use lib.Dec.{T, leb, ltb, eqb, eqb→eq, eqb-refl, leb→le, ltb→lt}
+use lib.Dec.{T, leb, ltb, eqb, eqb→eq, eqb-refl, leb→le, ltb→lt, T-not, not-T}
 
 -- ---------------------------------------------------------------- definitions
 
@@ -69,6 +69,10 @@ T→true false h = absurd h
 pub true→T : {b : Bool} → b ≡ true → T b
 true→T e = subst T (sym e) tt
 
+pub not→false : (b : Bool) → T (not b) → b ≡ false
+not→false true h = absurd h
+not→false false h = refl
+
 -- for a list that is written out: `by-test p xs tt`
 pub by-test : {A : Type 0} (p : A → Bool) (xs : List A) → T (every p xs) → All p xs
 by-test p [] h = tt
@@ -77,6 +81,27 @@ by-test p (x ∷ xs) h = (and-0 (p x) (every p xs) h, by-test p xs (and-1 (p x) 
 pub all-append : {A : Type 0} (p : A → Bool) (xs ys : List A) → All p xs → All p ys → All p (xs ++ ys)
 all-append p [] ys h k = k
 all-append p (x ∷ xs) ys h k = (h .0, all-append p xs ys (h .1) k)
+
+pub all-weaken : {A : Type 0} (p q : A → Bool) → ((x : A) → T (p x) → T (q x)) → (xs : List A) → All p xs → All q xs
+all-weaken p q f [] h = tt
+all-weaken p q f (x ∷ xs) h = (f x (h .0), all-weaken p q f xs (h .1))
+
+pub all-right : {A : Type 0} (p : A → Bool) (xs ys : List A) → All p (xs ++ ys) → All p ys
+all-right p [] ys h = h
+all-right p (x ∷ xs) ys h = all-right p xs ys (h .1)
+
+-- for numbers that are written out: `among-every q s tt`
+pub among-every : (q : ℕ → Bool) (s : List ℕ) → T (every q s) → (c : ℕ) → T (among s c) → T (q c)
+among-every q [] t c h = absurd h
+among-every q (x ∷ s) t c h = by-first (eqb c x) refl h (λ k. among-every q s (and-1 (q x) (every q s) t) c k)
+  where
+    by-first : (b : Bool) → eqb c x ≡ b → T (b || among s c) → (T (among s c) → T (q c)) → T (q c)
+    by-first true e h later = subst (λ (z : ℕ). T (q z)) (sym (eqb→eq c x (true→T e))) (and-0 (q x) (every q s) t)
+    by-first false e h later = later h
+
+-- what passes a test that x fails is not x
+pub apart-by : (p : ℕ → Bool) (x : ℕ) → T (not (p x)) → (c : ℕ) → T (p c) → T (not (eqb c x))
+apart-by p x t c h = not-T (eqb c x) λ k. T-not (p x) t (subst (λ (z : ℕ). T (p z)) (eqb→eq c x k) h)
 
 pub same→eq : (s t : List ℕ) → T (same s t) → s ≡ t
 unfolding same

@@ -1,2 +1,5 @@
 pub mod Lexicon
 pub mod Grammar
+pub mod LexUnique
+pub mod GrammarUnique
+pub mod LexText
