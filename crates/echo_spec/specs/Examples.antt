@@ -8,7 +8,7 @@ use mathlib.Core.Bool.{Bool, true, false, _&&_, not}
 use lib.Dec.{T, eqb}
 use lib.ListN.{length, replicate}
 use Rattle.lists.specs.Bytes.{bytes}
-use Rattle.lists.specs.Tests.{same, every, inList}
+use Rattle.lists.specs.Tests.{same, every, distinct}
 use Rattle.lists.specs.Build.{findFrom, upto}
 use Rattle.reading.specs.Kinds.{
   Var,
@@ -359,10 +359,6 @@ marked-cases = tt
 pub further-cases : T (allMeet furtherCases)
 unfolding allMeet furtherCases
 further-cases = tt
-
-abbrev distinct : List (List ℕ) → Bool
-distinct [] = true
-distinct (n ∷ ns) = not (inList n ns) && distinct ns
 
 -- the reserved words are 112, and no two of them are equal
 pub reserved-words : T (eqb (length reserved) 112 && distinct reserved)

@@ -1,3 +1,4 @@
 pub mod Bytes
 pub mod Tests
 pub mod Build
+pub mod Member

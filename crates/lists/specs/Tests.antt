@@ -132,3 +132,46 @@ every-at p a (suc n) h k l m = go (eqb a k) refl (λ q. every-at p (suc a) n (an
     go false e rest =
         let far : a ≢ k = λ q. subst T e (subst (λ (x : ℕ). T (eqb a x)) q (eqb-refl a)) in
         rest (omega arith)
+
+-- ---------------------------------------------------------------- names that are apart
+
+-- is no list among those after it
+abbrev pub distinct : List (List ℕ) → Bool
+distinct [] = true
+distinct (n ∷ ns) = not (inList n ns) && distinct ns
+
+pub no→false : (b : Bool) → (T b → ⊥) → b ≡ false
+no→false true h = absurd (h tt)
+no→false false h = refl
+
+-- case analysis on a passed disjunction
+pub or-elim : {C : Type 0} (a b : Bool) → T (a || b) → (T a → C) → (T b → C) → C
+or-elim true b h f g = f tt
+or-elim false b h f g = g h
+
+pub in-left : (n : List ℕ) (a b : List (List ℕ)) → T (inList n a) → T (inList n (a ++ b))
+in-left n [] b h = absurd h
+in-left n (m ∷ a) b h = or-elim (same n m) (inList n a) h (or-l (same n m) (inList n (a ++ b))) (λ k. or-r (same n m) (inList n (a ++ b)) (in-left n a b k))
+
+pub in-right : (n : List ℕ) (a b : List (List ℕ)) → T (inList n b) → T (inList n (a ++ b))
+in-right n [] b h = h
+in-right n (m ∷ a) b h = or-r (same n m) (inList n (a ++ b)) (in-right n a b h)
+
+pub distinct-right : (a b : List (List ℕ)) → T (distinct (a ++ b)) → T (distinct b)
+distinct-right [] b h = h
+distinct-right (m ∷ a) b h = distinct-right a b (and-1 (not (inList m (a ++ b))) (distinct (a ++ b)) h)
+
+-- of distinct lists, none is in both parts
+pub distinct-apart : (a b : List (List ℕ)) (n : List ℕ) → T (distinct (a ++ b)) → T (inList n a) → T (inList n b) → ⊥
+distinct-apart [] b n h k l = k
+distinct-apart (m ∷ a) b n h k l =
+    or-elim (same n m) (inList n a) k
+    (λ e. T-not (inList m (a ++ b)) (and-0 (not (inList m (a ++ b))) (distinct (a ++ b)) h) (in-right m a b (subst (λ (x : List ℕ). T (inList x b)) (same→eq n m e) l)))
+    (λ q. distinct-apart a b n (and-1 (not (inList m (a ++ b))) (distinct (a ++ b)) h) q l)
+
+pub every-in : (p : List ℕ → Bool) (ns : List (List ℕ)) (n : List ℕ) → T (every p ns) → T (inList n ns) → T (p n)
+every-in p [] n h k = absurd k
+every-in p (m ∷ ns) n h k =
+    or-elim (same n m) (inList n ns) k
+    (λ e. subst (λ (x : List ℕ). T (p x)) (sym (same→eq n m e)) (and-0 (p m) (every p ns) h))
+    (λ q. every-in p ns n (and-1 (p m) (every p ns) h) q)

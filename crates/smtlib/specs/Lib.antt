@@ -1,5 +1,9 @@
 pub mod Lexicon
 pub mod Grammar
+pub mod Readings
+pub mod Sorts
 pub mod LexUnique
 pub mod GrammarUnique
 pub mod LexText
+pub mod ReadExamples
+pub mod ReadsUnique

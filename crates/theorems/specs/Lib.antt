@@ -1,0 +1,4 @@
+pub mod Terms
+pub mod Meanings
+pub mod Texts
+pub mod Sorting
