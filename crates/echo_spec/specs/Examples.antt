@@ -140,35 +140,35 @@ use Rattle.echo_spec.specs.Answers.{Answer, widthRefusal, widthAnswer, e
 -- ---------------------------------------------------------------- problems, written shortly
 
 -- 32 bits, least significant byte first
-abbrev le32 : ℕ → List ℕ
+abbrev pub le32 : ℕ → List ℕ
 le32 n = n % 256 ∷ n / 256 % 256 ∷ n / 65536 % 256 ∷ n / 16777216 ∷ []
 
-abbrev node : ℕ → ℕ → ℕ → ℕ → ℕ → List ℕ
+abbrev pub node : ℕ → ℕ → ℕ → ℕ → ℕ → List ℕ
 node k a b c d = k ∷ (le32 a ++ (le32 b ++ (le32 c ++ le32 d)))
 
-abbrev joined : List (List ℕ) → List ℕ
+abbrev pub joined : List (List ℕ) → List ℕ
 joined [] = []
 joined (x ∷ xs) = x ++ joined xs
 
 -- where each name starts in an arena of names end to end
-abbrev startsFrom : ℕ → List String → List ℕ
+abbrev pub startsFrom : ℕ → List String → List ℕ
 startsFrom k [] = []
 startsFrom k (n ∷ ns) = k ∷ startsFrom (k + length (bytes n)) ns
 
-record Named : Type 0 where
-  name : String
-  node : ℕ
-  width : ℕ
+pub record Named : Type 0 where
+  pub name : String
+  pub node : ℕ
+  pub width : ℕ
 
-abbrev var : String → ℕ → ℕ → Named
+abbrev pub var : String → ℕ → ℕ → Named
 var n i w = record { name = n; node = i; width = w }
 
 -- a function has no node
-abbrev fun : String → ℕ → Named
+abbrev pub fun : String → ℕ → Named
 fun n w = record { name = n; node = 0; width = w }
 
 -- nodes, bits, side entries, roots, variables, arrays, functions
-abbrev problem : List (List ℕ) → List ℕ → List ℕ → List ℕ → List Named → List String → List Named → Problem
+abbrev pub problem : List (List ℕ) → List ℕ → List ℕ → List ℕ → List Named → List String → List Named → Problem
 problem nodes bits side roots vars arrays funs = record {
   nodes = joined nodes;
   bits = bits;
@@ -195,7 +195,7 @@ pub record Case : Type 0 where
   pub wanted : Answer
 
 -- so many lent elements, each 170
-abbrev lent : ℕ → List ℕ
+abbrev pub lent : ℕ → List ℕ
 lent room = replicate room 170
 
 abbrev refused : ℕ → ℕ → Answer
@@ -218,7 +218,7 @@ meets c =
 abbrev five : List ℕ
 five = 1 ∷ 0 ∷ 1 ∷ 0 ∷ 0 ∷ 0 ∷ 0 ∷ 0 ∷ []
 
-abbrev eleven : List ℕ
+abbrev pub eleven : List ℕ
 eleven = 1 ∷ 1 ∷ 0 ∷ 1 ∷ 0 ∷ 0 ∷ 0 ∷ 0 ∷ []
 
 abbrev m1 : Problem
@@ -340,7 +340,7 @@ furtherCases =
 -- ---------------------------------------------------------------- the theorems
 
 -- (whoever unfolds this unfolds the definitions named under it)
-pub allMeet : List Case → Bool
+unfoldable pub allMeet : List Case → Bool
 unfolding
     bytes same findFrom upto shapes operandCount isBool isLeaf nodesWithin columnWithin arenaWithin withinLimits word32 nodeAt nodesOf nodeEncoded
     encoded part namesOf dagOf indexWidth valueWidth un-wf bin-wf bool-bin-wf extend-wf chain-wf args-wf wfAs node-wf widthAs node-width ext-wf-from

@@ -10,3 +10,6 @@ pub mod Walk
 pub mod Render
 pub mod Answers
 pub mod Examples
+pub mod Accepted
+pub mod WidthLaws
+pub mod NameLaws

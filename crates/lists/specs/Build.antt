@@ -49,3 +49,21 @@ upto-below {A} step d (suc n) j h = go (eqb j n) refl (λ l. upto-below step d n
     go false e rest =
         let far : j ≢ n = λ q. subst T e (subst (λ (x : ℕ). T (eqb j x)) q (eqb-refl j)) in
         rw (e, upto) (rest (omega arith))
+
+-- the place found is one of the list's
+pub find-bound : {A : Type 0} (p : A → Bool) (k : ℕ) (xs : List A) (j : ℕ) → findFrom p k xs ≡ some j → (k ≤ j) × (j < k + length xs)
+unfolding findFrom
+find-bound p k [] j e = absurd (let z : _≡_ {A = ℕ} 0 1 = cc in omega arith)
+find-bound {A} p k (x ∷ xs) j e = by-first (p x) refl e (λ q. find-bound p (suc k) xs j q)
+  where
+    by-first : (b : Bool) → p x ≡ b → findFrom p k (x ∷ xs) ≡ some j → (findFrom p (suc k) xs ≡ some j → (suc k ≤ j) × (j < suc k + length xs))
+        → (k ≤ j) × (j < k + suc (length xs))
+    by-first true q e rest =
+        let e′ : some k ≡ some j = rw (q, findFrom) at e in
+        let f : k ≡ j = cc in
+        (omega arith, omega arith)
+    by-first false q e rest =
+        let r = rest (rw (q, findFrom) at e) in
+        let l : suc k ≤ j = r .0 in
+        let m : j < suc k + length xs = r .1 in
+        (omega arith, omega arith)

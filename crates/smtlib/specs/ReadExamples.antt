@@ -21,7 +21,7 @@ use Rattle.smtlib.specs.Grammar.{sortTokens, sortsTokens, assertionsToke
 use Rattle.smtlib.specs.Readings.{Row, operators, listed, rowNames, aTree, anArray, asMeanings, Names, isVariable, isArray, isConstant}
 use Rattle.smtlib.specs.Readings.{Applies, isCall, isSelect, isStore, isOperator, Means, MeansAll, ScriptMeans, Reads}
 use Rattle.smtlib.specs.Sorts.{TermSort, sameSort, sameSorts, bool, bits, bitsArray, rankAmong, Instance, instanceOf, ranks, resultOf, rank}
-use Rattle.smtlib.specs.Sorts.{sortApplied, sortOf, nameOf, theorySymbols, free, sensibleDeclaration, logics, admits, WellSorted}
+use Rattle.smtlib.specs.Sorts.{bothSorts, sortOver, sortApplied, sortOf, nameOf, theorySymbols, free, sensibleDeclaration, logics, admits, WellSorted}
 
 -- ---------------------------------------------------------------- text of tokens, a blank before each
 
@@ -491,7 +491,7 @@ sortedScript =
     selected = term₂ "select" (application (plain (bytes "store")) (name "a") (moreTerms (name "i") (moreTerms (name "x") noTerms))) (name "i")
 
 sorted-script : WellSorted sortedScript
-unfolding sortedScript sortOf sortApplied rank ranks resultOf sameSorts sameSort theorySymbols logics bytes same
+unfolding sortedScript sortOf bothSorts sortOver sortApplied rank ranks resultOf sameSorts sameSort theorySymbols logics bytes same
 sorted-script =
     record {
       logicKnown = tt;

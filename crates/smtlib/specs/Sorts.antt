@@ -69,6 +69,7 @@ pub data Rank : Type 0 where
   negation connective equality choice : Rank
   concatenation extraction unary binary comparison extension rotation : Rank
   selection storing : Rank
+  deriving Discrete as Rank-discrete
 
 -- the symbols of one form
 pub record Ranked : Type 0 where
@@ -190,18 +191,28 @@ unfoldable pub sortApplied : List Declaration → Operator → List TermSort →
 sortApplied ds (plain n) us = elim (declarationOf ds n) [ none ↦ rank n [] us | some d ↦ sortUnder d us ]
 sortApplied ds (indexed n k ks) us = rank n (k ∷ ks) us
 
+-- the sorts of operands: there are some only if each operand has one
+unfoldable pub bothSorts : Option TermSort → Option (List TermSort) → Option (List TermSort)
+bothSorts none us = none
+bothSorts (some u) none = none
+bothSorts (some u) (some us) = some (u ∷ us)
+
+-- the sort of an operator over operands that have sorts
+unfoldable pub sortOver : List Declaration → Operator → Option (List TermSort) → Option TermSort
+sortOver ds o none = none
+sortOver ds o (some us) = sortApplied ds o us
+
 -- the sort of a term
 unfoldable mutual
   pub sortOf : List Declaration → Term → Option TermSort
   sortOf ds (literal cs) = cond (ltb 0 (length cs)) (some (bits (length cs))) none
   sortOf ds (identifier n) = sortApplied ds (plain n) []
-  sortOf ds (application o t ts) =
-      elim (sortOf ds t) [ none ↦ none | some u ↦ elim (sortsOf ds ts) [ none ↦ none | some us ↦ sortApplied ds o (u ∷ us) ] ]
+  sortOf ds (application o t ts) = sortOver ds o (bothSorts (sortOf ds t) (sortsOf ds ts))
 
   -- term by term
   pub sortsOf : List Declaration → Terms → Option (List TermSort)
   sortsOf ds noTerms = some []
-  sortsOf ds (moreTerms t ts) = elim (sortOf ds t) [ none ↦ none | some u ↦ elim (sortsOf ds ts) [ none ↦ none | some us ↦ some (u ∷ us) ] ]
+  sortsOf ds (moreTerms t ts) = bothSorts (sortOf ds t) (sortsOf ds ts)
 
 -- every term is of sort Bool
 abbrev pub AllBool : List Declaration → Terms → Type 0

@@ -2,3 +2,8 @@ pub mod Terms
 pub mod Meanings
 pub mod Texts
 pub mod Sorting
+pub mod Tables
+pub mod Fitting
+pub mod Scripts
+pub mod Printed
+pub mod Answered

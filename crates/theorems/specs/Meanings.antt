@@ -11,8 +11,28 @@ use Rattle.lists.specs.Member.{Member}
 use Rattle.reading.specs.Trees.{Name, Tree, variable, constant, apply, select, call, Trees, none, more, Stores, base, store, Variable, Array, Function, Declarations}
 use Rattle.smtlib.specs.Grammar.{Operator, plain, indexed, Terms, none as noTerms, more as moreTerms}
 use Rattle.smtlib.specs.Readings.{
-  operators, listed, arrayNames, functionNames, Meaning, aTree, anArray, asMeanings, bitsOf, symbolOf, numeralsOf, Names, isVariable, isArray,
-  isConstant, Applies, isCall, isSelect, isStore, isOperator, Means, MeansAll,
+  operators,
+  listed,
+  arrayNames,
+  functionNames,
+  Meaning,
+  aTree,
+  anArray,
+  asMeanings,
+  bitsOf,
+  symbolOf,
+  numeralsOf,
+  Names,
+  isVariable,
+  isArray,
+  isConstant,
+  Applies,
+  isCall,
+  isSelect,
+  isStore,
+  isOperator,
+  Means,
+  MeansAll,
 }
 use Rattle.smtlib.specs.Sorts.{TermSort, bits}
 use Rattle.echo_spec.specs.Render.{symbolOf as printed, binaryDigits}

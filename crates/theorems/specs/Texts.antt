@@ -14,7 +14,16 @@ use Rattle.lists.specs.Member.{Member}
 use Rattle.reading.specs.Trees.{Name, Tree, variable, constant, apply, select, call, Trees, none, more, Stores, base, store, Variable, Array, Function, Declarations}
 use Rattle.smtlib.specs.Lexicon.{digit, quotable, binaryDigit, Token, open⁽, close⁾, underscore, numeral, binary, symbol, Begins, valueFrom, NoLeadingZero, Numeral, Binary, Lex}
 use Rattle.smtlib.specs.Grammar.{
-  Operator, plain, indexed, numeralsTokens, operatorTokens, Terms, none as noTerms, more as moreTerms, termTokens, termsTokens,
+  Operator,
+  plain,
+  indexed,
+  numeralsTokens,
+  operatorTokens,
+  Terms,
+  none as noTerms,
+  more as moreTerms,
+  termTokens,
+  termsTokens,
 }
 use Rattle.smtlib.specs.LexText.{Next, put-open, put-close, put-space, put-underscore, put-numeral, put-binary, put-quoted, simple-test, put-simple}
 use Rattle.smtlib.specs.Readings.{variableNames, arrayNames, functionNames, declaredNames}
@@ -62,7 +71,7 @@ decimal-digits (suc f) n h = by-size (ltb n 10) refl (λ q. decimal-digits f (n 
         rw (e, decimalDigits) (record {
           all = (digit-of n small, tt);
           value = omega arith;
-          positive = λ p. record { first = not-T (eqb (48 + n) 48) λ q. let z : 48 + n ≡ 48 = eqb→eq (48 + n) 48 q in omega arith }
+          positive = λ p. record { first = not-T (eqb (48 + n) 48) λ q. let z : 48 + n ≡ 48 = eqb→eq (48 + n) 48 q in omega arith };
         })
     by-size false e rest =
         let big : 10 ≤ n = nltb→le n 10 (rw e tt) in
@@ -70,7 +79,7 @@ decimal-digits (suc f) n h = by-size (ltb n 10) refl (λ q. decimal-digits f (n 
         rw (e, decimalDigits) (record {
           all = all-append digit (decimalDigits f (n / 10)) ((48 + n % 10) ∷ []) (known .all) (digit-of (n % 10) (omega arith), tt);
           value = rw (value-snoc, known .value) (omega arith);
-          positive = λ p. positive-snoc (decimalDigits f (n / 10)) (48 + n % 10) (known .positive (omega arith))
+          positive = λ p. positive-snoc (decimalDigits f (n / 10)) (48 + n % 10) (known .positive (omega arith));
         })
 
 pub decimal-numeral : (n : ℕ) → Numeral n (decimal n)
@@ -112,14 +121,14 @@ constant-binary bs l h =
 -- ---------------------------------------------------------------- operators
 
 -- a text after which tokens stand, whatever follows
-abbrev Holds : List ℕ → List Token → Type 0
+abbrev pub Holds : List ℕ → List Token → Type 0
 Holds text tokens = (r : List ℕ) (us : List Token) → Next r us → Lex (text ++ r) (tokens ++ us)
 
 -- the same of a text that begins with white space
 abbrev HoldsNext : List ℕ → List Token → Type 0
 HoldsNext text tokens = (r : List ℕ) (us : List Token) → Next r us → Next (text ++ r) (tokens ++ us)
 
-put-decimal : (n : ℕ) → Holds (decimal n) (numeral n ∷ [])
+pub put-decimal : (n : ℕ) → Holds (decimal n) (numeral n ∷ [])
 put-decimal n r us k = put-numeral n (decimal n) r us (decimal-numeral n) k
 
 pub put-name : (n : Name) → All quotable n → Holds (quoted n) (symbol n ∷ [])

@@ -1,0 +1,98 @@
+-- What the project promises of the printer's answers. A reader who believes the definitions (crate `echo_spec`: what is
+-- printed and what is refused; crate `smtlib`: what bytes mean by the standard) can stop at this page.
+use Prim.Native.Nat.{ℕ, suc, _≤_, _<_}
+use mathlib.Core.Path.{_≡_, refl, ap}
+use mathlib.Core.List.{List, [], _∷_, _++_}
+use mathlib.Core.Logic.{_↔_}
+use lib.Dec.{T}
+use lib.ListN.{length, drop, replicate}
+use Rattle.reading.specs.Trees.{Name, Reading, Declarations, Trees}
+use Rattle.smtlib.specs.Lexicon.{Token, Lex}
+use Rattle.smtlib.specs.Grammar.{Script, scriptTokens}
+use Rattle.smtlib.specs.LexUnique.{lex-unique}
+use Rattle.smtlib.specs.Readings.{operators, Reads}
+use Rattle.smtlib.specs.Sorts.{WellSorted}
+use Rattle.echo_spec.specs.Input.{Problem}
+use Rattle.echo_spec.specs.Render.{symbolOf}
+use Rattle.echo_spec.specs.Answers.{Answer, echo-ext-answer}
+use Rattle.theorems.specs.Scripts.{scriptOf}
+use Rattle.theorems.specs.Printed.{reading}
+use Rattle.theorems.specs.Tables as Tables
+use Rattle.theorems.specs.Answered.{
+  Whole,
+  scriptText,
+  acceptance,
+  refused,
+  number-bound,
+  accepted-whole,
+  room-refusal,
+  script-lexed,
+  script-sorted,
+  script-only,
+  script-reads,
+  script-reads-only,
+  scripts-equal,
+}
+
+-- The printer accepts the problem with this lent buffer.
+abbrev pub Accepts : Problem → List ℕ → Type 0
+Accepts p lent = echo-ext-answer p lent .number ≡ 0
+
+-- ---------------------------------------------------------------- every answer
+
+-- An answer is acceptance or one of the numbers 1 to 10.
+pub listed-number : (p : Problem) (lent : List ℕ) → echo-ext-answer p lent .number ≤ 10
+listed-number = number-bound
+
+-- A refusal has length 0 and a zeroed output.
+pub refusal-zeroes : (p : Problem) (lent : List ℕ) (n : ℕ) → echo-ext-answer p lent .number ≡ suc n
+    → echo-ext-answer p lent ≡ record { number = suc n; count = 0; output = replicate (length lent) 0 }
+refusal-zeroes = refused
+
+-- An acceptance has the script at the front of the output, its length beside it, and the rest of the output as it was.
+pub acceptance-prints : (p : Problem) (lent : List ℕ) → Accepts p lent
+    → echo-ext-answer p lent ≡ record { number = 0; count = length (scriptText p); output = scriptText p ++ drop (length (scriptText p)) lent }
+acceptance-prints = acceptance
+
+-- 10 is answered only, and always, where every other check passes and the script is longer than the buffer.
+pub room-only : (p : Problem) (lent : List ℕ) → (echo-ext-answer p lent .number ≡ 10) ↔ (Whole p × (length lent < length (scriptText p)))
+room-only = room-refusal
+
+-- ---------------------------------------------------------------- each script is well sorted
+
+-- An accepted problem's script holds the tokens of a script, of one alone, that is well sorted by the standard and declares
+-- its symbols first.
+pub well-sorted : (p : Problem) (lent : List ℕ) → Accepts p lent
+    → (s : Script) × Lex (scriptText p) (scriptTokens s) × WellSorted s × ((s′ : Script) → Lex (scriptText p) (scriptTokens s′) → s′ ≡ s)
+well-sorted p lent a =
+    let w = accepted-whole p lent a .0 in
+    (scriptOf (reading p), script-lexed p w, script-sorted p w, script-only p w)
+
+-- Its bytes hold one list of tokens.
+pub one-lexing : (p : Problem) (lent : List ℕ) → Accepts p lent → (ts : List Token) → Lex (scriptText p) ts ↔ (ts ≡ scriptTokens (scriptOf (reading p)))
+one-lexing p lent a ts =
+    let l = script-lexed p (accepted-whole p lent a .0) in
+    (λ h. lex-unique (scriptText p) ts (scriptTokens (scriptOf (reading p))) h l, λ e. rw e l)
+
+-- ---------------------------------------------------------------- each script has one reading: its problem's
+
+pub one-reading : (p : Problem) (lent : List ℕ) → Accepts p lent → (r : Reading) → Reads (scriptText p) r ↔ (r ≡ reading p)
+one-reading p lent a r =
+    let w = accepted-whole p lent a .0 in
+    (script-reads-only p w r, λ e. rw e (script-reads p w))
+
+-- Two accepted problems, whatever buffer each had, have equal scripts exactly when their declarations and their trees are
+-- equal, each in order. (A rotation's amount is in its tree modulo the width.)
+pub equal-scripts : (p p′ : Problem) (lent lent′ : List ℕ) → Accepts p lent → Accepts p′ lent′
+    → (scriptText p ≡ scriptText p′) ↔ ((reading p .declarations ≡ reading p′ .declarations) × (reading p .assertions ≡ reading p′ .assertions))
+equal-scripts p p′ lent lent′ a a′ =
+    let e = scripts-equal p p′ (accepted-whole p lent a .0) (accepted-whole p′ lent′ a′ .0) in (
+      λ q. let r = e .0 q in (ap (λ (r : Reading). r .declarations) r, ap (λ (r : Reading). r .assertions) r),
+      λ h. e .1 (λ i. record { declarations = h .0 i; assertions = h .1 i }),
+    )
+
+-- ---------------------------------------------------------------- symbols
+
+-- The printer's table from kind to symbol and the standard's table from symbol to kind are inverse.
+pub inverse-tables : (k : ℕ) → 2 ≤ k → k < 37 → (n : Name) → (symbolOf k ≡ n) ↔ T (Tables.names n k operators)
+inverse-tables = Tables.tables-inverse
