@@ -1,0 +1,152 @@
+// Writing into a lent buffer: bytes, words, quoted names, decimal numerals and binary constants (ordeal's "BYTES", `push_*`).
+//
+// Rust's `Vec<u8>` is here a `&mut [u8]` that the caller lends, and the place in it travels by value. A piece that does not fit is
+// written as far as it fits, and its whole length is counted in one step, so no loop runs past the end of the buffer.
+ghost use mathlib.Core.Path.{_≡_};
+ghost use mathlib.Core.List.{[], _∷_, _++_};
+ghost use Prim.Native.Nat.{_-_, _≤_, min};
+ghost use lib.Dec.{T, leb};
+ghost use lib.ListN.{length};
+ghost use lib.Seq.{paste};
+ghost use Rattle.lists.specs.Bytes.{bytes};
+ghost use Rattle.lists.specs.Tests.{every};
+ghost use Rattle.echo_spec.specs.Render.{decimal, binaryDigits, quoted};
+ghost use Rattle.echo_bytes.specs.Page.{page, start, saturated, written};
+
+// Where the next byte goes, and how long all pieces so far are, whether they fitted or not.
+pub struct Place {
+    pub at: usize,
+    pub need: usize,
+}
+
+// The place where nothing is written yet. Ruled out: a place past the first byte; a count that starts at 1.
+pub fn start() -> Place
+    ensures { λ r. ⌜ r ≡ start ⌝ }
+{
+    Place { at: 0, need: 0 }
+}
+
+const LARGEST: usize = 18446744073709551615;
+
+// The sum of two lengths, held at the largest `usize`. Ruled out: a sum that wraps; one that is held before it has to be.
+pub fn more(n: usize, k: usize) -> usize
+    ensures { λ r. ⌜ r ≡ saturated n k ⌝ }
+{
+    if k <= LARGEST - n { n + k } else { LARGEST }
+}
+
+// How many of n bytes fit from `at` on into a buffer of `size` bytes.
+fn fitting(n: usize, size: usize, at: usize) -> usize
+    ensures { λ r. ⌜ r ≡ min n (size - at) ⌝ }
+{
+    if at >= size {
+        return 0;
+    }
+    if n <= size - at { n } else { size - at }
+}
+
+// The first k bytes of w, stored from `at` on (`push_range`).
+fn copy(out: &mut [u8], at: usize, w: &[u8], k: usize)
+    requires { ⌜ (k ≤ length (now w)) × (k ≤ length (now out) - at) ⌝ }
+    ensures { λ _. ⌜ now (out .exit) ≡ paste (now (out .entry)) at (now (w .entry)) k ⌝ }
+{
+    let mut i = 0;
+    while i < k {
+        out[at + i] = w[i];
+        i += 1;
+    }
+}
+
+// The first k digits, stored from `at` on: ds holds them lowest first, and the highest is stored first (`push_rev`, `push_bits`).
+fn copy_digits(out: &mut [u8], at: usize, ds: &[u8], k: usize)
+    requires { ⌜ (k ≤ length (now ds)) × (k ≤ length (now out) - at) × T (every (λ d. leb d 9) (now ds)) ⌝ }
+    ensures { λ _. ⌜ now (out .exit) ≡ paste (now (out .entry)) at (binaryDigits (now (ds .entry))) k ⌝ }
+{
+    let n = ds.len();
+    let mut j = 0;
+    while j < k {
+        let i = n - 1 - j;
+        out[at + j] = 48 + ds[i];
+        j += 1;
+    }
+}
+
+impl Place {
+    // Ruled out: a byte that is counted only where it fits; a place that moves on past the end of the buffer.
+    pub fn byte(mut self, out: &mut [u8], b: u8) -> Place
+        ensures { λ r. ⌜ page r (now (out .exit)) ≡ written (page self (now (out .entry))) (b ∷ []) ⌝ }
+    {
+        let at = self.at;
+        let need = self.need;
+        self.need = more(need, 1);
+        if at < out.len() {
+            out[at] = b;
+            self.at = at + 1;
+        }
+        self
+    }
+
+    // `push_word`
+    pub fn word(mut self, out: &mut [u8], w: &[u8]) -> Place
+        ensures { λ r. ⌜ page r (now (out .exit)) ≡ written (page self (now (out .entry))) (now (w .entry)) ⌝ }
+    {
+        let at = self.at;
+        let need = self.need;
+        let n = w.len();
+        let k = fitting(n, out.len(), at);
+        copy(out, at, w, k);
+        self.at = at + k;
+        self.need = more(need, n);
+        self
+    }
+
+    // `|name|` (`push_name`)
+    pub fn name(self, out: &mut [u8], n: &[u8]) -> Place
+        ensures { λ r. ⌜ page r (now (out .exit)) ≡ written (page self (now (out .entry))) (quoted (now (n .entry))) ⌝ }
+    {
+        let opened = self.byte(out, b'|');
+        let named = opened.word(out, n);
+        named.byte(out, b'|')
+    }
+
+    // Digits that are lent lowest first, written highest first.
+    fn digits(mut self, out: &mut [u8], ds: &[u8]) -> Place
+        requires { ⌜ T (every (λ d. leb d 9) (now ds)) ⌝ }
+        ensures { λ r. ⌜ page r (now (out .exit)) ≡ written (page self (now (out .entry))) (binaryDigits (now (ds .entry))) ⌝ }
+    {
+        let at = self.at;
+        let need = self.need;
+        let len = ds.len();
+        let k = fitting(len, out.len(), at);
+        copy_digits(out, at, ds, k);
+        self.at = at + k;
+        self.need = more(need, len);
+        self
+    }
+
+    // The decimal numeral of n (`push_dec`). Its digits are found lowest first and held in a small buffer: the largest `u64` has 20.
+    pub fn number(self, out: &mut [u8], n: u64) -> Place
+        ensures { λ r. ⌜ page r (now (out .exit)) ≡ written (page self (now (out .entry))) (decimal n) ⌝ }
+    {
+        let mut tmp = [0u8; 20];
+        let mut len: usize = 0;
+        let mut m = n;
+        while m >= 10 {
+            tmp[len] = (m % 10) as u8;
+            len += 1;
+            m = m / 10;
+        }
+        tmp[len] = m as u8;
+        len += 1;
+        self.digits(out, &tmp[..len])
+    }
+
+    // `#b`, then the bits from the highest down, which are lent lowest first (`push_bits`).
+    pub fn constant(self, out: &mut [u8], bits: &[u8]) -> Place
+        requires { ⌜ T (every (λ b. leb b 1) (now bits)) ⌝ }
+        ensures { λ r. ⌜ page r (now (out .exit)) ≡ written (page self (now (out .entry))) (bytes "#b" ++ binaryDigits (now (bits .entry))) ⌝ }
+    {
+        let marked = self.word(out, b"#b");
+        marked.digits(out, bits)
+    }
+}
