@@ -90,6 +90,10 @@ pub all-right : {A : Type 0} (p : A → Bool) (xs ys : List A) → All p (xs ++ 
 all-right p [] ys h = h
 all-right p (x ∷ xs) ys h = all-right p xs ys (h .1)
 
+pub all-left : {A : Type 0} (p : A → Bool) (xs ys : List A) → All p (xs ++ ys) → All p xs
+all-left p [] ys h = tt
+all-left p (x ∷ xs) ys h = (h .0, all-left p xs ys (h .1))
+
 -- for numbers that are written out: `among-every q s tt`
 pub among-every : (q : ℕ → Bool) (s : List ℕ) → T (every q s) → (c : ℕ) → T (among s c) → T (q c)
 among-every q [] t c h = absurd h

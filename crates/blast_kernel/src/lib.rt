@@ -1,0 +1,227 @@
+// Node records: 17 bytes taken apart, the shape of a kind, and the two checks that need no widths (8 and the nodes' part of 9).
+// Under "Ruled out" stand wrong programs that a public function's contract refuses.
+ghost use mathlib.Core.Path.{_≡_};
+ghost use Prim.Native.Nat.{_+_, _*_, _≤_, _<_};
+ghost use lib.ListN.{length};
+ghost use Rattle.lists.specs.Tests.{every};
+ghost use Rattle.echo_spec.specs.Shapes.{shapeOf, operandCount};
+ghost use Rattle.echo_spec.specs.Input as input;
+ghost use Rattle.blast_kernel.specs.Records.{nodeOf, unused, bit};
+ghost use Rattle.blast_kernel.specs.Codes.{codeOf, shapeCoded};
+
+// A record: its kind and its four operands, as wide as the widths and side entries that they are compared with.
+pub struct Node {
+    pub kind: u8,
+    pub a: u64,
+    pub b: u64,
+    pub c: u64,
+    pub d: u64,
+}
+
+fn wide(x: u8) -> u64
+    ensures { λ r. ⌜ (r ≡ x) × (r < 256) ⌝ }
+{
+    x as u64
+}
+
+// 32 bits from place i on, least significant byte first.
+fn word32(s: &[u8], i: usize) -> u64
+    requires { ⌜ i + 4 ≤ length (now s) ⌝ }
+    ensures { λ r. ⌜ r ≡ input.word32 (now (s .entry)) i ⌝ }
+{
+    wide(s[i]) + 256 * wide(s[i + 1]) + 65536 * wide(s[i + 2]) + 16777216 * wide(s[i + 3])
+}
+
+// How many whole records there are. Ruled out: the count of bytes; one record more where bytes are left over.
+pub fn node_count(nodes: &[u8]) -> usize
+    ensures { λ r. ⌜ r ≡ length (input.nodesOf (now (nodes .entry))) ⌝ }
+{
+    nodes.len() / 17
+}
+
+// Record i. Ruled out: the highest byte of an operand first; the record before it.
+pub fn node_at(nodes: &[u8], i: usize) -> Node
+    requires { ⌜ 17 * i + 17 ≤ length (now nodes) ⌝ }
+    ensures { λ r. ⌜ nodeOf r ≡ input.nodeAt (now (nodes .entry)) i ⌝ }
+{
+    let at = 17 * i;
+    Node {
+        kind: nodes[at],
+        a: word32(nodes, at + 1),
+        b: word32(nodes, at + 5),
+        c: word32(nodes, at + 9),
+        d: word32(nodes, at + 13),
+    }
+}
+
+// The codes of the shapes, in the order of the definition `Shape`.
+pub const VAR: u8 = 0;
+
+pub const CONST: u8 = 1;
+
+pub const BINARY: u8 = 2;
+
+pub const ROTATION: u8 = 3;
+
+pub const EXTRACTION: u8 = 4;
+
+pub const CONCAT: u8 = 5;
+
+pub const EXTENSION: u8 = 6;
+
+pub const ITE: u8 = 7;
+
+pub const COMPARISON: u8 = 8;
+
+pub const NEGATION: u8 = 9;
+
+pub const CONNECTIVE: u8 = 10;
+
+pub const UNARY: u8 = 11;
+
+pub const SELECT: u8 = 12;
+
+pub const CALL: u8 = 13;
+
+pub const UNKNOWN: u8 = 14;
+
+// The shape of each kind, 0 to 38.
+const SHAPES: [u8; 39] = [
+    VAR, // Var
+    CONST, // Const
+    BINARY, // Add
+    BINARY, // Sub
+    BINARY, // Mul
+    BINARY, // Udiv
+    BINARY, // Urem
+    BINARY, // And
+    BINARY, // Or
+    BINARY, // Xor
+    BINARY, // Shl
+    BINARY, // Lshr
+    BINARY, // Ashr
+    ROTATION, // Rotr
+    EXTRACTION, // Extract
+    CONCAT, // Concat
+    EXTENSION, // ZeroExt
+    EXTENSION, // SignExt
+    ITE, // Ite
+    COMPARISON, // Eq
+    COMPARISON, // Ne
+    COMPARISON, // Ult
+    COMPARISON, // Ule
+    COMPARISON, // Ugt
+    COMPARISON, // Uge
+    COMPARISON, // Slt
+    COMPARISON, // Sle
+    COMPARISON, // Sgt
+    COMPARISON, // Sge
+    NEGATION, // Not
+    CONNECTIVE, // BoolAnd
+    CONNECTIVE, // BoolOr
+    UNARY, // BvNot
+    UNARY, // Neg
+    ROTATION, // Rotl
+    BINARY, // Sdiv
+    BINARY, // Srem
+    SELECT, // Select
+    CALL, // Call
+];
+
+// How many operands a node of each shape has, by the shape's code.
+const OPERANDS: [usize; 14] = [1, 2, 2, 2, 3, 2, 2, 3, 2, 1, 2, 1, 4, 4];
+
+// A kind's shape, as its code. Ruled out: a rotation as another binary operator; a kind past the last as a call.
+pub fn shape(kind: u8) -> u8
+    ensures { λ r. ⌜ r ≡ codeOf (shapeOf kind) ⌝ }
+{
+    let k = kind as usize;
+    if k < 39 { SHAPES[k] } else { UNKNOWN }
+}
+
+// How many of the four operands a shape has. Ruled out: two for an extraction; four for an unknown shape.
+pub fn operand_count(shape: u8) -> usize
+    ensures { λ r. ⌜ r ≡ operandCount (shapeCoded shape) ⌝ }
+{
+    let s = shape as usize;
+    if s < 14 { OPERANDS[s] } else { 0 }
+}
+
+// Is every number 0.
+fn all_zero(s: &[u64]) -> bool
+    ensures { λ r. ⌜ r ≡ every unused (now (s .entry)) ⌝ }
+{
+    let mut i = 0;
+    while i < s.len() {
+        if s[i] != 0 {
+            return false;
+        }
+        i += 1;
+    }
+    true
+}
+
+// Is the kind known, and is each operand that it does not have 0. Ruled out: kind 39 as known; a unary node whose third operand
+// alone is looked at.
+pub fn node_encoded(n: Node) -> bool
+    ensures { λ r. ⌜ r ≡ input.nodeEncoded (nodeOf n) ⌝ }
+{
+    if n.kind >= 39 {
+        return false;
+    }
+    let operands = [n.a, n.b, n.c, n.d];
+    let count = operand_count(shape(n.kind));
+    all_zero(&operands[count..])
+}
+
+// Is every record encoded.
+fn nodes_encoded(nodes: &[u8]) -> bool
+    ensures { λ r. ⌜ r ≡ every input.nodeEncoded (input.nodesOf (now (nodes .entry))) ⌝ }
+{
+    let n = node_count(nodes);
+    let mut i = 0;
+    while i < n {
+        if !node_encoded(node_at(nodes, i)) {
+            return false;
+        }
+        i += 1;
+    }
+    true
+}
+
+// Is every byte of the bits 0 or 1.
+fn bits_encoded(bits: &[u8]) -> bool
+    ensures { λ r. ⌜ r ≡ every bit (now (bits .entry)) ⌝ }
+{
+    let mut i = 0;
+    while i < bits.len() {
+        if bits[i] > 1 {
+            return false;
+        }
+        i += 1;
+    }
+    true
+}
+
+// Refusal 8 is where this is false. Ruled out: bytes left over after the last record; a bit of 2 past those that a node uses.
+pub fn encoded(nodes: &[u8], bits: &[u8]) -> bool
+    ensures { λ r. ⌜ r ≡ input.encoded (now (nodes .entry)) (now (bits .entry)) ⌝ }
+{
+    if nodes.len() % 17 != 0 {
+        return false;
+    }
+    nodes_encoded(nodes) && bits_encoded(bits)
+}
+
+// The nodes' part of refusal 9. Ruled out: a limit that is itself refused; side entries without one.
+pub fn nodes_within(nodes: &[u8], bits: &[u8], side: &[u64]) -> bool
+    ensures { λ r. ⌜ r ≡ input.nodesWithin (now (nodes .entry)) (now (bits .entry)) (now (side .entry)) ⌝ }
+{
+    if nodes.len() > 34816 {
+        return false;
+    }
+    if bits.len() > 131072 {
+        return false;
+    }
+    side.len() <= 8192
+}

@@ -1,0 +1,61 @@
+-- The tests of `lists`, one element further along a list: what a loop that counts up needs.
+use Prim.Native.Nat.{ℕ, _+_, _≤_, _<_}
+use mathlib.Core.Path.{_≡_, refl}
+use mathlib.Core.List.{List, [], _∷_, _++_}
+use mathlib.Core.Bool.{Bool, true, false, _||_}
+use native.Mathlib.Numerals.{add-one}
+use lib.ListN.{length, getD, take, drop, drop-of-length-le}
+use lib.Seq.{drop-cons, take-suc}
+use borrow.Author.Tests.{eq-eqb, ne-eqb}
+use Rattle.lists.specs.Tests.{same, inList, every, same→eq, true→T}
+
+pub drop-step : {A : Type 0} (d : A) (xs : List A) (i : ℕ) → i < length xs → drop i xs ≡ getD xs i d ∷ drop (i + 1) xs
+drop-step d xs i h = rw (add-one, drop-cons xs i d)
+
+pub take-step : {A : Type 0} (d : A) (xs : List A) (i : ℕ) → i < length xs → take (i + 1) xs ≡ take i xs ++ (getD xs i d ∷ [])
+take-step d xs i h = rw (add-one, take-suc xs i d)
+
+-- ---------------------------------------------------------------- every
+
+module _ {A : Type 0} (p : A → Bool) (d : A) (xs : List A) (i : ℕ) (whole : Bool) (e : every p (drop i xs) ≡ whole) where
+  pub every-pass : i < length xs → p (getD xs i d) ≡ true → every p (drop (i + 1) xs) ≡ whole
+  every-pass h q = rw q at (rw (drop-step d xs i h) at e)
+
+  pub every-fail : i < length xs → p (getD xs i d) ≡ false → false ≡ whole
+  every-fail h q = rw q at (rw (drop-step d xs i h) at e)
+
+  pub every-end : length xs ≤ i → true ≡ whole
+  every-end h = rw (drop-of-length-le xs h) at e
+
+-- ---------------------------------------------------------------- same
+
+module _ (xs ys : List ℕ) (i : ℕ) (whole : Bool) (e : same (drop i xs) (drop i ys) ≡ whole) where
+  pub same-pass : i < length xs → i < length ys → getD xs i 0 ≡ getD ys i 0 → same (drop (i + 1) xs) (drop (i + 1) ys) ≡ whole
+  unfolding same
+  same-pass h k q = rw (eq-eqb (getD xs i 0) (getD ys i 0) q) at (rw (drop-step 0 xs i h, drop-step 0 ys i k) at e)
+
+  pub same-fail : i < length xs → i < length ys → (getD xs i 0 ≡ getD ys i 0 → ⊥) → false ≡ whole
+  unfolding same
+  same-fail h k q = rw (ne-eqb (getD xs i 0) (getD ys i 0) q) at (rw (drop-step 0 xs i h, drop-step 0 ys i k) at e)
+
+  pub same-end : length xs ≤ i → length ys ≤ i → true ≡ whole
+  unfolding same
+  same-end h k = rw (drop-of-length-le xs h, drop-of-length-le ys k) at e
+
+-- lists that differ are not the same
+pub same-not : (xs ys : List ℕ) → (xs ≡ ys → ⊥) → same xs ys ≡ false
+same-not xs ys f = go (same xs ys) refl
+  where
+    go : (b : Bool) → same xs ys ≡ b → b ≡ false
+    go true e = absurd (f (same→eq xs ys (true→T e)))
+    go false e = refl
+
+-- ---------------------------------------------------------------- inList
+
+pub inList-append : (n : List ℕ) (xs ys : List (List ℕ)) → inList n (xs ++ ys) ≡ inList n xs || inList n ys
+inList-append n [] ys = refl
+inList-append n (x ∷ xs) ys = go (same n x) (inList-append n xs ys)
+  where
+    go : (b : Bool) → inList n (xs ++ ys) ≡ inList n xs || inList n ys → b || inList n (xs ++ ys) ≡ (b || inList n xs) || inList n ys
+    go true e = refl
+    go false e = e

@@ -1,0 +1,1870 @@
+use Prim.Native.Nat.{ℕ, _<_}
+use borrow.Fn.Kinds.{In}
+use borrow.Fn.PlainCycle.{Measures, is, falls, and}
+use Rattle.echo_walk.proofs.echo_args.Reads as echo-args
+use Rattle.echo_walk.proofs.echo_args.Kinds as echo-args-kinds
+use Rattle.echo_walk.proofs.+echo_args+echo_levels+echo_node+echo_one+echo_two.Lts-echo_args as echo-args-lts
+use Rattle.echo_walk.proofs.echo_levels.Reads as echo-levels
+use Rattle.echo_walk.proofs.echo_levels.Kinds as echo-levels-kinds
+use Rattle.echo_walk.proofs.+echo_args+echo_levels+echo_node+echo_one+echo_two.Lts-echo_levels as echo-levels-lts
+use Rattle.echo_walk.proofs.echo_node.Reads as echo-node
+use Rattle.echo_walk.proofs.echo_node.Kinds as echo-node-kinds
+use Rattle.echo_walk.proofs.+echo_args+echo_levels+echo_node+echo_one+echo_two.Lts-echo_node as echo-node-lts
+use Rattle.echo_walk.proofs.echo_one.Reads as echo-one
+use Rattle.echo_walk.proofs.echo_one.Kinds as echo-one-kinds
+use Rattle.echo_walk.proofs.+echo_args+echo_levels+echo_node+echo_one+echo_two.Lts-echo_one as echo-one-lts
+use Rattle.echo_walk.proofs.echo_two.Reads as echo-two
+use Rattle.echo_walk.proofs.echo_two.Kinds as echo-two-kinds
+use Rattle.echo_walk.proofs.+echo_args+echo_levels+echo_node+echo_one+echo_two.Lts-echo_two as echo-two-lts
+use Rattle.echo_bytes.proofs.Place.byte.Reads as byte-reads
+use Rattle.echo_walk.proofs.count.Reads as count-reads
+use Rattle.echo_walk.proofs.get.Reads as get-reads
+use Rattle.echo_walk.proofs.head.Reads as head-reads
+use Rattle.echo_walk.proofs.operands_at.Reads as operands-at-reads
+use Rattle.echo_walk.proofs.pair_at.Reads as pair-at-reads
+use Rattle.echo_walk.proofs.refused_here.Reads as refused-here-reads
+use Rattle.echo_walk.proofs.+echo_args+echo_levels+echo_node+echo_one+echo_two.{statement}
+use Rattle.echo_walk.proofs.+echo_args+echo_levels+echo_node+echo_one+echo_two.Tie.{close}
+use mathlib.Core.Path.{sym, _∙_}
+use borrow.Author.Needs.{needs}
+use native.Mathlib.Omega.{arith}
+use Rattle.echo_walk.specs.Texts.{oneText, twoText, formText}
+use Rattle.echo_walk.specs.declared.Form.the-variants.{Leaf, One, Two, Choice, Chain, Arguments}
+use Rattle.echo_walk.proofs.Laws.{
+  μ,
+  below,
+  inside,
+  fewer,
+  blank-then,
+  last,
+  both,
+  stop,
+  listed-place,
+  listed-first,
+  listed-rest,
+  args-in,
+  args-none,
+  chained-place,
+  chained-index,
+  chained-value,
+  chained-rest,
+  levels-in,
+  levels-none,
+  node-count,
+  form-below,
+  node-out,
+  node-stop,
+  node-in,
+  node-leaf,
+  none-asked,
+}
+
+abbrev μ-echo-args : Measures 5 echo-args-kinds.ps ℕ
+μ-echo-args κs a = μ (a .1 .1 .0) (a .1 .1 .1 .1 .0)
+
+abbrev μ-echo-levels : Measures 5 echo-levels-kinds.ps ℕ
+μ-echo-levels κs a = μ (a .1 .1 .0) (a .1 .1 .1 .1 .0)
+
+abbrev μ-echo-node : Measures 5 echo-node-kinds.ps ℕ
+μ-echo-node κs a = μ (a .1 .1 .0) 18446744073709551616
+
+abbrev μ-echo-one : Measures 5 echo-one-kinds.ps ℕ
+μ-echo-one κs a = μ (a .1 .1 .0) 0
+
+abbrev μ-echo-two : Measures 5 echo-two-kinds.ps ℕ
+μ-echo-two κs a = μ (a .1 .1 .0) 0
+
+abbrev echo-args-at : ℕ → In 5 echo-args-kinds.ps
+echo-args-at t = and 5 echo-args-kinds.ps (is 5 echo-args-kinds.ps μ-echo-args t) echo-args.Pre
+
+abbrev echo-args-below : ℕ → In 5 echo-args-kinds.ps
+echo-args-below t =
+    and 5 echo-args-kinds.ps (falls 5 echo-args-kinds.ps _<_ μ-echo-args t) echo-args.Pre
+
+abbrev echo-levels-at : ℕ → In 5 echo-levels-kinds.ps
+echo-levels-at t =
+    and 5 echo-levels-kinds.ps (is 5 echo-levels-kinds.ps μ-echo-levels t) echo-levels.Pre
+
+abbrev echo-levels-below : ℕ → In 5 echo-levels-kinds.ps
+echo-levels-below t =
+    and 5 echo-levels-kinds.ps (falls 5 echo-levels-kinds.ps _<_ μ-echo-levels t) echo-levels.Pre
+
+abbrev echo-node-at : ℕ → In 5 echo-node-kinds.ps
+echo-node-at t = and 5 echo-node-kinds.ps (is 5 echo-node-kinds.ps μ-echo-node t) echo-node.Pre
+
+abbrev echo-node-below : ℕ → In 5 echo-node-kinds.ps
+echo-node-below t =
+    and 5 echo-node-kinds.ps (falls 5 echo-node-kinds.ps _<_ μ-echo-node t) echo-node.Pre
+
+abbrev echo-one-at : ℕ → In 5 echo-one-kinds.ps
+echo-one-at t = and 5 echo-one-kinds.ps (is 5 echo-one-kinds.ps μ-echo-one t) echo-one.Pre
+
+abbrev echo-one-below : ℕ → In 5 echo-one-kinds.ps
+echo-one-below t =
+    and 5 echo-one-kinds.ps (falls 5 echo-one-kinds.ps _<_ μ-echo-one t) echo-one.Pre
+
+abbrev echo-two-at : ℕ → In 5 echo-two-kinds.ps
+echo-two-at t = and 5 echo-two-kinds.ps (is 5 echo-two-kinds.ps μ-echo-two t) echo-two.Pre
+
+abbrev echo-two-below : ℕ → In 5 echo-two-kinds.ps
+echo-two-below t =
+    and 5 echo-two-kinds.ps (falls 5 echo-two-kinds.ps _<_ μ-echo-two t) echo-two.Pre
+
+-- src/lib.rt:248:26
+echo-args-byte-requires : (t : ℕ) → echo-args-lts.Need-byte-requires (
+  byte-reads.Asked,
+  byte-reads.Learnt,
+  get-reads.Asked,
+  get-reads.Learnt,
+  echo-node-below t,
+  echo-node.Post,
+  echo-args-below t,
+  echo-args.Post,
+) (echo-args-at t) echo-args.Post
+echo-args-byte-requires t c κs = search needs
+
+-- src/lib.rt:248:9
+echo-args-same-length : (t : ℕ) → echo-args-lts.Need-same-length (
+  byte-reads.Asked,
+  byte-reads.Learnt,
+  get-reads.Asked,
+  get-reads.Learnt,
+  echo-node-below t,
+  echo-node.Post,
+  echo-args-below t,
+  echo-args.Post,
+) (echo-args-at t) echo-args.Post
+echo-args-same-length t c = omega (arith, c .before .before .byte .kept .1 .0)
+
+-- src/lib.rt:248:9
+echo-args-returns : (t : ℕ) → echo-args-lts.Need-returns (
+  byte-reads.Asked,
+  byte-reads.Learnt,
+  get-reads.Asked,
+  get-reads.Learnt,
+  echo-node-below t,
+  echo-node.Post,
+  echo-args-below t,
+  echo-args.Post,
+) (echo-args-at t) echo-args.Post
+echo-args-returns t c = args-none _ _ (c .before .before .before .before .if1 .taken) (last _ (c .before .before .byte .ensures))
+
+-- src/lib.rt:250:16
+echo-args-element-copy-out-side : (t : ℕ) → echo-args-lts.Need-element-copy-out-side (
+  byte-reads.Asked,
+  byte-reads.Learnt,
+  get-reads.Asked,
+  get-reads.Learnt,
+  echo-node-below t,
+  echo-node.Post,
+  echo-args-below t,
+  echo-args.Post,
+) (echo-args-at t) echo-args.Post
+echo-args-element-copy-out-side t c = search needs
+
+-- src/lib.rt:251:9
+echo-args-get-requires : (t : ℕ) → echo-args-lts.Need-get-requires (
+  byte-reads.Asked,
+  byte-reads.Learnt,
+  get-reads.Asked,
+  get-reads.Learnt,
+  echo-node-below t,
+  echo-node.Post,
+  echo-args-below t,
+  echo-args.Post,
+) (echo-args-at t) echo-args.Post
+echo-args-get-requires t c κs = search needs
+
+-- src/lib.rt:252:9
+echo-args-byte-requires-2 : (t : ℕ) → echo-args-lts.Need-byte-requires-2 (
+  byte-reads.Asked,
+  byte-reads.Learnt,
+  get-reads.Asked,
+  get-reads.Learnt,
+  echo-node-below t,
+  echo-node.Post,
+  echo-args-below t,
+  echo-args.Post,
+) (echo-args-at t) echo-args.Post
+echo-args-byte-requires-2 t c κs = search needs
+
+-- src/lib.rt:253:11
+echo-args-echo-node-requires : (t : ℕ) → echo-args-lts.Need-echo-node-requires (
+  byte-reads.Asked,
+  byte-reads.Learnt,
+  get-reads.Asked,
+  get-reads.Learnt,
+  echo-node-below t,
+  echo-node.Post,
+  echo-args-below t,
+  echo-args.Post,
+) (echo-args-at t) echo-args.Post
+echo-args-echo-node-requires t c κs = (below _ _ _ (c .before .before .before .before .before .before .before .before .before .pre .0) (listed-first (c .before .before .before .before .before .before .before .before .before .pre .1 .1) (c .before .before .before .before .before .before .before .if1 .left) (c .before .before .before .before .before .get .ensures)), c .before .before .before .before .before .before .before .before .before .pre .1 .0)
+
+-- src/lib.rt:254:22
+echo-args-enum-known-e : (t : ℕ) → echo-args-lts.Need-enum-known-e (
+  byte-reads.Asked,
+  byte-reads.Learnt,
+  get-reads.Asked,
+  get-reads.Learnt,
+  echo-node-below t,
+  echo-node.Post,
+  echo-args-below t,
+  echo-args.Post,
+) (echo-args-at t) echo-args.Post
+echo-args-enum-known-e t c = search needs
+
+-- src/lib.rt:255:19
+echo-args-enum-known-r : (t : ℕ) → echo-args-lts.Need-enum-known-r (
+  byte-reads.Asked,
+  byte-reads.Learnt,
+  get-reads.Asked,
+  get-reads.Learnt,
+  echo-node-below t,
+  echo-node.Post,
+  echo-args-below t,
+  echo-args.Post,
+) (echo-args-at t) echo-args.Post
+echo-args-enum-known-r t c = search needs
+
+-- src/lib.rt:255:55
+echo-args-add-echo-args : (t : ℕ) → echo-args-lts.Need-add-echo-args (
+  byte-reads.Asked,
+  byte-reads.Learnt,
+  get-reads.Asked,
+  get-reads.Learnt,
+  echo-node-below t,
+  echo-node.Post,
+  echo-args-below t,
+  echo-args.Post,
+) (echo-args-at t) echo-args.Post
+echo-args-add-echo-args t c = omega (arith, listed-place (c .before .before .before .before .before .before .before .before .before .before .before .before .before .before .before .pre .1 .1) (c .before .before .before .before .before .before .before .before .before .before .before .before .before .if1 .left), c .before .before .before .before .before .before .before .before .before .before .before .before .before .before .before .pre .1 .0 .entries)
+
+-- src/lib.rt:255:62
+echo-args-sub-echo-args : (t : ℕ) → echo-args-lts.Need-sub-echo-args (
+  byte-reads.Asked,
+  byte-reads.Learnt,
+  get-reads.Asked,
+  get-reads.Learnt,
+  echo-node-below t,
+  echo-node.Post,
+  echo-args-below t,
+  echo-args.Post,
+) (echo-args-at t) echo-args.Post
+echo-args-sub-echo-args t c = omega (arith, c .before .before .before .before .before .before .before .before .before .before .before .before .before .if1 .left)
+
+-- src/lib.rt:255:25
+echo-args-echo-args-requires : (t : ℕ) → echo-args-lts.Need-echo-args-requires (
+  byte-reads.Asked,
+  byte-reads.Learnt,
+  get-reads.Asked,
+  get-reads.Learnt,
+  echo-node-below t,
+  echo-node.Post,
+  echo-args-below t,
+  echo-args.Post,
+) (echo-args-at t) echo-args.Post
+echo-args-echo-args-requires t c κs = (fewer _ _ _ (c .before .before .before .before .before .before .before .before .before .before .before .before .before .before .before .before .pre .0) (omega (arith, c .before .before .before .before .before .before .before .before .before .before .before .before .before .before .if1 .left)), (c .before .before .before .before .before .before .before .before .before .before .before .before .before .before .before .before .pre .1 .0, listed-rest (c .before .before .before .before .before .before .before .before .before .before .before .before .before .before .before .before .pre .1 .1) (c .before .before .before .before .before .before .before .before .before .before .before .before .before .before .if1 .left)))
+
+-- src/lib.rt:243:1
+echo-args-same-length-2 : (t : ℕ) → echo-args-lts.Need-same-length-2 (
+  byte-reads.Asked,
+  byte-reads.Learnt,
+  get-reads.Asked,
+  get-reads.Learnt,
+  echo-node-below t,
+  echo-node.Post,
+  echo-args-below t,
+  echo-args.Post,
+) (echo-args-at t) echo-args.Post
+echo-args-same-length-2 t c = omega (arith, c .before .before .before .before .before .before .before .before .before .byte2 .kept .1 .0, c .before .before .before .before .before .echo-node .kept .1 .1 .1 .1 .1 .0)
+
+-- src/lib.rt:243:1
+echo-args-returns-2 : (t : ℕ) → echo-args-lts.Need-returns-2 (
+  byte-reads.Asked,
+  byte-reads.Learnt,
+  get-reads.Asked,
+  get-reads.Learnt,
+  echo-node-below t,
+  echo-node.Post,
+  echo-args-below t,
+  echo-args.Post,
+) (echo-args-at t) echo-args.Post
+echo-args-returns-2 t c = args-in (c .before .before .before .before .before .before .before .before .before .before .before .before .before .before .before .pre .1 .1) (c .before .before .before .before .before .before .before .before .before .before .before .before .before .if1 .left) _ (c .before .before .before .before .before .before .before .before .before .before .before .get .ensures) (blank-then _ (c .before .before .before .before .before .before .before .before .before .byte2 .ensures) (stop _ _ (c .before .before .before .before .before .echo-node .ensures) (c .before .e .given .1)))
+
+-- src/lib.rt:243:1
+echo-args-same-length-3 : (t : ℕ) → echo-args-lts.Need-same-length-3 (
+  byte-reads.Asked,
+  byte-reads.Learnt,
+  get-reads.Asked,
+  get-reads.Learnt,
+  echo-node-below t,
+  echo-node.Post,
+  echo-args-below t,
+  echo-args.Post,
+) (echo-args-at t) echo-args.Post
+echo-args-same-length-3 t c = omega (arith, c .before .before .before .before .before .before .before .before .before .before .before .before .before .byte2 .kept .1 .0, c .before .before .before .before .before .before .before .before .before .echo-node .kept .1 .1 .1 .1 .1 .0, c .before .before .echo-args .kept .1 .1 .1 .1 .1 .1 .0)
+
+-- src/lib.rt:243:1
+echo-args-returns-3 : (t : ℕ) → echo-args-lts.Need-returns-3 (
+  byte-reads.Asked,
+  byte-reads.Learnt,
+  get-reads.Asked,
+  get-reads.Learnt,
+  echo-node-below t,
+  echo-node.Post,
+  echo-args-below t,
+  echo-args.Post,
+) (echo-args-at t) echo-args.Post
+echo-args-returns-3 t c = args-in (c .before .before .before .before .before .before .before .before .before .before .before .before .before .before .before .before .before .before .before .pre .1 .1) (c .before .before .before .before .before .before .before .before .before .before .before .before .before .before .before .before .before .if1 .left) _ (c .before .before .before .before .before .before .before .before .before .before .before .before .before .before .before .get .ensures) (blank-then _ (c .before .before .before .before .before .before .before .before .before .before .before .before .before .byte2 .ensures) (both _ _ (c .before .before .before .before .before .before .before .before .before .echo-node .ensures) (c .before .before .before .before .before .r .given .1) (c .before .before .echo-args .ensures)))
+
+-- src/lib.rt:230:9
+echo-levels-returns : (t : ℕ) → echo-levels-lts.Need-returns (
+  pair-at-reads.Asked,
+  pair-at-reads.Learnt,
+  echo-two-below t,
+  echo-two.Post,
+  echo-levels-below t,
+  echo-levels.Post,
+) (echo-levels-at t) echo-levels.Post
+echo-levels-returns t c = levels-none _ _ (c .if1 .taken) (omega arith)
+
+-- src/lib.rt:232:16
+echo-levels-element-copy-out-side : (t : ℕ) → echo-levels-lts.Need-element-copy-out-side (
+  pair-at-reads.Asked,
+  pair-at-reads.Learnt,
+  echo-two-below t,
+  echo-two.Post,
+  echo-levels-below t,
+  echo-levels.Post,
+) (echo-levels-at t) echo-levels.Post
+echo-levels-element-copy-out-side t c = search needs
+
+-- src/lib.rt:233:13
+echo-levels-sub-l : (t : ℕ) → echo-levels-lts.Need-sub-l (
+  pair-at-reads.Asked,
+  pair-at-reads.Learnt,
+  echo-two-below t,
+  echo-two.Post,
+  echo-levels-below t,
+  echo-levels.Post,
+) (echo-levels-at t) echo-levels.Post
+echo-levels-sub-l t c = omega (arith, c .before .if1 .left)
+
+-- src/lib.rt:234:9
+echo-levels-pair-at-requires : (t : ℕ) → echo-levels-lts.Need-pair-at-requires (
+  pair-at-reads.Asked,
+  pair-at-reads.Learnt,
+  echo-two-below t,
+  echo-two.Post,
+  echo-levels-below t,
+  echo-levels.Post,
+) (echo-levels-at t) echo-levels.Post
+echo-levels-pair-at-requires t c κs = omega (arith, chained-place (c .before .before .before .pre .1 .1) (c .before .if1 .left), c .before .before .before .pre .1 .0 .entries)
+
+-- src/lib.rt:235:9
+echo-levels-pair-at-requires-2 : (t : ℕ) → echo-levels-lts.Need-pair-at-requires-2 (
+  pair-at-reads.Asked,
+  pair-at-reads.Learnt,
+  echo-two-below t,
+  echo-two.Post,
+  echo-levels-below t,
+  echo-levels.Post,
+) (echo-levels-at t) echo-levels.Post
+echo-levels-pair-at-requires-2 t c κs = omega (arith, chained-place (c .before .before .before .before .pre .1 .1) (c .before .before .if1 .left), c .before .before .before .before .pre .1 .0 .entries)
+
+-- src/lib.rt:236:11
+echo-levels-echo-two-requires : (t : ℕ) → echo-levels-lts.Need-echo-two-requires (
+  pair-at-reads.Asked,
+  pair-at-reads.Learnt,
+  echo-two-below t,
+  echo-two.Post,
+  echo-levels-below t,
+  echo-levels.Post,
+) (echo-levels-at t) echo-levels.Post
+echo-levels-echo-two-requires t c κs = (fewer _ _ _ (c .before .before .before .before .before .before .pre .0) (omega (arith, c .before .before .before .before .if1 .left)), (c .before .before .before .before .before .before .pre .1 .0, chained-index (c .before .before .before .before .before .before .pre .1 .1) (c .before .before .before .before .if1 .left) (c .before .before .pair-at .ensures), chained-value (c .before .before .before .before .before .before .pre .1 .1) (c .before .before .before .before .if1 .left) (c .before .pair-at2 .ensures)))
+
+-- src/lib.rt:237:22
+echo-levels-enum-known-e : (t : ℕ) → echo-levels-lts.Need-enum-known-e (
+  pair-at-reads.Asked,
+  pair-at-reads.Learnt,
+  echo-two-below t,
+  echo-two.Post,
+  echo-levels-below t,
+  echo-levels.Post,
+) (echo-levels-at t) echo-levels.Post
+echo-levels-enum-known-e t c = search needs
+
+-- src/lib.rt:238:19
+echo-levels-enum-known-q : (t : ℕ) → echo-levels-lts.Need-enum-known-q (
+  pair-at-reads.Asked,
+  pair-at-reads.Learnt,
+  echo-two-below t,
+  echo-two.Post,
+  echo-levels-below t,
+  echo-levels.Post,
+) (echo-levels-at t) echo-levels.Post
+echo-levels-enum-known-q t c = search needs
+
+-- src/lib.rt:238:25
+echo-levels-echo-levels-requires : (t : ℕ) → echo-levels-lts.Need-echo-levels-requires (
+  pair-at-reads.Asked,
+  pair-at-reads.Learnt,
+  echo-two-below t,
+  echo-two.Post,
+  echo-levels-below t,
+  echo-levels.Post,
+) (echo-levels-at t) echo-levels.Post
+echo-levels-echo-levels-requires t c κs = (fewer _ _ _ (c .before .before .before .before .before .before .before .before .before .before .before .before .before .pre .0) (omega (arith, c .before .before .before .before .before .before .before .before .before .before .before .if1 .left)), (c .before .before .before .before .before .before .before .before .before .before .before .before .before .pre .1 .0, chained-rest (c .before .before .before .before .before .before .before .before .before .before .before .before .before .pre .1 .1) (c .before .before .before .before .before .before .before .before .before .before .before .if1 .left)))
+
+-- src/lib.rt:225:1
+echo-levels-same-length : (t : ℕ) → echo-levels-lts.Need-same-length (
+  pair-at-reads.Asked,
+  pair-at-reads.Learnt,
+  echo-two-below t,
+  echo-two.Post,
+  echo-levels-below t,
+  echo-levels.Post,
+) (echo-levels-at t) echo-levels.Post
+echo-levels-same-length t c = omega (arith, c .before .before .before .before .before .echo-two .kept .1 .1 .1 .1 .1 .1 .1 .0)
+
+-- src/lib.rt:225:1
+echo-levels-returns-2 : (t : ℕ) → echo-levels-lts.Need-returns-2 (
+  pair-at-reads.Asked,
+  pair-at-reads.Learnt,
+  echo-two-below t,
+  echo-two.Post,
+  echo-levels-below t,
+  echo-levels.Post,
+) (echo-levels-at t) echo-levels.Post
+echo-levels-returns-2 t c = levels-in (c .before .before .before .before .before .before .before .before .before .before .before .before .pre .1 .1) (c .before .before .before .before .before .before .before .before .before .before .if1 .left) _ (c .before .before .before .before .before .before .before .before .pair-at .ensures) (c .before .before .before .before .before .before .before .pair-at2 .ensures) (stop _ _ (c .before .before .before .before .before .echo-two .ensures) (c .before .e .given .1))
+
+-- src/lib.rt:225:1
+echo-levels-same-length-2 : (t : ℕ) → echo-levels-lts.Need-same-length-2 (
+  pair-at-reads.Asked,
+  pair-at-reads.Learnt,
+  echo-two-below t,
+  echo-two.Post,
+  echo-levels-below t,
+  echo-levels.Post,
+) (echo-levels-at t) echo-levels.Post
+echo-levels-same-length-2 t c = omega (arith, c .before .before .before .before .before .before .before .before .before .echo-two .kept .1 .1 .1 .1 .1 .1 .1 .0, c .before .before .echo-levels .kept .1 .1 .1 .1 .1 .1 .0)
+
+-- src/lib.rt:225:1
+echo-levels-returns-3 : (t : ℕ) → echo-levels-lts.Need-returns-3 (
+  pair-at-reads.Asked,
+  pair-at-reads.Learnt,
+  echo-two-below t,
+  echo-two.Post,
+  echo-levels-below t,
+  echo-levels.Post,
+) (echo-levels-at t) echo-levels.Post
+echo-levels-returns-3 t c = levels-in (c .before .before .before .before .before .before .before .before .before .before .before .before .before .before .before .before .pre .1 .1) (c .before .before .before .before .before .before .before .before .before .before .before .before .before .before .if1 .left) _ (c .before .before .before .before .before .before .before .before .before .before .before .before .pair-at .ensures) (c .before .before .before .before .before .before .before .before .before .before .before .pair-at2 .ensures) (both _ _ (c .before .before .before .before .before .before .before .before .before .echo-two .ensures) (c .before .before .before .before .before .q .given .1) (c .before .before .echo-levels .ensures))
+
+-- src/lib.rt:163:14
+echo-node-element-copy-out-ws : (t : ℕ) → echo-node-lts.Need-element-copy-out-ws (
+  count-reads.Asked,
+  count-reads.Learnt,
+  refused-here-reads.Asked,
+  refused-here-reads.Learnt,
+  head-reads.Asked,
+  head-reads.Learnt,
+  operands-at-reads.Asked,
+  operands-at-reads.Learnt,
+  echo-one-below t,
+  echo-one.Post,
+  echo-two-below t,
+  echo-two.Post,
+  byte-reads.Asked,
+  byte-reads.Learnt,
+  echo-node-below t,
+  echo-node.Post,
+  echo-levels-below t,
+  echo-levels.Post,
+  echo-args-below t,
+  echo-args.Post,
+) (echo-node-at t) echo-node.Post
+echo-node-element-copy-out-ws t c = search needs
+
+-- src/lib.rt:164:13
+echo-node-count-requires : (t : ℕ) → echo-node-lts.Need-count-requires (
+  count-reads.Asked,
+  count-reads.Learnt,
+  refused-here-reads.Asked,
+  refused-here-reads.Learnt,
+  head-reads.Asked,
+  head-reads.Learnt,
+  operands-at-reads.Asked,
+  operands-at-reads.Learnt,
+  echo-one-below t,
+  echo-one.Post,
+  echo-two-below t,
+  echo-two.Post,
+  byte-reads.Asked,
+  byte-reads.Learnt,
+  echo-node-below t,
+  echo-node.Post,
+  echo-levels-below t,
+  echo-levels.Post,
+  echo-args-below t,
+  echo-args.Post,
+) (echo-node-at t) echo-node.Post
+echo-node-count-requires t c κs = search needs
+
+-- src/lib.rt:165:9
+echo-node-returns : (t : ℕ) → echo-node-lts.Need-returns (
+  count-reads.Asked,
+  count-reads.Learnt,
+  refused-here-reads.Asked,
+  refused-here-reads.Learnt,
+  head-reads.Asked,
+  head-reads.Learnt,
+  operands-at-reads.Asked,
+  operands-at-reads.Learnt,
+  echo-one-below t,
+  echo-one.Post,
+  echo-two-below t,
+  echo-two.Post,
+  byte-reads.Asked,
+  byte-reads.Learnt,
+  echo-node-below t,
+  echo-node.Post,
+  echo-levels-below t,
+  echo-levels.Post,
+  echo-args-below t,
+  echo-args.Post,
+) (echo-node-at t) echo-node.Post
+echo-node-returns t c = node-out _ _ (c .before .before .before .before .pre .1) _ _ (omega (arith, c .if1 .taken, c .before .count .ensures))
+
+-- src/lib.rt:167:9
+echo-node-refused-here-requires : (t : ℕ) → echo-node-lts.Need-refused-here-requires (
+  count-reads.Asked,
+  count-reads.Learnt,
+  refused-here-reads.Asked,
+  refused-here-reads.Learnt,
+  head-reads.Asked,
+  head-reads.Learnt,
+  operands-at-reads.Asked,
+  operands-at-reads.Learnt,
+  echo-one-below t,
+  echo-one.Post,
+  echo-two-below t,
+  echo-two.Post,
+  byte-reads.Asked,
+  byte-reads.Learnt,
+  echo-node-below t,
+  echo-node.Post,
+  echo-levels-below t,
+  echo-levels.Post,
+  echo-args-below t,
+  echo-args.Post,
+) (echo-node-at t) echo-node.Post
+echo-node-refused-here-requires t c κs = (c .before .before .before .before .pre .1, omega (arith, c .if1 .left, c .before .count .ensures))
+
+-- src/lib.rt:169:9
+echo-node-returns-2 : (t : ℕ) → echo-node-lts.Need-returns-2 (
+  count-reads.Asked,
+  count-reads.Learnt,
+  refused-here-reads.Asked,
+  refused-here-reads.Learnt,
+  head-reads.Asked,
+  head-reads.Learnt,
+  operands-at-reads.Asked,
+  operands-at-reads.Learnt,
+  echo-one-below t,
+  echo-one.Post,
+  echo-two-below t,
+  echo-two.Post,
+  byte-reads.Asked,
+  byte-reads.Learnt,
+  echo-node-below t,
+  echo-node.Post,
+  echo-levels-below t,
+  echo-levels.Post,
+  echo-args-below t,
+  echo-args.Post,
+) (echo-node-at t) echo-node.Post
+echo-node-returns-2 t c = node-stop _ _ (c .before .before .before .before .before .before .pre .1) _ _ (omega (arith, c .before .before .if1 .left, c .before .before .before .count .ensures)) (c .before .refused-here .ensures) (c .if2 .taken)
+
+-- src/lib.rt:171:9
+echo-node-head-requires : (t : ℕ) → echo-node-lts.Need-head-requires (
+  count-reads.Asked,
+  count-reads.Learnt,
+  refused-here-reads.Asked,
+  refused-here-reads.Learnt,
+  head-reads.Asked,
+  head-reads.Learnt,
+  operands-at-reads.Asked,
+  operands-at-reads.Learnt,
+  echo-one-below t,
+  echo-one.Post,
+  echo-two-below t,
+  echo-two.Post,
+  byte-reads.Asked,
+  byte-reads.Learnt,
+  echo-node-below t,
+  echo-node.Post,
+  echo-levels-below t,
+  echo-levels.Post,
+  echo-args-below t,
+  echo-args.Post,
+) (echo-node-at t) echo-node.Post
+echo-node-head-requires t c κs = (c .before .before .before .before .before .before .before .pre .1, (omega (arith, c .before .before .before .if1 .left, c .before .before .before .before .count .ensures)), none-asked _ _ _ _ (c .before .before .refused-here .ensures) (c .before .if2 .left))
+
+-- src/lib.rt:172:9
+echo-node-operands-at-requires : (t : ℕ) → echo-node-lts.Need-operands-at-requires (
+  count-reads.Asked,
+  count-reads.Learnt,
+  refused-here-reads.Asked,
+  refused-here-reads.Learnt,
+  head-reads.Asked,
+  head-reads.Learnt,
+  operands-at-reads.Asked,
+  operands-at-reads.Learnt,
+  echo-one-below t,
+  echo-one.Post,
+  echo-two-below t,
+  echo-two.Post,
+  byte-reads.Asked,
+  byte-reads.Learnt,
+  echo-node-below t,
+  echo-node.Post,
+  echo-levels-below t,
+  echo-levels.Post,
+  echo-args-below t,
+  echo-args.Post,
+) (echo-node-at t) echo-node.Post
+echo-node-operands-at-requires t c κs = node-count _ _ (c .before .before .before .before .before .before .before .before .before .before .pre .1) _ (omega (arith, c .before .before .before .before .before .before .if1 .left, c .before .before .before .before .before .before .before .count .ensures))
+
+-- src/lib.rt:174:23
+echo-node-enum-told : (t : ℕ) → echo-node-lts.Need-enum-told (
+  count-reads.Asked,
+  count-reads.Learnt,
+  refused-here-reads.Asked,
+  refused-here-reads.Learnt,
+  head-reads.Asked,
+  head-reads.Learnt,
+  operands-at-reads.Asked,
+  operands-at-reads.Learnt,
+  echo-one-below t,
+  echo-one.Post,
+  echo-two-below t,
+  echo-two.Post,
+  byte-reads.Asked,
+  byte-reads.Learnt,
+  echo-node-below t,
+  echo-node.Post,
+  echo-levels-below t,
+  echo-levels.Post,
+  echo-args-below t,
+  echo-args.Post,
+) (echo-node-at t) echo-node.Post
+echo-node-enum-told t c = search needs
+
+-- src/lib.rt:175:19
+echo-node-enum-known-f : (t : ℕ) → echo-node-lts.Need-enum-known-f (
+  count-reads.Asked,
+  count-reads.Learnt,
+  refused-here-reads.Asked,
+  refused-here-reads.Learnt,
+  head-reads.Asked,
+  head-reads.Learnt,
+  operands-at-reads.Asked,
+  operands-at-reads.Learnt,
+  echo-one-below t,
+  echo-one.Post,
+  echo-two-below t,
+  echo-two.Post,
+  byte-reads.Asked,
+  byte-reads.Learnt,
+  echo-node-below t,
+  echo-node.Post,
+  echo-levels-below t,
+  echo-levels.Post,
+  echo-args-below t,
+  echo-args.Post,
+) (echo-node-at t) echo-node.Post
+echo-node-enum-known-f t c = search needs
+
+-- src/lib.rt:175:28
+echo-node-echo-one-requires : (t : ℕ) → echo-node-lts.Need-echo-one-requires (
+  count-reads.Asked,
+  count-reads.Learnt,
+  refused-here-reads.Asked,
+  refused-here-reads.Learnt,
+  head-reads.Asked,
+  head-reads.Learnt,
+  operands-at-reads.Asked,
+  operands-at-reads.Learnt,
+  echo-one-below t,
+  echo-one.Post,
+  echo-two-below t,
+  echo-two.Post,
+  byte-reads.Asked,
+  byte-reads.Learnt,
+  echo-node-below t,
+  echo-node.Post,
+  echo-levels-below t,
+  echo-levels.Post,
+  echo-args-below t,
+  echo-args.Post,
+) (echo-node-at t) echo-node.Post
+echo-node-echo-one-requires t c κs = (inside _ _ (c .before .before .before .before .before .before .before .before .before .before .before .before .before .before .before .pre .0) (omega arith), (c .before .before .before .before .before .before .before .before .before .before .before .before .before .before .before .pre .1, form-below _ _ (c .before .before .before .before .before .before .before .before .before .before .before .before .before .before .before .pre .1) _ (omega (arith, c .before .before .before .before .before .before .before .before .before .before .before .if1 .left, c .before .before .before .before .before .before .before .before .before .before .before .before .count .ensures)) (sym (c .before .before .f .given .1) ∙ c .before .before .before .before .operands-at .ensures)))
+
+-- src/lib.rt:176:19
+echo-node-enum-known-f-2 : (t : ℕ) → echo-node-lts.Need-enum-known-f-2 (
+  count-reads.Asked,
+  count-reads.Learnt,
+  refused-here-reads.Asked,
+  refused-here-reads.Learnt,
+  head-reads.Asked,
+  head-reads.Learnt,
+  operands-at-reads.Asked,
+  operands-at-reads.Learnt,
+  echo-one-below t,
+  echo-one.Post,
+  echo-two-below t,
+  echo-two.Post,
+  byte-reads.Asked,
+  byte-reads.Learnt,
+  echo-node-below t,
+  echo-node.Post,
+  echo-levels-below t,
+  echo-levels.Post,
+  echo-args-below t,
+  echo-args.Post,
+) (echo-node-at t) echo-node.Post
+echo-node-enum-known-f-2 t c = search needs
+
+-- src/lib.rt:176:31
+echo-node-echo-two-requires : (t : ℕ) → echo-node-lts.Need-echo-two-requires (
+  count-reads.Asked,
+  count-reads.Learnt,
+  refused-here-reads.Asked,
+  refused-here-reads.Learnt,
+  head-reads.Asked,
+  head-reads.Learnt,
+  operands-at-reads.Asked,
+  operands-at-reads.Learnt,
+  echo-one-below t,
+  echo-one.Post,
+  echo-two-below t,
+  echo-two.Post,
+  byte-reads.Asked,
+  byte-reads.Learnt,
+  echo-node-below t,
+  echo-node.Post,
+  echo-levels-below t,
+  echo-levels.Post,
+  echo-args-below t,
+  echo-args.Post,
+) (echo-node-at t) echo-node.Post
+echo-node-echo-two-requires t c κs = (inside _ _ (c .before .before .before .before .before .before .before .before .before .before .before .before .before .before .before .pre .0) (omega arith), (c .before .before .before .before .before .before .before .before .before .before .before .before .before .before .before .pre .1, (form-below _ _ (c .before .before .before .before .before .before .before .before .before .before .before .before .before .before .before .pre .1) _ (omega (arith, c .before .before .before .before .before .before .before .before .before .before .before .if1 .left, c .before .before .before .before .before .before .before .before .before .before .before .before .count .ensures)) (sym (c .before .before .f2 .given .1) ∙ c .before .before .before .before .operands-at .ensures)) .0, (form-below _ _ (c .before .before .before .before .before .before .before .before .before .before .before .before .before .before .before .pre .1) _ (omega (arith, c .before .before .before .before .before .before .before .before .before .before .before .if1 .left, c .before .before .before .before .before .before .before .before .before .before .before .before .count .ensures)) (sym (c .before .before .f2 .given .1) ∙ c .before .before .before .before .operands-at .ensures)) .1))
+
+-- src/lib.rt:177:22
+echo-node-enum-known-f-3 : (t : ℕ) → echo-node-lts.Need-enum-known-f-3 (
+  count-reads.Asked,
+  count-reads.Learnt,
+  refused-here-reads.Asked,
+  refused-here-reads.Learnt,
+  head-reads.Asked,
+  head-reads.Learnt,
+  operands-at-reads.Asked,
+  operands-at-reads.Learnt,
+  echo-one-below t,
+  echo-one.Post,
+  echo-two-below t,
+  echo-two.Post,
+  byte-reads.Asked,
+  byte-reads.Learnt,
+  echo-node-below t,
+  echo-node.Post,
+  echo-levels-below t,
+  echo-levels.Post,
+  echo-args-below t,
+  echo-args.Post,
+) (echo-node-at t) echo-node.Post
+echo-node-enum-known-f-3 t c = search needs
+
+-- src/lib.rt:178:17
+echo-node-byte-requires : (t : ℕ) → echo-node-lts.Need-byte-requires (
+  count-reads.Asked,
+  count-reads.Learnt,
+  refused-here-reads.Asked,
+  refused-here-reads.Learnt,
+  head-reads.Asked,
+  head-reads.Learnt,
+  operands-at-reads.Asked,
+  operands-at-reads.Learnt,
+  echo-one-below t,
+  echo-one.Post,
+  echo-two-below t,
+  echo-two.Post,
+  byte-reads.Asked,
+  byte-reads.Learnt,
+  echo-node-below t,
+  echo-node.Post,
+  echo-levels-below t,
+  echo-levels.Post,
+  echo-args-below t,
+  echo-args.Post,
+) (echo-node-at t) echo-node.Post
+echo-node-byte-requires t c κs = search needs
+
+-- src/lib.rt:179:19
+echo-node-echo-node-requires : (t : ℕ) → echo-node-lts.Need-echo-node-requires (
+  count-reads.Asked,
+  count-reads.Learnt,
+  refused-here-reads.Asked,
+  refused-here-reads.Learnt,
+  head-reads.Asked,
+  head-reads.Learnt,
+  operands-at-reads.Asked,
+  operands-at-reads.Learnt,
+  echo-one-below t,
+  echo-one.Post,
+  echo-two-below t,
+  echo-two.Post,
+  byte-reads.Asked,
+  byte-reads.Learnt,
+  echo-node-below t,
+  echo-node.Post,
+  echo-levels-below t,
+  echo-levels.Post,
+  echo-args-below t,
+  echo-args.Post,
+) (echo-node-at t) echo-node.Post
+echo-node-echo-node-requires t c κs = (below _ _ _ (c .before .before .before .before .before .before .before .before .before .before .before .before .before .before .before .before .before .before .before .pre .0) ((form-below _ _ (c .before .before .before .before .before .before .before .before .before .before .before .before .before .before .before .before .before .before .before .pre .1) _ (omega (arith, c .before .before .before .before .before .before .before .before .before .before .before .before .before .before .before .if1 .left, c .before .before .before .before .before .before .before .before .before .before .before .before .before .before .before .before .count .ensures)) (sym (c .before .before .before .before .before .before .f3 .given .1) ∙ c .before .before .before .before .before .before .before .before .operands-at .ensures)) .0), c .before .before .before .before .before .before .before .before .before .before .before .before .before .before .before .before .before .before .before .pre .1)
+
+-- src/lib.rt:180:30
+echo-node-enum-known-x : (t : ℕ) → echo-node-lts.Need-enum-known-x (
+  count-reads.Asked,
+  count-reads.Learnt,
+  refused-here-reads.Asked,
+  refused-here-reads.Learnt,
+  head-reads.Asked,
+  head-reads.Learnt,
+  operands-at-reads.Asked,
+  operands-at-reads.Learnt,
+  echo-one-below t,
+  echo-one.Post,
+  echo-two-below t,
+  echo-two.Post,
+  byte-reads.Asked,
+  byte-reads.Learnt,
+  echo-node-below t,
+  echo-node.Post,
+  echo-levels-below t,
+  echo-levels.Post,
+  echo-args-below t,
+  echo-args.Post,
+) (echo-node-at t) echo-node.Post
+echo-node-enum-known-x t c = search needs
+
+-- src/lib.rt:181:27
+echo-node-enum-known-s : (t : ℕ) → echo-node-lts.Need-enum-known-s (
+  count-reads.Asked,
+  count-reads.Learnt,
+  refused-here-reads.Asked,
+  refused-here-reads.Learnt,
+  head-reads.Asked,
+  head-reads.Learnt,
+  operands-at-reads.Asked,
+  operands-at-reads.Learnt,
+  echo-one-below t,
+  echo-one.Post,
+  echo-two-below t,
+  echo-two.Post,
+  byte-reads.Asked,
+  byte-reads.Learnt,
+  echo-node-below t,
+  echo-node.Post,
+  echo-levels-below t,
+  echo-levels.Post,
+  echo-args-below t,
+  echo-args.Post,
+) (echo-node-at t) echo-node.Post
+echo-node-enum-known-s t c = search needs
+
+-- src/lib.rt:181:33
+echo-node-echo-two-requires-2 : (t : ℕ) → echo-node-lts.Need-echo-two-requires-2 (
+  count-reads.Asked,
+  count-reads.Learnt,
+  refused-here-reads.Asked,
+  refused-here-reads.Learnt,
+  head-reads.Asked,
+  head-reads.Learnt,
+  operands-at-reads.Asked,
+  operands-at-reads.Learnt,
+  echo-one-below t,
+  echo-one.Post,
+  echo-two-below t,
+  echo-two.Post,
+  byte-reads.Asked,
+  byte-reads.Learnt,
+  echo-node-below t,
+  echo-node.Post,
+  echo-levels-below t,
+  echo-levels.Post,
+  echo-args-below t,
+  echo-args.Post,
+) (echo-node-at t) echo-node.Post
+echo-node-echo-two-requires-2 t c κs = (inside _ _ (c .before .before .before .before .before .before .before .before .before .before .before .before .before .before .before .before .before .before .before .before .before .before .before .before .before .before .pre .0) (omega arith), (c .before .before .before .before .before .before .before .before .before .before .before .before .before .before .before .before .before .before .before .before .before .before .before .before .before .before .pre .1, (form-below _ _ (c .before .before .before .before .before .before .before .before .before .before .before .before .before .before .before .before .before .before .before .before .before .before .before .before .before .before .pre .1) _ (omega (arith, c .before .before .before .before .before .before .before .before .before .before .before .before .before .before .before .before .before .before .before .before .before .before .if1 .left, c .before .before .before .before .before .before .before .before .before .before .before .before .before .before .before .before .before .before .before .before .before .before .before .count .ensures)) (sym (c .before .before .before .before .before .before .before .before .before .before .before .before .before .f3 .given .1) ∙ c .before .before .before .before .before .before .before .before .before .before .before .before .before .before .before .operands-at .ensures)) .1, (form-below _ _ (c .before .before .before .before .before .before .before .before .before .before .before .before .before .before .before .before .before .before .before .before .before .before .before .before .before .before .pre .1) _ (omega (arith, c .before .before .before .before .before .before .before .before .before .before .before .before .before .before .before .before .before .before .before .before .before .before .if1 .left, c .before .before .before .before .before .before .before .before .before .before .before .before .before .before .before .before .before .before .before .before .before .before .before .count .ensures)) (sym (c .before .before .before .before .before .before .before .before .before .before .before .before .before .f3 .given .1) ∙ c .before .before .before .before .before .before .before .before .before .before .before .before .before .before .before .operands-at .ensures)) .2))
+
+-- src/lib.rt:184:21
+echo-node-enum-known-f-4 : (t : ℕ) → echo-node-lts.Need-enum-known-f-4 (
+  count-reads.Asked,
+  count-reads.Learnt,
+  refused-here-reads.Asked,
+  refused-here-reads.Learnt,
+  head-reads.Asked,
+  head-reads.Learnt,
+  operands-at-reads.Asked,
+  operands-at-reads.Learnt,
+  echo-one-below t,
+  echo-one.Post,
+  echo-two-below t,
+  echo-two.Post,
+  byte-reads.Asked,
+  byte-reads.Learnt,
+  echo-node-below t,
+  echo-node.Post,
+  echo-levels-below t,
+  echo-levels.Post,
+  echo-args-below t,
+  echo-args.Post,
+) (echo-node-at t) echo-node.Post
+echo-node-enum-known-f-4 t c = search needs
+
+-- src/lib.rt:185:19
+echo-node-echo-levels-requires : (t : ℕ) → echo-node-lts.Need-echo-levels-requires (
+  count-reads.Asked,
+  count-reads.Learnt,
+  refused-here-reads.Asked,
+  refused-here-reads.Learnt,
+  head-reads.Asked,
+  head-reads.Learnt,
+  operands-at-reads.Asked,
+  operands-at-reads.Learnt,
+  echo-one-below t,
+  echo-one.Post,
+  echo-two-below t,
+  echo-two.Post,
+  byte-reads.Asked,
+  byte-reads.Learnt,
+  echo-node-below t,
+  echo-node.Post,
+  echo-levels-below t,
+  echo-levels.Post,
+  echo-args-below t,
+  echo-args.Post,
+) (echo-node-at t) echo-node.Post
+echo-node-echo-levels-requires t c κs = (inside _ _ (c .before .before .before .before .before .before .before .before .before .before .before .before .before .before .before .pre .0) (omega arith), (c .before .before .before .before .before .before .before .before .before .before .before .before .before .before .before .pre .1, (form-below _ _ (c .before .before .before .before .before .before .before .before .before .before .before .before .before .before .before .pre .1) _ (omega (arith, c .before .before .before .before .before .before .before .before .before .before .before .if1 .left, c .before .before .before .before .before .before .before .before .before .before .before .before .count .ensures)) (sym (c .before .before .f4 .given .1) ∙ c .before .before .before .before .operands-at .ensures)) .1))
+
+-- src/lib.rt:186:30
+echo-node-enum-known-x-2 : (t : ℕ) → echo-node-lts.Need-enum-known-x-2 (
+  count-reads.Asked,
+  count-reads.Learnt,
+  refused-here-reads.Asked,
+  refused-here-reads.Learnt,
+  head-reads.Asked,
+  head-reads.Learnt,
+  operands-at-reads.Asked,
+  operands-at-reads.Learnt,
+  echo-one-below t,
+  echo-one.Post,
+  echo-two-below t,
+  echo-two.Post,
+  byte-reads.Asked,
+  byte-reads.Learnt,
+  echo-node-below t,
+  echo-node.Post,
+  echo-levels-below t,
+  echo-levels.Post,
+  echo-args-below t,
+  echo-args.Post,
+) (echo-node-at t) echo-node.Post
+echo-node-enum-known-x-2 t c = search needs
+
+-- src/lib.rt:187:27
+echo-node-enum-known-r : (t : ℕ) → echo-node-lts.Need-enum-known-r (
+  count-reads.Asked,
+  count-reads.Learnt,
+  refused-here-reads.Asked,
+  refused-here-reads.Learnt,
+  head-reads.Asked,
+  head-reads.Learnt,
+  operands-at-reads.Asked,
+  operands-at-reads.Learnt,
+  echo-one-below t,
+  echo-one.Post,
+  echo-two-below t,
+  echo-two.Post,
+  byte-reads.Asked,
+  byte-reads.Learnt,
+  echo-node-below t,
+  echo-node.Post,
+  echo-levels-below t,
+  echo-levels.Post,
+  echo-args-below t,
+  echo-args.Post,
+) (echo-node-at t) echo-node.Post
+echo-node-enum-known-r t c = search needs
+
+-- src/lib.rt:187:33
+echo-node-echo-one-requires-2 : (t : ℕ) → echo-node-lts.Need-echo-one-requires-2 (
+  count-reads.Asked,
+  count-reads.Learnt,
+  refused-here-reads.Asked,
+  refused-here-reads.Learnt,
+  head-reads.Asked,
+  head-reads.Learnt,
+  operands-at-reads.Asked,
+  operands-at-reads.Learnt,
+  echo-one-below t,
+  echo-one.Post,
+  echo-two-below t,
+  echo-two.Post,
+  byte-reads.Asked,
+  byte-reads.Learnt,
+  echo-node-below t,
+  echo-node.Post,
+  echo-levels-below t,
+  echo-levels.Post,
+  echo-args-below t,
+  echo-args.Post,
+) (echo-node-at t) echo-node.Post
+echo-node-echo-one-requires-2 t c κs = (inside _ _ (c .before .before .before .before .before .before .before .before .before .before .before .before .before .before .before .before .before .before .before .before .before .before .pre .0) (omega arith), (c .before .before .before .before .before .before .before .before .before .before .before .before .before .before .before .before .before .before .before .before .before .before .pre .1, (form-below _ _ (c .before .before .before .before .before .before .before .before .before .before .before .before .before .before .before .before .before .before .before .before .before .before .pre .1) _ (omega (arith, c .before .before .before .before .before .before .before .before .before .before .before .before .before .before .before .before .before .before .if1 .left, c .before .before .before .before .before .before .before .before .before .before .before .before .before .before .before .before .before .before .before .count .ensures)) (sym (c .before .before .before .before .before .before .before .before .before .f4 .given .1) ∙ c .before .before .before .before .before .before .before .before .before .before .before .operands-at .ensures)) .0))
+
+-- src/lib.rt:190:25
+echo-node-enum-known-f-5 : (t : ℕ) → echo-node-lts.Need-enum-known-f-5 (
+  count-reads.Asked,
+  count-reads.Learnt,
+  refused-here-reads.Asked,
+  refused-here-reads.Learnt,
+  head-reads.Asked,
+  head-reads.Learnt,
+  operands-at-reads.Asked,
+  operands-at-reads.Learnt,
+  echo-one-below t,
+  echo-one.Post,
+  echo-two-below t,
+  echo-two.Post,
+  byte-reads.Asked,
+  byte-reads.Learnt,
+  echo-node-below t,
+  echo-node.Post,
+  echo-levels-below t,
+  echo-levels.Post,
+  echo-args-below t,
+  echo-args.Post,
+) (echo-node-at t) echo-node.Post
+echo-node-enum-known-f-5 t c = search needs
+
+-- src/lib.rt:190:34
+echo-node-echo-args-requires : (t : ℕ) → echo-node-lts.Need-echo-args-requires (
+  count-reads.Asked,
+  count-reads.Learnt,
+  refused-here-reads.Asked,
+  refused-here-reads.Learnt,
+  head-reads.Asked,
+  head-reads.Learnt,
+  operands-at-reads.Asked,
+  operands-at-reads.Learnt,
+  echo-one-below t,
+  echo-one.Post,
+  echo-two-below t,
+  echo-two.Post,
+  byte-reads.Asked,
+  byte-reads.Learnt,
+  echo-node-below t,
+  echo-node.Post,
+  echo-levels-below t,
+  echo-levels.Post,
+  echo-args-below t,
+  echo-args.Post,
+) (echo-node-at t) echo-node.Post
+echo-node-echo-args-requires t c κs = (inside _ _ (c .before .before .before .before .before .before .before .before .before .before .before .before .before .before .before .pre .0) (omega arith), (c .before .before .before .before .before .before .before .before .before .before .before .before .before .before .before .pre .1, form-below _ _ (c .before .before .before .before .before .before .before .before .before .before .before .before .before .before .before .pre .1) _ (omega (arith, c .before .before .before .before .before .before .before .before .before .before .before .if1 .left, c .before .before .before .before .before .before .before .before .before .before .before .before .count .ensures)) (sym (c .before .before .f5 .given .1) ∙ c .before .before .before .before .operands-at .ensures)))
+
+-- src/lib.rt:159:1
+echo-node-same-length : (t : ℕ) → echo-node-lts.Need-same-length (
+  count-reads.Asked,
+  count-reads.Learnt,
+  refused-here-reads.Asked,
+  refused-here-reads.Learnt,
+  head-reads.Asked,
+  head-reads.Learnt,
+  operands-at-reads.Asked,
+  operands-at-reads.Learnt,
+  echo-one-below t,
+  echo-one.Post,
+  echo-two-below t,
+  echo-two.Post,
+  byte-reads.Asked,
+  byte-reads.Learnt,
+  echo-node-below t,
+  echo-node.Post,
+  echo-levels-below t,
+  echo-levels.Post,
+  echo-args-below t,
+  echo-args.Post,
+) (echo-node-at t) echo-node.Post
+echo-node-same-length t c = search needs
+
+-- src/lib.rt:159:1
+echo-node-returns-3 : (t : ℕ) → echo-node-lts.Need-returns-3 (
+  count-reads.Asked,
+  count-reads.Learnt,
+  refused-here-reads.Asked,
+  refused-here-reads.Learnt,
+  head-reads.Asked,
+  head-reads.Learnt,
+  operands-at-reads.Asked,
+  operands-at-reads.Learnt,
+  echo-one-below t,
+  echo-one.Post,
+  echo-two-below t,
+  echo-two.Post,
+  byte-reads.Asked,
+  byte-reads.Learnt,
+  echo-node-below t,
+  echo-node.Post,
+  echo-levels-below t,
+  echo-levels.Post,
+  echo-args-below t,
+  echo-args.Post,
+) (echo-node-at t) echo-node.Post
+echo-node-returns-3 t c = node-leaf _ _ (c .before .before .before .before .before .before .before .before .before .before .before .before .before .pre .1) _ _ (omega (arith, c .before .before .before .before .before .before .before .before .before .if1 .left, c .before .before .before .before .before .before .before .before .before .before .count .ensures)) (c .before .before .before .before .before .before .before .before .refused-here .ensures) (c .before .before .before .before .before .before .before .if2 .left) (sym (c .enum-told .given .1) ∙ c .before .before .operands-at .ensures) (c .before .before .before .before .before .head .ensures)
+
+-- src/lib.rt:159:1
+echo-node-same-length-2 : (t : ℕ) → echo-node-lts.Need-same-length-2 (
+  count-reads.Asked,
+  count-reads.Learnt,
+  refused-here-reads.Asked,
+  refused-here-reads.Learnt,
+  head-reads.Asked,
+  head-reads.Learnt,
+  operands-at-reads.Asked,
+  operands-at-reads.Learnt,
+  echo-one-below t,
+  echo-one.Post,
+  echo-two-below t,
+  echo-two.Post,
+  byte-reads.Asked,
+  byte-reads.Learnt,
+  echo-node-below t,
+  echo-node.Post,
+  echo-levels-below t,
+  echo-levels.Post,
+  echo-args-below t,
+  echo-args.Post,
+) (echo-node-at t) echo-node.Post
+echo-node-same-length-2 t c = search needs
+
+-- src/lib.rt:159:1
+echo-node-returns-4 : (t : ℕ) → echo-node-lts.Need-returns-4 (
+  count-reads.Asked,
+  count-reads.Learnt,
+  refused-here-reads.Asked,
+  refused-here-reads.Learnt,
+  head-reads.Asked,
+  head-reads.Learnt,
+  operands-at-reads.Asked,
+  operands-at-reads.Learnt,
+  echo-one-below t,
+  echo-one.Post,
+  echo-two-below t,
+  echo-two.Post,
+  byte-reads.Asked,
+  byte-reads.Learnt,
+  echo-node-below t,
+  echo-node.Post,
+  echo-levels-below t,
+  echo-levels.Post,
+  echo-args-below t,
+  echo-args.Post,
+) (echo-node-at t) echo-node.Post
+unfolding formText
+echo-node-returns-4 t c = node-in _ _ (c .before .before .before .before .before .before .before .before .before .before .before .before .before .before .before .before .before .before .pre .1) _ _ (omega (arith, c .before .before .before .before .before .before .before .before .before .before .before .before .before .before .if1 .left, c .before .before .before .before .before .before .before .before .before .before .before .before .before .before .before .count .ensures)) (c .before .before .before .before .before .before .before .before .before .before .before .before .before .refused-here .ensures) (c .before .before .before .before .before .before .before .before .before .before .before .before .if2 .left) (sym (c .before .before .before .before .before .f .given .1) ∙ c .before .before .before .before .before .before .before .operands-at .ensures) (c .before .before .before .before .before .before .before .before .before .before .head .ensures) (c .before .before .echo-one .ensures)
+
+-- src/lib.rt:159:1
+echo-node-same-length-3 : (t : ℕ) → echo-node-lts.Need-same-length-3 (
+  count-reads.Asked,
+  count-reads.Learnt,
+  refused-here-reads.Asked,
+  refused-here-reads.Learnt,
+  head-reads.Asked,
+  head-reads.Learnt,
+  operands-at-reads.Asked,
+  operands-at-reads.Learnt,
+  echo-one-below t,
+  echo-one.Post,
+  echo-two-below t,
+  echo-two.Post,
+  byte-reads.Asked,
+  byte-reads.Learnt,
+  echo-node-below t,
+  echo-node.Post,
+  echo-levels-below t,
+  echo-levels.Post,
+  echo-args-below t,
+  echo-args.Post,
+) (echo-node-at t) echo-node.Post
+echo-node-same-length-3 t c = search needs
+
+-- src/lib.rt:159:1
+echo-node-returns-5 : (t : ℕ) → echo-node-lts.Need-returns-5 (
+  count-reads.Asked,
+  count-reads.Learnt,
+  refused-here-reads.Asked,
+  refused-here-reads.Learnt,
+  head-reads.Asked,
+  head-reads.Learnt,
+  operands-at-reads.Asked,
+  operands-at-reads.Learnt,
+  echo-one-below t,
+  echo-one.Post,
+  echo-two-below t,
+  echo-two.Post,
+  byte-reads.Asked,
+  byte-reads.Learnt,
+  echo-node-below t,
+  echo-node.Post,
+  echo-levels-below t,
+  echo-levels.Post,
+  echo-args-below t,
+  echo-args.Post,
+) (echo-node-at t) echo-node.Post
+unfolding formText
+echo-node-returns-5 t c = node-in _ _ (c .before .before .before .before .before .before .before .before .before .before .before .before .before .before .before .before .before .before .pre .1) _ _ (omega (arith, c .before .before .before .before .before .before .before .before .before .before .before .before .before .before .if1 .left, c .before .before .before .before .before .before .before .before .before .before .before .before .before .before .before .count .ensures)) (c .before .before .before .before .before .before .before .before .before .before .before .before .before .refused-here .ensures) (c .before .before .before .before .before .before .before .before .before .before .before .before .if2 .left) (sym (c .before .before .before .before .before .f2 .given .1) ∙ c .before .before .before .before .before .before .before .operands-at .ensures) (c .before .before .before .before .before .before .before .before .before .before .head .ensures) (c .before .before .echo-two .ensures)
+
+-- src/lib.rt:159:1
+echo-node-same-length-4 : (t : ℕ) → echo-node-lts.Need-same-length-4 (
+  count-reads.Asked,
+  count-reads.Learnt,
+  refused-here-reads.Asked,
+  refused-here-reads.Learnt,
+  head-reads.Asked,
+  head-reads.Learnt,
+  operands-at-reads.Asked,
+  operands-at-reads.Learnt,
+  echo-one-below t,
+  echo-one.Post,
+  echo-two-below t,
+  echo-two.Post,
+  byte-reads.Asked,
+  byte-reads.Learnt,
+  echo-node-below t,
+  echo-node.Post,
+  echo-levels-below t,
+  echo-levels.Post,
+  echo-args-below t,
+  echo-args.Post,
+) (echo-node-at t) echo-node.Post
+echo-node-same-length-4 t c = search needs
+
+-- src/lib.rt:159:1
+echo-node-returns-6 : (t : ℕ) → echo-node-lts.Need-returns-6 (
+  count-reads.Asked,
+  count-reads.Learnt,
+  refused-here-reads.Asked,
+  refused-here-reads.Learnt,
+  head-reads.Asked,
+  head-reads.Learnt,
+  operands-at-reads.Asked,
+  operands-at-reads.Learnt,
+  echo-one-below t,
+  echo-one.Post,
+  echo-two-below t,
+  echo-two.Post,
+  byte-reads.Asked,
+  byte-reads.Learnt,
+  echo-node-below t,
+  echo-node.Post,
+  echo-levels-below t,
+  echo-levels.Post,
+  echo-args-below t,
+  echo-args.Post,
+) (echo-node-at t) echo-node.Post
+unfolding formText
+echo-node-returns-6 t c = node-in _ _ (c .before .before .before .before .before .before .before .before .before .before .before .before .before .before .before .before .before .before .before .before .before .before .before .before .before .pre .1) _ _ (omega (arith, c .before .before .before .before .before .before .before .before .before .before .before .before .before .before .before .before .before .before .before .before .before .if1 .left, c .before .before .before .before .before .before .before .before .before .before .before .before .before .before .before .before .before .before .before .before .before .before .count .ensures)) (c .before .before .before .before .before .before .before .before .before .before .before .before .before .before .before .before .before .before .before .before .refused-here .ensures) (c .before .before .before .before .before .before .before .before .before .before .before .before .before .before .before .before .before .before .before .if2 .left) (sym (c .before .before .before .before .before .before .before .before .before .before .before .before .f3 .given .1) ∙ c .before .before .before .before .before .before .before .before .before .before .before .before .before .before .operands-at .ensures) (c .before .before .before .before .before .before .before .before .before .before .before .before .before .before .before .before .before .head .ensures) (blank-then _ (c .before .before .before .before .before .before .before .before .before .byte .ensures) (stop _ _ (c .before .before .before .before .before .echo-node .ensures) (c .before .x .given .1)))
+
+-- src/lib.rt:159:1
+echo-node-same-length-5 : (t : ℕ) → echo-node-lts.Need-same-length-5 (
+  count-reads.Asked,
+  count-reads.Learnt,
+  refused-here-reads.Asked,
+  refused-here-reads.Learnt,
+  head-reads.Asked,
+  head-reads.Learnt,
+  operands-at-reads.Asked,
+  operands-at-reads.Learnt,
+  echo-one-below t,
+  echo-one.Post,
+  echo-two-below t,
+  echo-two.Post,
+  byte-reads.Asked,
+  byte-reads.Learnt,
+  echo-node-below t,
+  echo-node.Post,
+  echo-levels-below t,
+  echo-levels.Post,
+  echo-args-below t,
+  echo-args.Post,
+) (echo-node-at t) echo-node.Post
+echo-node-same-length-5 t c = search needs
+
+-- src/lib.rt:159:1
+echo-node-returns-7 : (t : ℕ) → echo-node-lts.Need-returns-7 (
+  count-reads.Asked,
+  count-reads.Learnt,
+  refused-here-reads.Asked,
+  refused-here-reads.Learnt,
+  head-reads.Asked,
+  head-reads.Learnt,
+  operands-at-reads.Asked,
+  operands-at-reads.Learnt,
+  echo-one-below t,
+  echo-one.Post,
+  echo-two-below t,
+  echo-two.Post,
+  byte-reads.Asked,
+  byte-reads.Learnt,
+  echo-node-below t,
+  echo-node.Post,
+  echo-levels-below t,
+  echo-levels.Post,
+  echo-args-below t,
+  echo-args.Post,
+) (echo-node-at t) echo-node.Post
+unfolding formText
+echo-node-returns-7 t c = node-in _ _ (c .before .before .before .before .before .before .before .before .before .before .before .before .before .before .before .before .before .before .before .before .before .before .before .before .before .before .before .before .before .pre .1) _ _ (omega (arith, c .before .before .before .before .before .before .before .before .before .before .before .before .before .before .before .before .before .before .before .before .before .before .before .before .before .if1 .left, c .before .before .before .before .before .before .before .before .before .before .before .before .before .before .before .before .before .before .before .before .before .before .before .before .before .before .count .ensures)) (c .before .before .before .before .before .before .before .before .before .before .before .before .before .before .before .before .before .before .before .before .before .before .before .before .refused-here .ensures) (c .before .before .before .before .before .before .before .before .before .before .before .before .before .before .before .before .before .before .before .before .before .before .before .if2 .left) (sym (c .before .before .before .before .before .before .before .before .before .before .before .before .before .before .before .before .f3 .given .1) ∙ c .before .before .before .before .before .before .before .before .before .before .before .before .before .before .before .before .before .before .operands-at .ensures) (c .before .before .before .before .before .before .before .before .before .before .before .before .before .before .before .before .before .before .before .before .before .head .ensures) (blank-then _ (c .before .before .before .before .before .before .before .before .before .before .before .before .before .byte .ensures) (both _ _ (c .before .before .before .before .before .before .before .before .before .echo-node .ensures) (c .before .before .before .before .before .s .given .1) (c .before .before .echo-two2 .ensures)))
+
+-- src/lib.rt:159:1
+echo-node-same-length-6 : (t : ℕ) → echo-node-lts.Need-same-length-6 (
+  count-reads.Asked,
+  count-reads.Learnt,
+  refused-here-reads.Asked,
+  refused-here-reads.Learnt,
+  head-reads.Asked,
+  head-reads.Learnt,
+  operands-at-reads.Asked,
+  operands-at-reads.Learnt,
+  echo-one-below t,
+  echo-one.Post,
+  echo-two-below t,
+  echo-two.Post,
+  byte-reads.Asked,
+  byte-reads.Learnt,
+  echo-node-below t,
+  echo-node.Post,
+  echo-levels-below t,
+  echo-levels.Post,
+  echo-args-below t,
+  echo-args.Post,
+) (echo-node-at t) echo-node.Post
+echo-node-same-length-6 t c = search needs
+
+-- src/lib.rt:159:1
+echo-node-returns-8 : (t : ℕ) → echo-node-lts.Need-returns-8 (
+  count-reads.Asked,
+  count-reads.Learnt,
+  refused-here-reads.Asked,
+  refused-here-reads.Learnt,
+  head-reads.Asked,
+  head-reads.Learnt,
+  operands-at-reads.Asked,
+  operands-at-reads.Learnt,
+  echo-one-below t,
+  echo-one.Post,
+  echo-two-below t,
+  echo-two.Post,
+  byte-reads.Asked,
+  byte-reads.Learnt,
+  echo-node-below t,
+  echo-node.Post,
+  echo-levels-below t,
+  echo-levels.Post,
+  echo-args-below t,
+  echo-args.Post,
+) (echo-node-at t) echo-node.Post
+unfolding formText
+echo-node-returns-8 t c = node-in _ _ (c .before .before .before .before .before .before .before .before .before .before .before .before .before .before .before .before .before .before .before .before .before .pre .1) _ _ (omega (arith, c .before .before .before .before .before .before .before .before .before .before .before .before .before .before .before .before .before .if1 .left, c .before .before .before .before .before .before .before .before .before .before .before .before .before .before .before .before .before .before .count .ensures)) (c .before .before .before .before .before .before .before .before .before .before .before .before .before .before .before .before .refused-here .ensures) (c .before .before .before .before .before .before .before .before .before .before .before .before .before .before .before .if2 .left) (sym (c .before .before .before .before .before .before .before .before .f4 .given .1) ∙ c .before .before .before .before .before .before .before .before .before .before .operands-at .ensures) (c .before .before .before .before .before .before .before .before .before .before .before .before .before .head .ensures) (stop _ _ (c .before .before .before .before .before .echo-levels .ensures) (c .before .x2 .given .1))
+
+-- src/lib.rt:159:1
+echo-node-same-length-7 : (t : ℕ) → echo-node-lts.Need-same-length-7 (
+  count-reads.Asked,
+  count-reads.Learnt,
+  refused-here-reads.Asked,
+  refused-here-reads.Learnt,
+  head-reads.Asked,
+  head-reads.Learnt,
+  operands-at-reads.Asked,
+  operands-at-reads.Learnt,
+  echo-one-below t,
+  echo-one.Post,
+  echo-two-below t,
+  echo-two.Post,
+  byte-reads.Asked,
+  byte-reads.Learnt,
+  echo-node-below t,
+  echo-node.Post,
+  echo-levels-below t,
+  echo-levels.Post,
+  echo-args-below t,
+  echo-args.Post,
+) (echo-node-at t) echo-node.Post
+echo-node-same-length-7 t c = search needs
+
+-- src/lib.rt:159:1
+echo-node-returns-9 : (t : ℕ) → echo-node-lts.Need-returns-9 (
+  count-reads.Asked,
+  count-reads.Learnt,
+  refused-here-reads.Asked,
+  refused-here-reads.Learnt,
+  head-reads.Asked,
+  head-reads.Learnt,
+  operands-at-reads.Asked,
+  operands-at-reads.Learnt,
+  echo-one-below t,
+  echo-one.Post,
+  echo-two-below t,
+  echo-two.Post,
+  byte-reads.Asked,
+  byte-reads.Learnt,
+  echo-node-below t,
+  echo-node.Post,
+  echo-levels-below t,
+  echo-levels.Post,
+  echo-args-below t,
+  echo-args.Post,
+) (echo-node-at t) echo-node.Post
+unfolding formText
+echo-node-returns-9 t c = node-in _ _ (c .before .before .before .before .before .before .before .before .before .before .before .before .before .before .before .before .before .before .before .before .before .before .before .before .before .pre .1) _ _ (omega (arith, c .before .before .before .before .before .before .before .before .before .before .before .before .before .before .before .before .before .before .before .before .before .if1 .left, c .before .before .before .before .before .before .before .before .before .before .before .before .before .before .before .before .before .before .before .before .before .before .count .ensures)) (c .before .before .before .before .before .before .before .before .before .before .before .before .before .before .before .before .before .before .before .before .refused-here .ensures) (c .before .before .before .before .before .before .before .before .before .before .before .before .before .before .before .before .before .before .before .if2 .left) (sym (c .before .before .before .before .before .before .before .before .before .before .before .before .f4 .given .1) ∙ c .before .before .before .before .before .before .before .before .before .before .before .before .before .before .operands-at .ensures) (c .before .before .before .before .before .before .before .before .before .before .before .before .before .before .before .before .before .head .ensures) (both _ _ (c .before .before .before .before .before .before .before .before .before .echo-levels .ensures) (c .before .before .before .before .before .r .given .1) (c .before .before .echo-one2 .ensures))
+
+-- src/lib.rt:159:1
+echo-node-same-length-8 : (t : ℕ) → echo-node-lts.Need-same-length-8 (
+  count-reads.Asked,
+  count-reads.Learnt,
+  refused-here-reads.Asked,
+  refused-here-reads.Learnt,
+  head-reads.Asked,
+  head-reads.Learnt,
+  operands-at-reads.Asked,
+  operands-at-reads.Learnt,
+  echo-one-below t,
+  echo-one.Post,
+  echo-two-below t,
+  echo-two.Post,
+  byte-reads.Asked,
+  byte-reads.Learnt,
+  echo-node-below t,
+  echo-node.Post,
+  echo-levels-below t,
+  echo-levels.Post,
+  echo-args-below t,
+  echo-args.Post,
+) (echo-node-at t) echo-node.Post
+echo-node-same-length-8 t c = search needs
+
+-- src/lib.rt:159:1
+echo-node-returns-10 : (t : ℕ) → echo-node-lts.Need-returns-10 (
+  count-reads.Asked,
+  count-reads.Learnt,
+  refused-here-reads.Asked,
+  refused-here-reads.Learnt,
+  head-reads.Asked,
+  head-reads.Learnt,
+  operands-at-reads.Asked,
+  operands-at-reads.Learnt,
+  echo-one-below t,
+  echo-one.Post,
+  echo-two-below t,
+  echo-two.Post,
+  byte-reads.Asked,
+  byte-reads.Learnt,
+  echo-node-below t,
+  echo-node.Post,
+  echo-levels-below t,
+  echo-levels.Post,
+  echo-args-below t,
+  echo-args.Post,
+) (echo-node-at t) echo-node.Post
+unfolding formText
+echo-node-returns-10 t c = node-in _ _ (c .before .before .before .before .before .before .before .before .before .before .before .before .before .before .before .before .before .before .pre .1) _ _ (omega (arith, c .before .before .before .before .before .before .before .before .before .before .before .before .before .before .if1 .left, c .before .before .before .before .before .before .before .before .before .before .before .before .before .before .before .count .ensures)) (c .before .before .before .before .before .before .before .before .before .before .before .before .before .refused-here .ensures) (c .before .before .before .before .before .before .before .before .before .before .before .before .if2 .left) (sym (c .before .before .before .before .before .f5 .given .1) ∙ c .before .before .before .before .before .before .before .operands-at .ensures) (c .before .before .before .before .before .before .before .before .before .before .head .ensures) (c .before .before .echo-args .ensures)
+
+-- src/lib.rt:199:9
+echo-one-byte-requires : (t : ℕ) → echo-one-lts.Need-byte-requires (
+  byte-reads.Asked,
+  byte-reads.Learnt,
+  echo-node-below t,
+  echo-node.Post,
+) (echo-one-at t) echo-one.Post
+echo-one-byte-requires t c κs = search needs
+
+-- src/lib.rt:200:11
+echo-one-echo-node-requires : (t : ℕ) → echo-one-lts.Need-echo-node-requires (
+  byte-reads.Asked,
+  byte-reads.Learnt,
+  echo-node-below t,
+  echo-node.Post,
+) (echo-one-at t) echo-one.Post
+echo-one-echo-node-requires t c κs = (below _ _ _ (c .before .before .before .before .before .before .pre .0) (c .before .before .before .before .before .before .pre .1 .1), c .before .before .before .before .before .before .pre .1 .0)
+
+-- src/lib.rt:201:22
+echo-one-enum-known-e : (t : ℕ) → echo-one-lts.Need-enum-known-e (
+  byte-reads.Asked,
+  byte-reads.Learnt,
+  echo-node-below t,
+  echo-node.Post,
+) (echo-one-at t) echo-one.Post
+echo-one-enum-known-e t c = search needs
+
+-- src/lib.rt:202:19
+echo-one-enum-known-r : (t : ℕ) → echo-one-lts.Need-enum-known-r (
+  byte-reads.Asked,
+  byte-reads.Learnt,
+  echo-node-below t,
+  echo-node.Post,
+) (echo-one-at t) echo-one.Post
+echo-one-enum-known-r t c = search needs
+
+-- src/lib.rt:202:35
+echo-one-byte-requires-2 : (t : ℕ) → echo-one-lts.Need-byte-requires-2 (
+  byte-reads.Asked,
+  byte-reads.Learnt,
+  echo-node-below t,
+  echo-node.Post,
+) (echo-one-at t) echo-one.Post
+echo-one-byte-requires-2 t c κs = search needs
+
+-- src/lib.rt:195:1
+echo-one-same-length : (t : ℕ) → echo-one-lts.Need-same-length (
+  byte-reads.Asked,
+  byte-reads.Learnt,
+  echo-node-below t,
+  echo-node.Post,
+) (echo-one-at t) echo-one.Post
+echo-one-same-length t c = search needs
+
+-- src/lib.rt:195:1
+echo-one-returns : (t : ℕ) → echo-one-lts.Need-returns (
+  byte-reads.Asked,
+  byte-reads.Learnt,
+  echo-node-below t,
+  echo-node.Post,
+) (echo-one-at t) echo-one.Post
+unfolding oneText
+echo-one-returns t c = blank-then _ (c .before .before .before .before .before .before .before .before .before .byte .ensures) (stop _ _ (c .before .before .before .before .before .echo-node .ensures) (c .before .e .given .1))
+
+-- src/lib.rt:195:1
+echo-one-same-length-2 : (t : ℕ) → echo-one-lts.Need-same-length-2 (
+  byte-reads.Asked,
+  byte-reads.Learnt,
+  echo-node-below t,
+  echo-node.Post,
+) (echo-one-at t) echo-one.Post
+echo-one-same-length-2 t c = search needs
+
+-- src/lib.rt:195:1
+echo-one-returns-2 : (t : ℕ) → echo-one-lts.Need-returns-2 (
+  byte-reads.Asked,
+  byte-reads.Learnt,
+  echo-node-below t,
+  echo-node.Post,
+) (echo-one-at t) echo-one.Post
+unfolding oneText
+echo-one-returns-2 t c = blank-then _ (c .before .before .before .before .before .before .before .before .before .before .before .before .before .byte .ensures) (both _ _ (c .before .before .before .before .before .before .before .before .before .echo-node .ensures) (c .before .before .before .before .before .r .given .1) (last _ (c .before .before .byte2 .ensures)))
+
+-- src/lib.rt:211:9
+echo-two-byte-requires : (t : ℕ) → echo-two-lts.Need-byte-requires (
+  byte-reads.Asked,
+  byte-reads.Learnt,
+  echo-node-below t,
+  echo-node.Post,
+) (echo-two-at t) echo-two.Post
+echo-two-byte-requires t c κs = search needs
+
+-- src/lib.rt:212:11
+echo-two-echo-node-requires : (t : ℕ) → echo-two-lts.Need-echo-node-requires (
+  byte-reads.Asked,
+  byte-reads.Learnt,
+  echo-node-below t,
+  echo-node.Post,
+) (echo-two-at t) echo-two.Post
+echo-two-echo-node-requires t c κs = (below _ _ _ (c .before .before .before .before .before .before .pre .0) (c .before .before .before .before .before .before .pre .1 .1), c .before .before .before .before .before .before .pre .1 .0)
+
+-- src/lib.rt:213:22
+echo-two-enum-known-e : (t : ℕ) → echo-two-lts.Need-enum-known-e (
+  byte-reads.Asked,
+  byte-reads.Learnt,
+  echo-node-below t,
+  echo-node.Post,
+) (echo-two-at t) echo-two.Post
+echo-two-enum-known-e t c = search needs
+
+-- src/lib.rt:214:19
+echo-two-enum-known-r : (t : ℕ) → echo-two-lts.Need-enum-known-r (
+  byte-reads.Asked,
+  byte-reads.Learnt,
+  echo-node-below t,
+  echo-node.Post,
+) (echo-two-at t) echo-two.Post
+echo-two-enum-known-r t c = search needs
+
+-- src/lib.rt:215:17
+echo-two-byte-requires-2 : (t : ℕ) → echo-two-lts.Need-byte-requires-2 (
+  byte-reads.Asked,
+  byte-reads.Learnt,
+  echo-node-below t,
+  echo-node.Post,
+) (echo-two-at t) echo-two.Post
+echo-two-byte-requires-2 t c κs = search needs
+
+-- src/lib.rt:216:19
+echo-two-echo-node-requires-2 : (t : ℕ) → echo-two-lts.Need-echo-node-requires-2 (
+  byte-reads.Asked,
+  byte-reads.Learnt,
+  echo-node-below t,
+  echo-node.Post,
+) (echo-two-at t) echo-two.Post
+echo-two-echo-node-requires-2 t c κs = (below _ _ _ (c .before .before .before .before .before .before .before .before .before .before .before .before .before .before .before .before .before .pre .0) (c .before .before .before .before .before .before .before .before .before .before .before .before .before .before .before .before .before .pre .1 .2), c .before .before .before .before .before .before .before .before .before .before .before .before .before .before .before .before .before .pre .1 .0)
+
+-- src/lib.rt:217:30
+echo-two-enum-known-e-2 : (t : ℕ) → echo-two-lts.Need-enum-known-e-2 (
+  byte-reads.Asked,
+  byte-reads.Learnt,
+  echo-node-below t,
+  echo-node.Post,
+) (echo-two-at t) echo-two.Post
+echo-two-enum-known-e-2 t c = search needs
+
+-- src/lib.rt:218:27
+echo-two-enum-known-t : (t : ℕ) → echo-two-lts.Need-enum-known-t (
+  byte-reads.Asked,
+  byte-reads.Learnt,
+  echo-node-below t,
+  echo-node.Post,
+) (echo-two-at t) echo-two.Post
+echo-two-enum-known-t t c = search needs
+
+-- src/lib.rt:218:43
+echo-two-byte-requires-3 : (t : ℕ) → echo-two-lts.Need-byte-requires-3 (
+  byte-reads.Asked,
+  byte-reads.Learnt,
+  echo-node-below t,
+  echo-node.Post,
+) (echo-two-at t) echo-two.Post
+echo-two-byte-requires-3 t c κs = search needs
+
+-- src/lib.rt:207:1
+echo-two-same-length : (t : ℕ) → echo-two-lts.Need-same-length (
+  byte-reads.Asked,
+  byte-reads.Learnt,
+  echo-node-below t,
+  echo-node.Post,
+) (echo-two-at t) echo-two.Post
+echo-two-same-length t c = search needs
+
+-- src/lib.rt:207:1
+echo-two-returns : (t : ℕ) → echo-two-lts.Need-returns (
+  byte-reads.Asked,
+  byte-reads.Learnt,
+  echo-node-below t,
+  echo-node.Post,
+) (echo-two-at t) echo-two.Post
+unfolding twoText
+echo-two-returns t c = blank-then _ (c .before .before .before .before .before .before .before .before .before .byte .ensures) (stop _ _ (c .before .before .before .before .before .echo-node .ensures) (c .before .e .given .1))
+
+-- src/lib.rt:207:1
+echo-two-same-length-2 : (t : ℕ) → echo-two-lts.Need-same-length-2 (
+  byte-reads.Asked,
+  byte-reads.Learnt,
+  echo-node-below t,
+  echo-node.Post,
+) (echo-two-at t) echo-two.Post
+echo-two-same-length-2 t c = omega (arith, c .before .before .before .before .before .before .before .before .before .before .before .before .before .before .before .before .before .before .before .before .byte .kept .1 .0, c .before .before .before .before .before .before .before .before .before .byte2 .kept .1 .0, c .before .before .before .before .before .before .before .before .before .before .before .before .before .before .before .before .echo-node .kept .1 .1 .1 .1 .1 .0, c .before .before .before .before .before .echo-node2 .kept .1 .1 .1 .1 .1 .0)
+
+-- src/lib.rt:207:1
+echo-two-returns-2 : (t : ℕ) → echo-two-lts.Need-returns-2 (
+  byte-reads.Asked,
+  byte-reads.Learnt,
+  echo-node-below t,
+  echo-node.Post,
+) (echo-two-at t) echo-two.Post
+unfolding twoText
+echo-two-returns-2 t c = blank-then _ (c .before .before .before .before .before .before .before .before .before .before .before .before .before .before .before .before .before .before .before .before .byte .ensures) (both _ _ (c .before .before .before .before .before .before .before .before .before .before .before .before .before .before .before .before .echo-node .ensures) (c .before .before .before .before .before .before .before .before .before .before .before .before .r .given .1) (blank-then _ (c .before .before .before .before .before .before .before .before .before .byte2 .ensures) (stop _ _ (c .before .before .before .before .before .echo-node2 .ensures) (c .before .e2 .given .1))))
+
+-- src/lib.rt:207:1
+echo-two-same-length-3 : (t : ℕ) → echo-two-lts.Need-same-length-3 (
+  byte-reads.Asked,
+  byte-reads.Learnt,
+  echo-node-below t,
+  echo-node.Post,
+) (echo-two-at t) echo-two.Post
+echo-two-same-length-3 t c = omega (arith, c .before .before .before .before .before .before .before .before .before .before .before .before .before .before .before .before .before .before .before .before .before .before .before .before .byte .kept .1 .0, c .before .before .before .before .before .before .before .before .before .before .before .before .before .byte2 .kept .1 .0, c .before .before .byte3 .kept .1 .0, c .before .before .before .before .before .before .before .before .before .before .before .before .before .before .before .before .before .before .before .before .echo-node .kept .1 .1 .1 .1 .1 .0, c .before .before .before .before .before .before .before .before .before .echo-node2 .kept .1 .1 .1 .1 .1 .0)
+
+-- src/lib.rt:207:1
+echo-two-returns-3 : (t : ℕ) → echo-two-lts.Need-returns-3 (
+  byte-reads.Asked,
+  byte-reads.Learnt,
+  echo-node-below t,
+  echo-node.Post,
+) (echo-two-at t) echo-two.Post
+unfolding twoText
+echo-two-returns-3 t c = blank-then _ (c .before .before .before .before .before .before .before .before .before .before .before .before .before .before .before .before .before .before .before .before .before .before .before .before .byte .ensures) (both _ _ (c .before .before .before .before .before .before .before .before .before .before .before .before .before .before .before .before .before .before .before .before .echo-node .ensures) (c .before .before .before .before .before .before .before .before .before .before .before .before .before .before .before .before .r .given .1) (blank-then _ (c .before .before .before .before .before .before .before .before .before .before .before .before .before .byte2 .ensures) (both _ _ (c .before .before .before .before .before .before .before .before .before .echo-node2 .ensures) (c .before .before .before .before .before .t .given .1) (last _ (c .before .before .byte3 .ensures)))))
+
+pub +echo-args+echo-levels+echo-node+echo-one+echo-two-spec : {M : Type 1} → statement M
++echo-args+echo-levels+echo-node+echo-one+echo-two-spec =
+    close μ-echo-args μ-echo-levels μ-echo-node μ-echo-one μ-echo-two (λ t. echo-args-lts.spec (
+      byte-reads.Asked,
+      byte-reads.Learnt,
+      get-reads.Asked,
+      get-reads.Learnt,
+      echo-node-below t,
+      echo-node.Post,
+      echo-args-below t,
+      echo-args.Post,
+    )
+    (echo-args-at t)
+    echo-args.Post
+    (echo-args-byte-requires t)
+    (echo-args-same-length t)
+    (echo-args-returns t)
+    (echo-args-element-copy-out-side t)
+    (echo-args-get-requires t)
+    (echo-args-byte-requires-2 t)
+    (echo-args-echo-node-requires t)
+    (echo-args-enum-known-e t)
+    (echo-args-enum-known-r t)
+    (echo-args-add-echo-args t)
+    (echo-args-sub-echo-args t)
+    (echo-args-echo-args-requires t)
+    (echo-args-same-length-2 t)
+    (echo-args-returns-2 t)
+    (echo-args-same-length-3 t)
+    (echo-args-returns-3 t))
+    (λ t. echo-levels-lts.spec (
+      pair-at-reads.Asked,
+      pair-at-reads.Learnt,
+      echo-two-below t,
+      echo-two.Post,
+      echo-levels-below t,
+      echo-levels.Post,
+    )
+    (echo-levels-at t)
+    echo-levels.Post
+    (echo-levels-returns t)
+    (echo-levels-element-copy-out-side t)
+    (echo-levels-sub-l t)
+    (echo-levels-pair-at-requires t)
+    (echo-levels-pair-at-requires-2 t)
+    (echo-levels-echo-two-requires t)
+    (echo-levels-enum-known-e t)
+    (echo-levels-enum-known-q t)
+    (echo-levels-echo-levels-requires t)
+    (echo-levels-same-length t)
+    (echo-levels-returns-2 t)
+    (echo-levels-same-length-2 t)
+    (echo-levels-returns-3 t))
+    (λ t. echo-node-lts.spec (
+      count-reads.Asked,
+      count-reads.Learnt,
+      refused-here-reads.Asked,
+      refused-here-reads.Learnt,
+      head-reads.Asked,
+      head-reads.Learnt,
+      operands-at-reads.Asked,
+      operands-at-reads.Learnt,
+      echo-one-below t,
+      echo-one.Post,
+      echo-two-below t,
+      echo-two.Post,
+      byte-reads.Asked,
+      byte-reads.Learnt,
+      echo-node-below t,
+      echo-node.Post,
+      echo-levels-below t,
+      echo-levels.Post,
+      echo-args-below t,
+      echo-args.Post,
+    )
+    (echo-node-at t)
+    echo-node.Post
+    (echo-node-element-copy-out-ws t)
+    (echo-node-count-requires t)
+    (echo-node-returns t)
+    (echo-node-refused-here-requires t)
+    (echo-node-returns-2 t)
+    (echo-node-head-requires t)
+    (echo-node-operands-at-requires t)
+    (echo-node-enum-told t)
+    (echo-node-enum-known-f t)
+    (echo-node-echo-one-requires t)
+    (echo-node-enum-known-f-2 t)
+    (echo-node-echo-two-requires t)
+    (echo-node-enum-known-f-3 t)
+    (echo-node-byte-requires t)
+    (echo-node-echo-node-requires t)
+    (echo-node-enum-known-x t)
+    (echo-node-enum-known-s t)
+    (echo-node-echo-two-requires-2 t)
+    (echo-node-enum-known-f-4 t)
+    (echo-node-echo-levels-requires t)
+    (echo-node-enum-known-x-2 t)
+    (echo-node-enum-known-r t)
+    (echo-node-echo-one-requires-2 t)
+    (echo-node-enum-known-f-5 t)
+    (echo-node-echo-args-requires t)
+    (echo-node-same-length t)
+    (echo-node-returns-3 t)
+    (echo-node-same-length-2 t)
+    (echo-node-returns-4 t)
+    (echo-node-same-length-3 t)
+    (echo-node-returns-5 t)
+    (echo-node-same-length-4 t)
+    (echo-node-returns-6 t)
+    (echo-node-same-length-5 t)
+    (echo-node-returns-7 t)
+    (echo-node-same-length-6 t)
+    (echo-node-returns-8 t)
+    (echo-node-same-length-7 t)
+    (echo-node-returns-9 t)
+    (echo-node-same-length-8 t)
+    (echo-node-returns-10 t))
+    (λ t. echo-one-lts.spec (
+      byte-reads.Asked,
+      byte-reads.Learnt,
+      echo-node-below t,
+      echo-node.Post,
+    )
+    (echo-one-at t)
+    echo-one.Post
+    (echo-one-byte-requires t)
+    (echo-one-echo-node-requires t)
+    (echo-one-enum-known-e t)
+    (echo-one-enum-known-r t)
+    (echo-one-byte-requires-2 t)
+    (echo-one-same-length t)
+    (echo-one-returns t)
+    (echo-one-same-length-2 t)
+    (echo-one-returns-2 t))
+    λ t. echo-two-lts.spec
+    (byte-reads.Asked, byte-reads.Learnt, echo-node-below t, echo-node.Post)
+    (echo-two-at t)
+    echo-two.Post
+    (echo-two-byte-requires t)
+    (echo-two-echo-node-requires t)
+    (echo-two-enum-known-e t)
+    (echo-two-enum-known-r t)
+    (echo-two-byte-requires-2 t)
+    (echo-two-echo-node-requires-2 t)
+    (echo-two-enum-known-e-2 t)
+    (echo-two-enum-known-t t)
+    (echo-two-byte-requires-3 t)
+    (echo-two-same-length t)
+    (echo-two-returns t)
+    (echo-two-same-length-2 t)
+    (echo-two-returns-2 t)
+    (echo-two-same-length-3 t)
+    (echo-two-returns-3 t)

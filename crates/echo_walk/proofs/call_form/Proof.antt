@@ -1,0 +1,16 @@
+use Rattle.echo_walk.proofs.Laws.{call-leaf, call-some}
+use Rattle.echo_walk.proofs.call_form.Statement.{statement}
+use Rattle.echo_walk.proofs.call_form.Tie as tie
+use Rattle.echo_walk.proofs.call_form.Reads as reads
+use Rattle.echo_walk.proofs.call_form.Lts as lts
+
+-- src/lib.rt:58:1
+returns : tie.Need-returns
+returns c = call-leaf _ (c .if1 .taken)
+
+-- src/lib.rt:58:1
+returns-2 : tie.Need-returns-2
+returns-2 c = call-some _ _ (c .if1 .left)
+
+pub call-form-spec : {M : Type 1} → statement M
+call-form-spec = tie.close (tie.spec returns returns-2)

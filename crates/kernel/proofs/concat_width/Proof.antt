@@ -1,0 +1,20 @@
+-- `kernel::concat_width` meets its contract. Assumes nothing.
+use native.Mathlib.Omega.{arith}
+use borrow.Author.Needs.{needs}
+use Rattle.kernel.proofs.concat_width.Statement.{statement}
+use Rattle.kernel.proofs.concat_width.Tie as tie
+
+width-at-requires : tie.Need-width-at-requires
+width-at-requires c κs = search needs
+
+width-at-requires-2 : tie.Need-width-at-requires-2
+width-at-requires-2 c κs = search needs
+
+add-result : tie.Need-add-result
+add-result c = omega arith
+
+returns : tie.Need-returns
+returns c = omega arith
+
+pub concat-width-spec : {M : Type 1} → statement M
+concat-width-spec = tie.close (tie.spec width-at-requires width-at-requires-2 add-result returns)

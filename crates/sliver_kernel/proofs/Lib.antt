@@ -1,0 +1,4 @@
+mod Turns
+mod Passing
+mod Writing
+mod Answering

@@ -1,0 +1,225 @@
+// The width pass: selects and calls over the side entries, every node in turn, and the entry point `ext_wf`. Side entries are numbers
+// of 64 bits, and one is a node only if it is below the count. Under "Ruled out" stand wrong programs that a public function's
+// contract refuses.
+use blast_kernel::CALL;
+use blast_kernel::Node;
+use blast_kernel::SELECT;
+ghost use mathlib.Core.Path.{_≡_};
+ghost use mathlib.Core.Bool.{_&&_};
+ghost use Prim.Native.Nat.{_≤_};
+ghost use lib.Dec.{ltb};
+ghost use lib.ListN.{length, drop};
+ghost use Rattle.echo_spec.specs.Input.{nodesOf};
+ghost use Rattle.echo_spec.specs.Widths as widths;
+ghost use Rattle.echo_spec.specs.Answers.{written, zeroed, ext-wf-answer};
+ghost use Rattle.blast_kernel.specs.Records.{nodeOf};
+ghost use Rattle.sliver_kernel.specs.Pass.{ExtFormed, Passed};
+ghost use Rattle.sliver_kernel.specs.Outcomes.{answered};
+
+// The width of an array's index, by its number. Ruled out: 64; the array's number.
+pub fn index_width(array: u64) -> u64
+    ensures { λ r. ⌜ r ≡ widths.indexWidth array ⌝ }
+{
+    32
+}
+
+// The width of an array's value. Ruled out: the index's; 1.
+pub fn value_width(array: u64) -> u64
+    ensures { λ r. ⌜ r ≡ widths.valueWidth array ⌝ }
+{
+    8
+}
+
+// One level of a chain: a pair of an index and a value at this place of the side entries.
+fn pair_wf(ws: &[u64], side: &[u64], index: u64, value: u64, at: usize) -> bool
+    ensures { λ r. ⌜ r ≡ widths.chain-wf index value (now (ws .entry)) 1 (drop at (now (side .entry))) ⌝ }
+{
+    let m = side.len();
+    if at >= m {
+        return false;
+    }
+    if m - at < 2 {
+        return false;
+    }
+    kernel::earlier_of(ws, index, side[at]) && kernel::earlier_of(ws, value, side[at + 1])
+}
+
+// n pairs from place s of the side entries on. (The Rust's `chain_wf`, with the two widths as parameters and `pair_wf` as its
+// turn.) Ruled out: value before index; a last pair of which only the index lies within the entries.
+pub fn chain_wf(ws: &[u64], side: &[u64], index: u64, value: u64, s: u64, n: u64) -> bool
+    ensures { λ r. ⌜ r ≡ widths.chain-wf index value (now (ws .entry)) n (drop s (now (side .entry))) ⌝ }
+{
+    let mut at = s as usize;
+    let mut left = n;
+    while left > 0 {
+        if !pair_wf(ws, side, index, value, at) {
+            return false;
+        }
+        at += 2;
+        left -= 1;
+    }
+    true
+}
+
+// One argument at this place of the side entries.
+fn arg_wf(ws: &[u64], side: &[u64], at: usize) -> bool
+    ensures { λ r. ⌜ r ≡ widths.args-wf (now (ws .entry)) 1 (drop at (now (side .entry))) ⌝ }
+{
+    if at >= side.len() {
+        return false;
+    }
+    kernel::earlier(ws, side[at])
+}
+
+// n arguments from place s of the side entries on. (The Rust's `args_wf`, with `arg_wf` as its turn.) Ruled out: an argument that
+// is the call itself; arguments past the entries left out.
+pub fn args_wf(ws: &[u64], side: &[u64], s: u64, n: u64) -> bool
+    ensures { λ r. ⌜ r ≡ widths.args-wf (now (ws .entry)) n (drop s (now (side .entry))) ⌝ }
+{
+    let mut at = s as usize;
+    let mut left = n;
+    while left > 0 {
+        if !arg_wf(ws, side, at) {
+            return false;
+        }
+        at += 1;
+        left -= 1;
+    }
+    true
+}
+
+// Array number, index, side start and number of stores.
+fn select_wf(ws: &[u64], side: &[u64], array: u64, i: u64, s: u64, n: u64) -> bool
+    ensures { λ r. ⌜ r ≡ (widths.earlierOf (now (ws .entry)) (widths.indexWidth array) i
+        && widths.chain-wf (widths.indexWidth array) (widths.valueWidth array) (now (ws .entry)) n (drop s (now (side .entry)))) ⌝ }
+{
+    let w = index_width(array);
+    kernel::earlier_of(ws, w, i) && chain_wf(ws, side, w, value_width(array), s, n)
+}
+
+// Width, side start and number of arguments.
+fn call_wf(ws: &[u64], side: &[u64], w: u64, s: u64, n: u64) -> bool
+    ensures { λ r. ⌜ r ≡ (ltb 0 w && widths.args-wf (now (ws .entry)) n (drop s (now (side .entry)))) ⌝ }
+{
+    w > 0 && args_wf(ws, side, s, n)
+}
+
+// Is the node well formed after nodes of the widths `ws`. (The Rust's, but that a kind stands for the case of
+// `ExtNode`.) Ruled out: a call of width 0; a select whose chain is not looked at.
+pub fn ext_node_wf(ws: &[u64], nbits: usize, side: &[u64], n: Node) -> bool
+    ensures { λ r. ⌜ r ≡ widths.node-wf nbits (now (side .entry)) (now (ws .entry)) (nodeOf n) ⌝ }
+{
+    let s = blast_kernel::shape(n.kind);
+    match s {
+        SELECT => select_wf(ws, side, n.a, n.b, n.c, n.d),
+        CALL => call_wf(ws, side, n.b, n.c, n.d),
+        _ => kernel::node_wf(ws, nbits, n),
+    }
+}
+
+// The width of a node that `ext_node_wf` accepted. Ruled out: a select as wide as its index; a call as wide as its first argument.
+pub fn ext_node_width(ws: &[u64], n: Node) -> u64
+    requires { ⌜ ExtFormed (now ws) (nodeOf n) ⌝ }
+    ensures { λ r. ⌜ r ≡ widths.node-width (now (ws .entry)) (nodeOf n) ⌝ }
+{
+    let s = blast_kernel::shape(n.kind);
+    match s {
+        SELECT => value_width(n.a),
+        CALL => n.b,
+        _ => kernel::node_width(ws, n),
+    }
+}
+
+// Each node's width in turn, up to the first that is not well formed: the answer is how many were written.
+fn fill(nodes: &[u8], nbits: usize, side: &[u64], ws: &mut [u64]) -> usize
+    requires { ⌜ length (nodesOf (now nodes)) ≤ length (now ws) ⌝ }
+    ensures { λ r. ⌜ Passed nbits (now (side .entry)) (nodesOf (now (nodes .entry))) r (now (ws .exit)) ⌝ }
+{
+    let n = blast_kernel::node_count(nodes);
+    let mut i = 0;
+    while i < n {
+        let node = blast_kernel::node_at(nodes, i);
+        if !ext_node_wf(&ws[..i], nbits, side, node) {
+            return i;
+        }
+        let w = ext_node_width(&ws[..i], node);
+        ws[i] = w;
+        i += 1;
+    }
+    i
+}
+
+// The pass over a table that has room for every node: how many nodes come before the first that is not well formed, and their widths.
+// (The Rust's `ext_wf` without its `Result`; the printer calls it too.) Ruled out: the node count where a node is refused; a table
+// that is all 0.
+pub fn widths(nodes: &[u8], nbits: usize, side: &[u64], ws: &mut [u64; 2048]) -> usize
+    requires { ⌜ length (now nodes) ≤ 34816 ⌝ }
+    ensures { λ r. ⌜ Passed nbits (now (side .entry)) (nodesOf (now (nodes .entry))) r (now (ws .exit)) ⌝ }
+{
+    fill(nodes, nbits, side, ws)
+}
+
+// The widths to the front of what was lent.
+fn copy(ws: &[u64], out: &mut [u64])
+    requires { ⌜ length (now ws) ≤ length (now out) ⌝ }
+    ensures { λ _. ⌜ now (out .exit) ≡ written (now (ws .entry)) (now (out .entry)) ⌝ }
+{
+    let mut i = 0;
+    while i < ws.len() {
+        out[i] = ws[i];
+        i += 1;
+    }
+}
+
+// All of what was lent becomes 0.
+fn clear(out: &mut [u64])
+    ensures { λ _. ⌜ now (out .exit) ≡ zeroed (now (out .entry)) ⌝ }
+{
+    let mut i = 0;
+    while i < out.len() {
+        out[i] = 0;
+        i += 1;
+    }
+}
+
+// What the width pass answers: its number and count are `answered`'s.
+pub enum Outcome {
+    // The node count: the widths are written.
+    Accepted(usize),
+    // The number of the first node that is not well formed.
+    Refused(usize),
+    // The nodes or bits are encoded wrongly.
+    Encoding,
+    // An input is over its limit.
+    Limit,
+    // The lent slice is shorter than the node count.
+    Room,
+}
+
+// THE WIDTH PASS. With a slice that is too short every node is still looked at, in a table of the pass's own, so that a node that
+// is refused is told before the want of room.
+pub fn ext_wf(nodes: &[u8], bits: &[u8], side: &[u64], out: &mut [u64]) -> Outcome
+    ensures { λ r. ⌜ answered r (now (out .exit))
+        ≡ ext-wf-answer (now (nodes .entry)) (now (bits .entry)) (now (side .entry)) (now (out .entry)) ⌝ }
+{
+    if !blast_kernel::nodes_within(nodes, bits, side) {
+        clear(out);
+        return Outcome::Limit;
+    }
+    if !blast_kernel::encoded(nodes, bits) {
+        clear(out);
+        return Outcome::Encoding;
+    }
+    let mut ws = [0u64; 2048];
+    let n = widths(nodes, bits.len(), side, &mut ws);
+    if n < blast_kernel::node_count(nodes) {
+        clear(out);
+        return Outcome::Refused(n);
+    }
+    if n > out.len() {
+        clear(out);
+        return Outcome::Room;
+    }
+    copy(&ws[..n], out);
+    Outcome::Accepted(n)
+}
