@@ -1,0 +1,3 @@
+-- What the proofs of several functions share, and laws on texts and numbers alone.
+pub mod Cells
+pub mod Texts
