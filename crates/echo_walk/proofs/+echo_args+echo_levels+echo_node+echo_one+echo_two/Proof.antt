@@ -30,15 +30,12 @@ use borrow.Author.Needs.{needs}
 use native.Mathlib.Omega.{arith}
 use Rattle.echo_walk.specs.Texts.{oneText, twoText, formText}
 use Rattle.echo_walk.specs.declared.Form.the-variants.{Leaf, One, Two, Choice, Chain, Arguments}
+use Rattle.echo_walk.specs.WroteLaws.{blank-then, last, both, stop}
 use Rattle.echo_walk.proofs.Laws.{
   μ,
   below,
   inside,
   fewer,
-  blank-then,
-  last,
-  both,
-  stop,
   listed-place,
   listed-first,
   listed-rest,
