@@ -1,2 +1,3 @@
 pub mod Pass
 pub mod Outcomes
+pub mod Clearing

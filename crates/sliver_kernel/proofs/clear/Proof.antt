@@ -3,7 +3,7 @@ use native.Mathlib.Omega.{arith}
 use borrow.Author.Needs.{needs}
 use Prim.Native.Nat.{_-_}
 use lib.ListN.{length}
-use Rattle.sliver_kernel.proofs.Writing.{Cleared, clear-start, clear-next, clear-ends}
+use Rattle.sliver_kernel.specs.Clearing.{Cleared, clear-start, clear-next, clear-ends}
 use Rattle.sliver_kernel.proofs.clear.Statement.{statement}
 use Rattle.sliver_kernel.proofs.clear.Tie as tie
 

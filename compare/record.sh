@@ -1,0 +1,15 @@
+#!/bin/sh
+# Makes the recorded lists again: record.sh FOLDER, where FOLDER holds the unchanged Rust (kernel.rs and the files that it includes).
+# With --clauses after it, the tally by clause is printed too. What is built goes to a folder of its own and is removed.
+set -eu
+source=$(cd "$1" && pwd)
+shift
+here=$(cd "$(dirname "$0")" && pwd)
+room=$(mktemp -d)
+trap 'rm -rf "$room"' EXIT
+rustc --edition 2024 --crate-type rlib --crate-name kernel -O -A warnings -o "$room/libkernel.rlib" "$source/kernel.rs"
+rustc --edition 2024 -O --extern kernel="$room/libkernel.rlib" -o "$room/record" "$here/src/main.rs"
+mkdir -p "$here/../crates/replay_widths/data"
+cd "$here/.."
+"$room/record" widths crates/replay_widths/data/widths.bin "$@"
+"$room/record" printer compare/printer.bin "$@"

@@ -1,0 +1,108 @@
+//! Makes the recorded lists: `record widths OUT` and `record printer OUT`. The problems follow from a seed; the answers are the
+//! Rust's (oracle.rs), with the three numbers that document 01 adds around it (added.rs).
+mod added;
+mod list;
+mod oracle;
+mod printer;
+mod problem;
+mod trees;
+mod widths;
+mod words;
+
+use std::collections::BTreeMap;
+
+/// How many problems had each label, and with which number.
+#[derive(Default)]
+struct Tally {
+    numbers: BTreeMap<u32, usize>,
+    labels: BTreeMap<(u32, String), usize>,
+    wrong: usize,
+}
+
+impl Tally {
+    fn note(&mut self, label: &str, want: Option<u32>, number: u32) {
+        *self.numbers.entry(number).or_default() += 1;
+        *self.labels.entry((number, label.to_string())).or_default() += 1;
+        if want.is_some_and(|w| w != number) {
+            self.wrong += 1;
+            eprintln!("meant as {}, answered {number}: {label}", want.unwrap());
+        }
+    }
+    fn print(&self, long: bool) {
+        if long {
+            for ((number, label), n) in &self.labels {
+                println!("{number:3} {n:5}  {label}");
+            }
+        }
+        for (number, n) in &self.numbers {
+            println!("number {number}: {n}");
+        }
+        println!("problems: {}", self.numbers.values().sum::<usize>());
+    }
+}
+
+fn finish(list: &list::List, tally: &Tally, out: &str, long: bool) {
+    tally.print(long);
+    if tally.wrong > 0 {
+        eprintln!("{} problems are not what they were made for; nothing written", tally.wrong);
+        std::process::exit(1);
+    }
+    let bytes = list.bytes();
+    std::fs::write(out, &bytes).expect("the list is written");
+    println!("{out}: {} bytes; largest problem {} bytes, packed {}", bytes.len(), list.largest_plain, list.largest_packed);
+}
+
+/// What the replay fills the lent slice with beforehand.
+const FILL: u64 = 0xAAAA_AAAA_AAAA_AAAA;
+
+fn record_widths(out: &str, long: bool) {
+    let mut list = list::List::new(b"WIDTHS 1");
+    let mut tally = Tally::default();
+    for c in widths::all() {
+        let a = added::width_answer(&c.problem, c.room);
+        assert!(!a.result.contains(&FILL), "a width is the number that the replay fills with");
+        tally.note(&c.label, c.want, a.number);
+        list.add(&list::of_widths(&c.problem, c.room, &a));
+    }
+    finish(&list, &tally, out, long);
+}
+
+fn record_printer(out: &str, long: bool) {
+    let mut list = list::List::new(b"PRINTER1");
+    let mut tally = Tally::default();
+    let mut accepted = 0;
+    for c in printer::all() {
+        let len = added::script_len(&c.problem).unwrap_or(64);
+        let room = match c.room {
+            printer::Room::Exact => len,
+            printer::Room::OneShort => len - 1,
+            printer::Room::Empty => 0,
+            printer::Room::Longer(n) => len + n,
+            printer::Room::Fixed(n) => n,
+        };
+        let a = added::print_answer(&c.problem, room);
+        accepted += (a.number == 0) as usize;
+        tally.note(&c.label, c.want, a.number);
+        list.add(&list::of_script(&c.problem, room, &a));
+    }
+    println!("accepted: {accepted}");
+    finish(&list, &tally, out, long);
+}
+
+fn run() {
+    let words: Vec<String> = std::env::args().skip(1).collect();
+    let long = words.iter().any(|w| w == "--clauses");
+    match (words.first().map(String::as_str), words.get(1)) {
+        (Some("widths"), Some(out)) => record_widths(out, long),
+        (Some("printer"), Some(out)) => record_printer(out, long),
+        _ => {
+            eprintln!("record widths|printer OUT [--clauses]");
+            std::process::exit(2);
+        }
+    }
+}
+
+fn main() {
+    // the Rust's walk recurses once a term, so it gets a roomy stack
+    std::thread::Builder::new().stack_size(256 << 20).spawn(run).unwrap().join().unwrap();
+}

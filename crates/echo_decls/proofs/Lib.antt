@@ -1,0 +1,2 @@
+-- What the proofs of several functions share, and laws on texts and numbers alone.
+pub mod Entries
