@@ -1,7 +1,7 @@
 -- What the project promises of the printer's answers. A reader who believes the definitions (crate `echo_spec`: what is
 -- printed and what is refused; crate `smtlib`: what bytes mean by the standard) can stop at this page.
 use Prim.Native.Nat.{ℕ, suc, _≤_, _<_}
-use mathlib.Core.Path.{_≡_, refl, ap}
+use mathlib.Core.Path.{_≡_, refl, sym, ap, _∙_}
 use mathlib.Core.List.{List, [], _∷_, _++_}
 use mathlib.Core.Logic.{_↔_}
 use lib.Dec.{T}
@@ -12,9 +12,17 @@ use Rattle.smtlib.specs.Grammar.{Script, scriptTokens}
 use Rattle.smtlib.specs.LexUnique.{lex-unique}
 use Rattle.smtlib.specs.Readings.{operators, Reads}
 use Rattle.smtlib.specs.Sorts.{WellSorted}
-use Rattle.echo_spec.specs.Input.{Problem}
+use Rattle.echo_spec.specs.Input.{Problem, nodesOf}
+use Rattle.echo_spec.specs.Widths.{ext-wf}
 use Rattle.echo_spec.specs.Render.{symbolOf}
-use Rattle.echo_spec.specs.Answers.{Answer, echo-ext-answer}
+use Rattle.echo_spec.specs.Answers.{Answer, ext-wf-answer, echo-ext-answer}
+use Rattle.sliver_kernel.specs.declared.Outcome.{Outcome}
+use Rattle.sliver_kernel.specs.declared.Outcome.the-variants.{Accepted}
+use Rattle.sliver_kernel.specs.Outcomes as widths
+use Rattle.echo_kernel.specs.declared.EchoError.{EchoError}
+use Rattle.echo_kernel.specs.declared.Echo.{Echo}
+use Rattle.echo_kernel.specs.declared.Echo.the-variants.{Printed, Refused}
+use Rattle.echo_kernel.specs.Outcomes.{errorNumber, answered}
 use Rattle.theorems.specs.Scripts.{scriptOf}
 use Rattle.theorems.specs.Printed.{reading}
 use Rattle.theorems.specs.Tables as Tables
@@ -32,6 +40,8 @@ use Rattle.theorems.specs.Answered.{
   script-reads,
   script-reads-only,
   scripts-equal,
+  width-accepted,
+  width-refused,
 }
 
 -- The printer accepts the problem with this lent buffer.
@@ -90,6 +100,43 @@ equal-scripts p p′ lent lent′ a a′ =
       λ q. let r = e .0 q in (ap (λ (r : Reading). r .declarations) r, ap (λ (r : Reading). r .assertions) r),
       λ h. e .1 (λ i. record { declarations = h .0 i; assertions = h .1 i }),
     )
+
+-- ---------------------------------------------------------------- the code
+
+-- The contract of `echo_ext`: its answer and the buffer afterwards, by the problem and the buffer that were lent. It asks nothing of the caller.
+abbrev pub EchoContract : Echo → Problem → List ℕ → List ℕ → Type 0
+EchoContract r p lent out = answered r out ≡ echo-ext-answer p lent
+
+-- What it answers by `Printed` is the script: its length, its bytes at the front of the buffer, and the rest of the buffer as it was; so every
+-- claim above on scripts speaks of these bytes.
+pub printer-prints : (p : Problem) (lent out : List ℕ) (n : ℕ) → EchoContract (Printed n) p lent out
+    → Accepts p lent × (n ≡ length (scriptText p)) × (out ≡ scriptText p ++ drop (length (scriptText p)) lent)
+printer-prints p lent out n c =
+    let a : Accepts p lent = sym (ap (λ (x : Answer). x .number) c) in
+    let e = c ∙ acceptance-prints p lent a in
+    (a, ap (λ (x : Answer). x .count) e, ap (λ (x : Answer). x .output) e)
+
+-- What it refuses has the definitions' number, and the buffer is zeroed.
+pub printer-refuses : (p : Problem) (lent out : List ℕ) (e : EchoError) → EchoContract (Refused e) p lent out
+    → (echo-ext-answer p lent .number ≡ errorNumber e) × (out ≡ echo-ext-answer p lent .output)
+printer-refuses p lent out e c = (sym (ap (λ (x : Answer). x .number) c), ap (λ (x : Answer). x .output) c)
+
+-- The contract of `ext_wf`, the width pass.
+abbrev pub WidthContract : Outcome → List ℕ → List ℕ → List ℕ → List ℕ → List ℕ → Type 0
+WidthContract r nodes bits side lent out = widths.answered r out ≡ ext-wf-answer nodes bits side lent
+
+-- What it accepts has a width for each node, in order, at the front of the slice.
+pub widths-written : (nodes bits side lent out : List ℕ) (n : ℕ) → WidthContract (Accepted n) nodes bits side lent out
+    → (n ≡ length (ext-wf (length bits) side (nodesOf nodes)))
+    × (out ≡ ext-wf (length bits) side (nodesOf nodes) ++ drop (length (ext-wf (length bits) side (nodesOf nodes))) lent)
+widths-written nodes bits side lent out n c =
+    let e = c ∙ width-accepted nodes bits side lent (sym (ap (λ (x : Answer). x .number) c)) in (ap (λ (x : Answer). x .count) e, ap (λ (x : Answer). x .output) e)
+
+-- What it refuses leaves the slice zeroed.
+pub widths-refused : (nodes bits side lent out : List ℕ) (r : Outcome) (k : ℕ) → widths.number r ≡ suc k → WidthContract r nodes bits side lent out
+    → out ≡ replicate (length lent) 0
+widths-refused nodes bits side lent out r k h c =
+    ap (λ (x : Answer). x .output) c ∙ width-refused nodes bits side lent k (sym (ap (λ (x : Answer). x .number) c) ∙ h)
 
 -- ---------------------------------------------------------------- symbols
 

@@ -17,11 +17,12 @@ use Rattle.smtlib.specs.Readings.{Reads}
 use Rattle.smtlib.specs.ReadsUnique.{reads-unique}
 use Rattle.smtlib.specs.Sorts.{WellSorted}
 use Rattle.echo_spec.specs.Refusals.{unless, _orElse_}
-use Rattle.echo_spec.specs.Input.{Problem, withinLimits, encoded, dagOf, queryOf}
+use Rattle.echo_spec.specs.Input.{Problem, withinLimits, encoded, nodesOf, dagOf, queryOf}
+use Rattle.echo_spec.specs.Widths.{ext-wf}
 use Rattle.echo_spec.specs.Trees.{readingOf}
 use Rattle.echo_spec.specs.Walk.{refusal, refusalWith}
 use Rattle.echo_spec.specs.Render.{render}
-use Rattle.echo_spec.specs.Answers.{Answer, script, echoRefusal, echoAnswer, echo-ext-answer}
+use Rattle.echo_spec.specs.Answers.{Answer, widthRefusal, widthAnswer, ext-wf-answer, script, echoRefusal, echoAnswer, echo-ext-answer}
 use Rattle.echo_spec.specs.Accepted.{unless-passed, orElse-passed, orElse-either, unless-bound, refusal-bound}
 use Rattle.theorems.specs.Scripts.{scriptOf, Sound, lex-script, script-well-sorted, render-reads}
 use Rattle.theorems.specs.Printed.{widthsOf, reading, reading-sound}
@@ -168,3 +169,33 @@ scripts-equal p p′ w w′ = (
   λ e. script-reads-only p′ w′ (reading p) (subst (λ (b : List ℕ). Reads b (reading p)) e (script-reads p w)),
   λ e. text-is p w ∙ ap render e ∙ sym (text-is p′ w′),
 )
+
+-- ---------------------------------------------------------------- the width pass
+
+width-whole : (n : ℕ) (ws lent : List ℕ) → widthAnswer n ws lent .number ≡ 0
+    → widthAnswer n ws lent ≡ record { number = 0; count = length ws; output = ws ++ drop (length ws) lent }
+unfolding widthAnswer
+width-whole zero ws lent e = refl
+width-whole (suc zero) ws lent e = absurd (omega arith)
+width-whole (suc (suc n)) ws lent e = absurd (omega arith)
+
+width-zeroed : (n : ℕ) (ws lent : List ℕ) {k : ℕ} → widthAnswer n ws lent .number ≡ suc k → widthAnswer n ws lent .output ≡ replicate (length lent) 0
+unfolding widthAnswer
+width-zeroed zero ws lent e = absurd (omega arith)
+width-zeroed (suc zero) ws lent e = refl
+width-zeroed (suc (suc n)) ws lent e = refl
+
+pub width-accepted : (nodes bits side lent : List ℕ) → ext-wf-answer nodes bits side lent .number ≡ 0
+    → let ws : List ℕ = ext-wf (length bits) side (nodesOf nodes) in
+    ext-wf-answer nodes bits side lent ≡ record { number = 0; count = length ws; output = ws ++ drop (length ws) lent }
+unfolding ext-wf-answer
+width-accepted nodes bits side lent e =
+    let ws : List ℕ = ext-wf (length bits) side (nodesOf nodes) in
+    width-whole (widthRefusal nodes bits side ws (length lent)) ws lent e
+
+pub width-refused : (nodes bits side lent : List ℕ) (k : ℕ) → ext-wf-answer nodes bits side lent .number ≡ suc k
+    → ext-wf-answer nodes bits side lent .output ≡ replicate (length lent) 0
+unfolding ext-wf-answer
+width-refused nodes bits side lent k e =
+    let ws : List ℕ = ext-wf (length bits) side (nodesOf nodes) in
+    width-zeroed (widthRefusal nodes bits side ws (length lent)) ws lent e

@@ -1,0 +1,144 @@
+-- What each way out of `echo_ext` answers. Assumes nothing.
+use Prim.Native.Nat.{ℕ, zero, suc, _+_, _^_, _≤_, _<_}
+use mathlib.Core.Path.{_≡_, refl, sym, ap, _∙_, subst}
+use mathlib.Core.List.{List, [], _∷_, _++_}
+use native.Mathlib.Omega.{arith}
+use native.Mathlib.Decide.{decLe}
+use borrow.Author.Tests.{le-leb, lt-leb}
+use lib.Dec.{leb}
+use lib.ListN.{length, drop, replicate}
+use Rattle.echo_spec.specs.Refusals.{unless, _orElse_}
+use Rattle.echo_spec.specs.Input.{Problem, withinLimits, encoded, dagOf, queryOf}
+use Rattle.echo_spec.specs.Walk.{refusal}
+use Rattle.echo_spec.specs.Widths.{ext-wf}
+use Rattle.echo_spec.specs.Answers.{Answer, zeroed, script, echoRefusal, echoAnswer, echo-ext-answer}
+use Rattle.echo_spec.specs.Accepted.{refusal-bound, orElse-either, unless-bound}
+use Rattle.echo_bytes.specs.declared.Place.{Place}
+use Rattle.echo_bytes.specs.Page.{Page, page, start, written}
+use Rattle.echo_bytes.specs.Laws.{need-exact, written-fits}
+use Rattle.echo_walk.specs.declared.Out.{Out}
+use Rattle.echo_walk.specs.declared.Out.the-variants as out
+use Rattle.echo_walk.specs.Texts.{Text, outcome}
+use Rattle.echo_walk.specs.Lent.{Wrote}
+use Rattle.echo_kernel.specs.declared.EchoError.{EchoError}
+use Rattle.echo_kernel.specs.declared.EchoError.the-variants.{Room}
+use Rattle.echo_kernel.specs.declared.Echo.the-variants.{Printed, Refused}
+use Rattle.echo_kernel.specs.Scripts.{checks, checkedText}
+use Rattle.echo_kernel.specs.Outcomes.{errorNumber, answered}
+
+-- ---------------------------------------------------------------- the numbers
+
+orElse-assoc : (a b c : ℕ) → (a orElse b) orElse c ≡ a orElse (b orElse c)
+orElse-assoc zero b c = refl
+orElse-assoc (suc a) b c = refl
+
+-- the want of room comes last
+room-last : (p : Problem) (room : ℕ) → echoRefusal p room ≡ (checks p orElse unless (leb (length (script (queryOf p))) room) 10)
+unfolding echoRefusal checks
+room-last p room =
+    let A : ℕ = unless (withinLimits p) 9 in
+    let B : ℕ = unless (encoded (p .nodes) (p .bits)) 8 in
+    let C : ℕ = refusal (dagOf p) (length (p .bits)) (p .roots) in
+    let D : ℕ = unless (leb (length (script (queryOf p))) room) 10 in
+    sym (orElse-assoc A (B orElse C) D ∙ ap (λ (x : ℕ). A orElse x) (orElse-assoc B C D))
+
+checks-bound : (p : Problem) → checks p ≤ 9
+unfolding checks
+checks-bound p =
+    let ws : List ℕ = ext-wf (length (p .bits)) (dagOf p .side) (dagOf p .nodes) in
+    orElse-either (unless (withinLimits p) 9) (unless (encoded (p .nodes) (p .bits)) 8 orElse refusal (dagOf p) (length (p .bits)) (p .roots)) 9
+    (unless-bound (withinLimits p) 9 9 (omega arith))
+    (orElse-either (unless (encoded (p .nodes) (p .bits)) 8) (refusal (dagOf p) (length (p .bits)) (p .roots)) 9
+    (unless-bound (encoded (p .nodes) (p .bits)) 8 9 (omega arith))
+    (omega (arith, refusal-bound (dagOf p) ws (p .roots))))
+
+-- ---------------------------------------------------------------- what was written
+
+module _ {pg : Page} {o : Out} {l : List ℕ} where
+  outcome-refused : (n : ℕ) (t : List ℕ) {e : ℕ} → Wrote (outcome n t) pg o l → o ≡ out.Refused e → (n ≡ e) × (0 < e)
+  unfolding outcome
+  outcome-refused zero t {e} w f =
+      let h : o ≡ out.Done (written pg t .place) = w .told .0 in let z : _≡_ {A = ℕ} 0 1 = cc in absurd (omega arith)
+  outcome-refused (suc n) t {e} w f =
+      let h : o ≡ out.Refused (suc n) = w .told in
+      let a : suc n ≡ e = cc in
+      (a, omega arith)
+
+  outcome-done : (n : ℕ) (t : List ℕ) {q : Place} → Wrote (outcome n t) pg o l → o ≡ out.Done q → (n ≡ 0) × (page q l ≡ written pg t)
+  unfolding outcome
+  outcome-done zero t {q} w f =
+      let h : o ≡ out.Done (written pg t .place) = w .told .0 in
+      let a : q ≡ written pg t .place = cc in
+      (refl, rw (a, w .told .1) refl)
+  outcome-done (suc n) t {q} w f =
+      let h : o ≡ out.Refused (suc n) = w .told in let z : _≡_ {A = ℕ} 0 1 = cc in absurd (omega arith)
+
+refused-answer : (n : ℕ) (result lent : List ℕ) → 0 < n → echoAnswer n result lent ≡ record { number = n; count = 0; output = zeroed lent }
+unfolding echoAnswer
+refused-answer zero result lent h = absurd (omega arith)
+refused-answer (suc n) result lent h = refl
+
+-- ---------------------------------------------------------------- the ways out
+
+module _ (p : Problem) {lent l : List ℕ} {o : Out} (w : Wrote (checkedText p) (page start lent) o l) where
+  abbrev text : List ℕ
+  text = script (queryOf p)
+
+  told : {x : ℕ} → o ≡ out.Refused x → (checks p ≡ x) × (0 < x)
+  unfolding checkedText
+  told f = outcome-refused (checks p) text w f
+
+  pub listed : {x : ℕ} → o ≡ out.Refused x → (0 < x) × (x ≤ 10)
+  listed f = let t = told f in (t .1, omega (arith, t .0, checks-bound p))
+
+  -- by the number that a cleared buffer goes with
+  cleared : {n : ℕ} (e : EchoError) {end : List ℕ} → echoRefusal p (length lent) ≡ n → 0 < n → errorNumber e ≡ n → end ≡ zeroed l → length l ≡ length lent
+      → answered (Refused e) end ≡ echo-ext-answer p lent
+  unfolding echo-ext-answer
+  cleared {n} e {end} f h k z s =
+      (λ i. record { number = k i; count = 0; output = (z ∙ ap (λ (m : ℕ). replicate m 0) s) i })
+      ∙ sym (refused-answer n text lent h) ∙ ap (λ (m : ℕ). echoAnswer m text lent) (sym f)
+
+  pub answer-refused : {x : ℕ} (e : EchoError) {end : List ℕ} → o ≡ out.Refused x → errorNumber e ≡ x → end ≡ zeroed l → length l ≡ length lent
+      → answered (Refused e) end ≡ echo-ext-answer p lent
+  answer-refused {x} e f k z s =
+      let t = told f in
+      cleared e (room-last p (length lent) ∙ ap (λ (n : ℕ). n orElse unless (leb (length text) (length lent)) 10) (t .0) ∙ first x (t .1)) (t .1) k z s
+    where
+      first : (x : ℕ) → 0 < x → (x orElse unless (leb (length text) (length lent)) 10) ≡ x
+      first zero h = absurd (omega arith)
+      first (suc x) h = refl
+
+  module _ {q : Place} (f : o ≡ out.Done q) (small : length lent < 2 ^ 63) where
+    done : (checks p ≡ 0) × (page q l ≡ written (page start lent) text)
+    unfolding checkedText
+    done = outcome-done (checks p) text w f
+
+    needed : q .need ≡ written (page start lent) text .place .need
+    needed = ap (λ (z : Page). z .place .need) (done .1)
+
+    number-done : echoRefusal p (length lent) ≡ unless (leb (length text) (length lent)) 10
+    number-done = room-last p (length lent) ∙ ap (λ (n : ℕ). n orElse unless (leb (length text) (length lent)) 10) (done .0)
+
+    pub answer-room : {end : List ℕ} → length l < q .need → end ≡ zeroed l → length l ≡ length lent → answered (Refused Room) end ≡ echo-ext-answer p lent
+    answer-room m z s =
+        let long : length lent < length text = longer in
+        cleared Room (number-done ∙ ap (λ b. unless b 10) (lt-leb (length text) (length lent) long)) (omega arith) refl z s
+      where
+        fits : length text ≤ length lent → ⊥
+        fits h = let k = need-exact lent text small .1 h in omega (arith, k, needed, m, s)
+
+        longer : length lent < length text
+        longer = go (decLe (length text) (length lent))
+          where
+            go : Dec (length text ≤ length lent) → length lent < length text
+            go (yes h) = absurd (fits h)
+            go (no h) = omega arith
+
+    pub answer-printed : q .need ≤ length l → length l ≡ length lent → answered (Printed (q .need)) l ≡ echo-ext-answer p lent
+    unfolding echo-ext-answer echoAnswer
+    answer-printed m s =
+        let h : length text ≤ length lent = need-exact lent text small .0 (omega (arith, needed, m, s)) in
+        let e : page q l ≡ page (record { at = length text; need = length text }) (text ++ drop (length text) lent) = done .1 ∙ written-fits lent text small h in
+        let n : echoRefusal p (length lent) ≡ 0 = number-done ∙ ap (λ b. unless b 10) (le-leb (length text) (length lent) h) in
+        (λ i. record { number = 0; count = e i .place .need; output = e i .bytes }) ∙ ap (λ (k : ℕ). echoAnswer k text lent) (sym n)

@@ -1,0 +1,4 @@
+pub mod Laws
+pub mod Printing
+pub mod Checking
+pub mod Answering
