@@ -101,12 +101,12 @@ impl Place {
     }
 
     // `|name|` (`push_name`)
-    pub fn name(self, out: &mut [u8], n: &[u8]) -> Place
+    pub fn name(mut self, out: &mut [u8], n: &[u8]) -> Place
         ensures { λ r. ⌜ page r (now (out .exit)) ≡ written (page self (now (out .entry))) (quoted (now (n .entry))) ⌝ }
     {
-        let opened = self.byte(out, b'|');
-        let named = opened.word(out, n);
-        named.byte(out, b'|')
+        self = self.byte(out, b'|');
+        self = self.word(out, n);
+        self.byte(out, b'|')
     }
 
     // Digits that are lent lowest first, written highest first.
@@ -125,7 +125,7 @@ impl Place {
     }
 
     // The decimal numeral of n (`push_dec`). Its digits are found lowest first and held in a small buffer: the largest `u64` has 20.
-    pub fn number(self, out: &mut [u8], n: u64) -> Place
+    pub fn number(mut self, out: &mut [u8], n: u64) -> Place
         ensures { λ r. ⌜ page r (now (out .exit)) ≡ written (page self (now (out .entry))) (decimal n) ⌝ }
     {
         let mut tmp = [0u8; 20];
@@ -138,15 +138,16 @@ impl Place {
         }
         tmp[len] = m as u8;
         len += 1;
-        self.digits(out, &tmp[..len])
+        self = self.digits(out, &tmp[..len]);
+        self
     }
 
     // `#b`, then the bits from the highest down, which are lent lowest first (`push_bits`).
-    pub fn constant(self, out: &mut [u8], bits: &[u8]) -> Place
+    pub fn constant(mut self, out: &mut [u8], bits: &[u8]) -> Place
         requires { ⌜ T (every (λ b. leb b 1) (now bits)) ⌝ }
         ensures { λ r. ⌜ page r (now (out .exit)) ≡ written (page self (now (out .entry))) (bytes "#b" ++ binaryDigits (now (bits .entry))) ⌝ }
     {
-        let marked = self.word(out, b"#b");
-        marked.digits(out, bits)
+        self = self.word(out, b"#b");
+        self.digits(out, bits)
     }
 }
