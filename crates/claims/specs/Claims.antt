@@ -1,6 +1,6 @@
 -- What the project promises of the printer's answers. A reader who believes the definitions (crate `echo_spec`: what is
 -- printed and what is refused; crate `smtlib`: what bytes mean by the standard) can stop at this page.
-use Prim.Native.Nat.{ℕ, suc, _≤_, _<_}
+use Prim.Native.Nat.{ℕ, suc, _-_, _≤_, _<_}
 use mathlib.Core.Path.{_≡_, refl, sym, ap, _∙_}
 use mathlib.Core.List.{List, [], _∷_, _++_}
 use mathlib.Core.Logic.{_↔_}
@@ -22,7 +22,7 @@ use Rattle.sliver_kernel.specs.Outcomes as widths
 use Rattle.echo_kernel.specs.declared.EchoError.{EchoError}
 use Rattle.echo_kernel.specs.declared.Echo.{Echo}
 use Rattle.echo_kernel.specs.declared.Echo.the-variants.{Printed, Refused}
-use Rattle.echo_kernel.specs.Outcomes.{errorNumber, answered}
+use Rattle.echo_kernel.specs.Outcomes.{errorNumber, error-number, answered}
 use Rattle.theorems.specs.Scripts.{scriptOf}
 use Rattle.theorems.specs.Printed.{reading}
 use Rattle.theorems.specs.Tables as Tables
@@ -118,8 +118,10 @@ printer-prints p lent out n c =
 
 -- What it refuses has the definitions' number, and the buffer is zeroed.
 pub printer-refuses : (p : Problem) (lent out : List ℕ) (e : EchoError) → EchoContract (Refused e) p lent out
-    → (echo-ext-answer p lent .number ≡ errorNumber e) × (out ≡ echo-ext-answer p lent .output)
-printer-refuses p lent out e c = (sym (ap (λ (x : Answer). x .number) c), ap (λ (x : Answer). x .output) c)
+    → (echo-ext-answer p lent .number ≡ errorNumber e) × (out ≡ replicate (length lent) 0)
+printer-refuses p lent out e c =
+    let n : echo-ext-answer p lent .number ≡ errorNumber e = sym (ap (λ (x : Answer). x .number) c) in
+    (n, ap (λ (x : Answer). x .output) (c ∙ refusal-zeroes p lent (errorNumber e - 1) (n ∙ error-number e)))
 
 -- The contract of `ext_wf`, the width pass.
 abbrev pub WidthContract : Outcome → List ℕ → List ℕ → List ℕ → List ℕ → List ℕ → Type 0

@@ -1,7 +1,7 @@
 -- What each way out of `echo_ext` answers. Assumes nothing.
 use Prim.Native.Nat.{ℕ, zero, suc, _+_, _^_, _≤_, _<_}
-use mathlib.Core.Path.{_≡_, refl, sym, ap, _∙_, subst}
-use mathlib.Core.List.{List, [], _∷_, _++_}
+use mathlib.Core.Path.{_≡_, refl, sym, ap, _∙_}
+use mathlib.Core.List.{List, _++_}
 use native.Mathlib.Omega.{arith}
 use native.Mathlib.Decide.{decLe}
 use borrow.Author.Tests.{le-leb, lt-leb}
@@ -11,14 +11,14 @@ use Rattle.echo_spec.specs.Refusals.{unless, _orElse_}
 use Rattle.echo_spec.specs.Input.{Problem, withinLimits, encoded, dagOf, queryOf}
 use Rattle.echo_spec.specs.Walk.{refusal}
 use Rattle.echo_spec.specs.Widths.{ext-wf}
-use Rattle.echo_spec.specs.Answers.{Answer, zeroed, script, echoRefusal, echoAnswer, echo-ext-answer}
+use Rattle.echo_spec.specs.Answers.{zeroed, script, echoRefusal, echoAnswer, echo-ext-answer}
 use Rattle.echo_spec.specs.Accepted.{refusal-bound, orElse-either, unless-bound}
 use Rattle.echo_bytes.specs.declared.Place.{Place}
 use Rattle.echo_bytes.specs.Page.{Page, page, start, written}
 use Rattle.echo_bytes.specs.Laws.{need-exact, written-fits}
 use Rattle.echo_walk.specs.declared.Out.{Out}
 use Rattle.echo_walk.specs.declared.Out.the-variants as out
-use Rattle.echo_walk.specs.Texts.{Text, outcome}
+use Rattle.echo_walk.specs.Texts.{outcome}
 use Rattle.echo_walk.specs.Lent.{Wrote}
 use Rattle.echo_kernel.specs.declared.EchoError.{EchoError}
 use Rattle.echo_kernel.specs.declared.EchoError.the-variants.{Room}

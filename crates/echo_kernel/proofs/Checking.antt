@@ -1,29 +1,24 @@
 -- The checks in order: what each refusal answers, and what is known after the last. Assumes nothing.
-use Prim.Native.Nat.{ℕ, zero, suc, _+_, _%_, _≤_, _<_}
+use Prim.Native.Nat.{ℕ, zero, suc, _%_, _≤_, _<_}
 use mathlib.Core.Path.{_≡_, refl, sym, ap, _∙_, subst}
 use mathlib.Core.Bool.{Bool, true, false, _&&_, not}
 use mathlib.Core.List.{List, [], _∷_}
 use native.Mathlib.Omega.{arith}
 use lib.Arith.{lt-of-le-ne}
-use borrow.Author.Tests.{not-true, not-false, eq-eqb, ne-eqb, le-leb, lt-leb}
+use borrow.Author.Tests.{not-true, not-false, eq-eqb, ne-eqb}
 use lib.Dec.{T, leb, leb→le, eqb}
-use lib.ListN.{length, take, drop}
+use lib.ListN.{length, take}
 use Rattle.lists.specs.Tests.{every, and-0, and-1, true→T}
-use Rattle.echo_spec.specs.Refusals.{unless, _orElse_}
-use Rattle.echo_spec.specs.Input.{Problem, nodesWithin, columnWithin, withinLimits, nodeEncoded, encoded, nodesOf, dagOf, queryOf}
-use Rattle.echo_spec.specs.Widths.{ext-wf}
+use Rattle.echo_spec.specs.Input.{Problem, nodesWithin, columnWithin, withinLimits, nodeEncoded, encoded, nodesOf, dagOf}
 use Rattle.echo_spec.specs.Names.{namesOk}
 use Rattle.echo_spec.specs.Sharing.{unshared}
 use Rattle.echo_spec.specs.Tables.{columnsOk, decl-vars-ok, decl-funcs-ok}
-use Rattle.echo_spec.specs.Trees.{readingOf}
-use Rattle.echo_spec.specs.Walk.{walkRoots, refusal, refusalWith}
-use Rattle.echo_spec.specs.Render.{render}
+use Rattle.echo_spec.specs.Walk.{refusalWith}
 use Rattle.echo_spec.specs.Answers.{script}
-use Rattle.echo_spec.specs.Accepted.{refusal-bound, orElse-either, unless-bound}
 use Rattle.echo_bytes.specs.Page.{Page}
 use Rattle.echo_walk.specs.declared.Out.{Out}
-use Rattle.echo_walk.specs.declared.Out.the-variants.{Done, Refused}
-use Rattle.echo_walk.specs.Texts.{Text, whole, refused, outcome}
+use Rattle.echo_walk.specs.declared.Out.the-variants.{Refused}
+use Rattle.echo_walk.specs.Texts.{outcome}
 use Rattle.echo_walk.specs.Lent.{Wrote}
 use Rattle.sliver_kernel.specs.Pass.{Passed, ext-wf-short}
 use Rattle.blast_kernel.specs.Records.{nodes-length}

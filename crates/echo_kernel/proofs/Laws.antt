@@ -1,11 +1,11 @@
 -- The laws of the script's proof: one root, and roots one after the other.
-use Prim.Native.Nat.{ℕ, zero, suc, _+_, _-_, _^_, _≤_, _<_}
+use Prim.Native.Nat.{ℕ, _+_, _-_, _^_, _≤_, _<_}
 use mathlib.Core.Path.{_≡_, refl, sym, ap, _∙_, subst}
 use mathlib.Core.Bool.{Bool, true}
 use mathlib.Core.List.{List, [], _∷_, _++_, append-nil}
 use native.Mathlib.Numerals.{add-one}
 use native.Mathlib.Omega.{arith}
-use lib.ListN.{length, getD, take, drop, length-drop}
+use lib.ListN.{length, getD, take, drop}
 use lib.Seq.{drop-cons, drop-length}
 use Rattle.lists.specs.Bytes.{bytes}
 use Rattle.echo_bytes.specs.declared.Place.{Place}
@@ -16,7 +16,7 @@ use Rattle.echo_walk.specs.declared.Out.the-variants.{Done, Refused}
 use Rattle.echo_walk.specs.Texts.{Text, whole, refused, onto, then}
 use Rattle.echo_walk.specs.TextLaws.{onto-append}
 use Rattle.echo_walk.specs.Lent.{Wrote}
-use Rattle.echo_walk.specs.WroteLaws.{behind, last, both, stop}
+use Rattle.echo_walk.specs.WroteLaws.{behind, last}
 use Rattle.echo_kernel.specs.Scripts.{rootText, rootsText}
 
 -- ---------------------------------------------------------------- one root

@@ -1,12 +1,11 @@
 -- The script of a problem that passed the checks: what its writers ask, and that their texts are the script's. Assumes nothing.
-use Prim.Native.Nat.{ℕ, _≤_, _<_}
-use mathlib.Core.Path.{_≡_, refl, sym, ap, _∙_, subst}
-use mathlib.Core.List.{List, [], _∷_, _++_}
+use Prim.Native.Nat.{ℕ, _≤_}
+use mathlib.Core.Path.{_≡_, refl, sym, _∙_, subst}
+use mathlib.Core.List.{List, [], _∷_}
 use native.Mathlib.Omega.{arith}
 use lib.ListN.{length}
 use Rattle.lists.specs.Bytes.{bytes}
-use Rattle.echo_spec.specs.Input.{Problem, nodesOf, Dag, dagOf, queryOf}
-use Rattle.echo_spec.specs.Walk.{asked}
+use Rattle.echo_spec.specs.Input.{Problem, dagOf, queryOf}
 use Rattle.echo_bytes.specs.declared.Place.{Place}
 use Rattle.echo_bytes.specs.Page.{Page, page, start, written}
 use Rattle.echo_bytes.specs.Laws.{written-then, at-written}

@@ -1,5 +1,6 @@
 -- The number and length of what `echo_ext` answers, with the buffer that was lent as it is then.
-use Prim.Native.Nat.{ℕ}
+use Prim.Native.Nat.{ℕ, suc, _-_}
+use mathlib.Core.Path.{_≡_, refl}
 use mathlib.Core.List.{List}
 use Rattle.echo_spec.specs.Answers.{Answer}
 use Rattle.echo_kernel.specs.declared.EchoError.{EchoError}
@@ -29,3 +30,16 @@ count (Refused e) = 0
 
 abbrev pub answered : Echo → List ℕ → Answer
 answered r out = record { number = number r; count = count r; output = out }
+
+-- no error has the number of an acceptance
+pub error-number : (e : EchoError) → errorNumber e ≡ suc (errorNumber e - 1)
+error-number Malformed = refl
+error-number Name = refl
+error-number Sort = refl
+error-number Var = refl
+error-number Rotate = refl
+error-number Shared = refl
+error-number Signature = refl
+error-number Encoding = refl
+error-number Limit = refl
+error-number Room = refl

@@ -1,6 +1,6 @@
 -- What is known of a problem when its script is written, and the lines before the roots. Assumes nothing.
 use Prim.Native.Nat.{ℕ, _≤_}
-use mathlib.Core.Path.{_≡_, refl, ap, sym, _∙_}
+use mathlib.Core.Path.{_≡_, _∙_}
 use mathlib.Core.List.{List, _++_}
 use lib.Dec.{T, leb}
 use lib.ListN.{length}

@@ -5,7 +5,6 @@ use mathlib.Core.Bool.{Bool, true}
 use mathlib.Core.List.{List, [], _∷_, _++_, map, append-assoc}
 use lib.ListN.{length}
 use Rattle.lists.specs.Bytes.{bytes}
-use Rattle.reading.specs.Trees.{Reading}
 use Rattle.echo_spec.specs.Refusals.{unless, _orElse_}
 use Rattle.echo_spec.specs.Input.{Problem, withinLimits, encoded, Dag, dagOf, Query, queryOf}
 use Rattle.echo_spec.specs.Names.{namesOk}
@@ -15,7 +14,7 @@ use Rattle.echo_spec.specs.Trees.{treesOver, treeOf, readingOf}
 use Rattle.echo_spec.specs.Walk.{formula, walkAll, walk, walkRoots, refusal}
 use Rattle.echo_spec.specs.Render.{term, assertionsText, logicText, declarationsText, render}
 use Rattle.echo_spec.specs.Answers.{script}
-use Rattle.echo_walk.specs.Texts.{Text, whole, refused, outcome, onto, then, nodeText}
+use Rattle.echo_walk.specs.Texts.{Text, whole, outcome, onto, then, nodeText}
 use Rattle.echo_walk.specs.TextLaws.{outcome-then, outcome-onto}
 
 -- ---------------------------------------------------------------- roots

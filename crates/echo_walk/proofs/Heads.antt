@@ -1,7 +1,7 @@
 -- The laws of heads: what is known of a node that passes, by its shape.
-use Prim.Native.Nat.{ℕ, zero, suc, _+_, _-_, _%_, _≤_, _<_}
+use Prim.Native.Nat.{ℕ, suc, _+_, _-_, _%_, _≤_, _<_}
 use mathlib.Core.Path.{_≡_, refl, sym, ap, _∙_, subst}
-use mathlib.Core.Bool.{Bool, true, false, _&&_, _||_, not}
+use mathlib.Core.Bool.{Bool, true, false, _||_, not}
 use mathlib.Core.List.{List, [], _∷_, _++_}
 use mathlib.Core.Option.{Option, none, some}
 use native.Mathlib.Omega.{arith}
@@ -9,8 +9,7 @@ use lib.Dec.{T, leb, ltb, eqb, ltb→lt, leb→le, nltb→le, eqb→eq}
 use lib.ListN.{length, getD, take, drop, List·getD-eq-default}
 use Rattle.lists.specs.Bytes.{bytes}
 use Rattle.lists.specs.Tests.{every, everyFrom, every-at, and-0, and-1, or-not, true→T}
-use Rattle.lists.specs.Build.{findFrom, find-bound}
-use Rattle.reading.specs.Trees.{Name}
+use Rattle.lists.specs.Build.{find-bound}
 use Rattle.echo_spec.specs.Shapes.{
   Shape,
   var,
@@ -31,21 +30,20 @@ use Rattle.echo_spec.specs.Shapes.{
   shapes,
   shapeOf,
 }
-use Rattle.echo_spec.specs.Input.{Node, shape, no-node, nodesOf, part, namesOf, Dag, dagOf}
+use Rattle.echo_spec.specs.Input.{Node, shape, nodesOf, part, namesOf, Dag, dagOf}
 use Rattle.echo_spec.specs.Refusals.{unless, _orElse_}
-use Rattle.echo_spec.specs.Widths.{widthAt, bin-wf, wfAs, node-wf, ext-wf}
+use Rattle.echo_spec.specs.Widths.{widthAt, wfAs, node-wf}
 use Rattle.echo_spec.specs.WidthLaws.{Sized, sized, bin-operands}
 use Rattle.echo_spec.specs.Tables.{find-node}
 use Rattle.echo_spec.specs.Trees.{constantBits, bitsValue, variableName}
 use Rattle.echo_spec.specs.Walk.{variableOk, rotationOk, callOk, askedAs, asked}
 use Rattle.echo_spec.specs.Accepted.{unless-passed, orElse-passed}
 use Rattle.echo_spec.specs.Render.{symbolOf, binaryDigits, quoted, operatorText}
-use Rattle.blast_kernel.specs.Codes.{codeOf, shapeCoded, in-arm}
+use Rattle.blast_kernel.specs.Codes.{codeOf}
 use Rattle.echo_tables.specs.Found.{orZero}
 use Rattle.echo_names.specs.Tables.{length-namesOf, getD-namesOf}
 use Rattle.echo_lines.specs.Heads.{repeated, callHead}
-use Rattle.echo_lines.specs.Symbols.{symbolTable}
-use Rattle.echo_bytes.specs.Page.{Page, page, written}
+use Rattle.echo_bytes.specs.Page.{Page, written}
 use Rattle.echo_walk.specs.Texts.{headAs, headOf}
 use Rattle.echo_walk.specs.Lent.{Slice, slot, dagAt, widthsAt, bitsAt, nodeAtPlace, headAt, indexedHead, Ready, Passed, Constant, Operator}
 

@@ -2,14 +2,14 @@
 use Prim.Native.Nat.{ℕ, zero, suc, _+_, _-_, _*_, _^_, _≤_, _<_}
 use mathlib.Core.Path.{_≡_, refl, sym, ap, _∙_, subst}
 use mathlib.Core.Bool.{Bool, true, false, not}
-use mathlib.Core.List.{List, [], _∷_, _++_, map, append-nil}
+use mathlib.Core.List.{List, [], _∷_, _++_, append-nil}
 use native.Mathlib.Nat.{suc-mul, mul-le-mul-right}
 use native.Mathlib.Numerals.{add-one}
 use native.Mathlib.Omega.{arith}
-use lib.Dec.{T, ltb, ltb→lt, lt→ltb}
+use lib.Dec.{T, ltb, ltb→lt}
 use lib.ListN.{length, getD, take, drop, length-drop}
 use lib.Seq.{drop-cons, getD-drop}
-use Rattle.lists.specs.Tests.{All, and-0, and-1, all-left, all-right}
+use Rattle.lists.specs.Tests.{All, and-0, and-1}
 use Rattle.echo_spec.specs.Shapes.{
   Shape,
   var,
@@ -30,21 +30,7 @@ use Rattle.echo_spec.specs.Shapes.{
   isBool,
 }
 use Rattle.echo_spec.specs.Input.{Node, shape, no-node, nodeAt, nodesOf, Dag, dagOf}
-use Rattle.echo_spec.specs.Widths.{
-  indexWidth,
-  valueWidth,
-  earlier,
-  earlierOf,
-  un-wf,
-  bin-wf,
-  bool-bin-wf,
-  extend-wf,
-  chain-wf,
-  args-wf,
-  wfAs,
-  node-wf,
-  ext-wf,
-}
+use Rattle.echo_spec.specs.Widths.{indexWidth, valueWidth, earlier, earlierOf, un-wf, bin-wf, wfAs, node-wf}
 use Rattle.echo_spec.specs.WidthLaws.{Sized, sized, earlier-below, earlier-width, un-operand, bin-operands, args-operands}
 use Rattle.echo_spec.specs.Refusals.{unless}
 use Rattle.echo_spec.specs.Walk.{asked, Operand, vector, levels, sortOk}
@@ -53,32 +39,15 @@ use Rattle.blast_kernel.specs.Codes.{codeOf, shapeCoded, in-arm, NoneOf, past-a
 use Rattle.blast_kernel.specs.Records.{nodes-length, nodes-at}
 use Rattle.echo_bytes.specs.declared.Place.{Place}
 use Rattle.echo_bytes.specs.Page.{Page, page, written}
-use Rattle.echo_bytes.specs.Laws.{written-append, written-nil}
+use Rattle.echo_bytes.specs.Laws.{written-nil}
 use Rattle.echo_walk.specs.declared.Out.{Out}
 use Rattle.echo_walk.specs.declared.Out.the-variants.{Done, Refused}
 use Rattle.echo_walk.specs.declared.Form.{Form}
 use Rattle.echo_walk.specs.declared.Form.the-variants.{Leaf, One, Two, Choice, Chain, Arguments}
-use Rattle.echo_walk.specs.Texts.{
-  Text,
-  whole,
-  refused,
-  onto,
-  then,
-  nodeText,
-  headOf,
-  callForm,
-  formAs,
-  blank,
-  close,
-  oneText,
-  twoText,
-  levelsText,
-  argsText,
-  formText,
-}
+use Rattle.echo_walk.specs.Texts.{Text, whole, refused, onto, then, headOf, callForm, formAs, blank, close, twoText, levelsText, argsText, formText}
 use Rattle.echo_walk.specs.TextLaws.{then-assoc, refusedHere, node-past, node-refused, node-passed, chain-operands, joined-operands, extend-un}
-use Rattle.echo_walk.specs.WroteLaws.{behind, blank-then, last, both, stop}
-use Rattle.echo_walk.specs.Lent.{Slice, slot, dagAt, widthsAt, bitsAt, textAt, nodeAtPlace, headAt, indexedHead, Ready, Passed, Constant, Operator, Listed, Chained, After, Wrote}
+use Rattle.echo_walk.specs.WroteLaws.{behind, last}
+use Rattle.echo_walk.specs.Lent.{Slice, slot, dagAt, widthsAt, bitsAt, textAt, nodeAtPlace, Ready, Listed, Chained, Wrote}
 
 -- ---------------------------------------------------------------- an arm of a match on the code of a shape
 

@@ -1,5 +1,5 @@
 -- What is lent to the walk: two arrays of slices, in which the constants of the code name the places.
-use Prim.Native.Nat.{ℕ, zero, suc, _+_, _≤_, _<_}
+use Prim.Native.Nat.{ℕ, _+_, _≤_, _<_}
 use mathlib.Core.Path.{_≡_}
 use mathlib.Core.Bool.{Bool, true, false}
 use mathlib.Core.List.{List, [], _∷_, _++_}
@@ -16,7 +16,7 @@ use Rattle.echo_spec.specs.Walk.{askedAs, asked, Operand, levels}
 use Rattle.echo_spec.specs.Render.{symbolOf, operatorText}
 use Rattle.echo_tables.specs.Found.{orZero}
 use Rattle.echo_lines.specs.Symbols.{symbolTable}
-use Rattle.echo_bytes.specs.Page.{Page, page, written}
+use Rattle.echo_bytes.specs.Page.{Page, written}
 use Rattle.echo_walk.specs.declared.Out.{Out}
 use Rattle.echo_walk.specs.declared.Out.the-variants.{Done, Refused}
 use Rattle.echo_walk.specs.Texts.{Text, whole, refused, nodeText, headAs}

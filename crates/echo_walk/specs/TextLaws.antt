@@ -1,7 +1,7 @@
 -- Laws of texts: one after the other, and the text of a node that passes as its head and its form.
 use Prim.Native.Nat.{ℕ, zero, suc, _+_, _-_, _≤_, _<_}
 use mathlib.Core.Path.{_≡_, refl, ap, sym, _∙_, subst}
-use mathlib.Core.Bool.{Bool, true, false, not}
+use mathlib.Core.Bool.{Bool, true, false}
 use mathlib.Core.List.{List, [], _∷_, _++_, map, append-assoc, append-nil}
 use native.Mathlib.Omega.{arith}
 use lib.Dec.{T, ltb, ltb→lt, lt→ltb}
@@ -9,9 +9,9 @@ use Rattle.lists.specs.Tests.{All, T→true, no→false, and-0, and-1, all-appe
 use lib.ListN.{length, take, drop, getD}
 use Rattle.lists.specs.Bytes.{bytes}
 use Rattle.lists.specs.Build.{upto-below}
-use Rattle.reading.specs.Trees.{Tree, constant, apply, Trees, none, more, Stores, base, store}
+use Rattle.reading.specs.Trees.{Tree, constant, store}
 use Rattle.echo_spec.specs.Refusals.{unless, _orElse_}
-use Rattle.echo_spec.specs.Widths.{indexWidth, valueWidth, earlier, earlierOf, un-wf, bool-bin-wf, extend-wf, chain-wf, args-wf, wfAs, node-wf, ext-wf}
+use Rattle.echo_spec.specs.Widths.{indexWidth, valueWidth, earlier, earlierOf, un-wf, bool-bin-wf, extend-wf, chain-wf, wfAs, node-wf, ext-wf}
 use Rattle.echo_spec.specs.WidthLaws.{Sized, sized, earlier-below, earlier-width, un-operand, bin-operands, args-operands}
 use Rattle.echo_spec.specs.Shapes.{
   Shape,
@@ -33,29 +33,10 @@ use Rattle.echo_spec.specs.Shapes.{
 use Rattle.echo_spec.specs.Trees.{constantBits, variableName, treesOver, storesOver, treeAs, treeStep, treesBelow, treeOf}
 use Rattle.echo_spec.specs.Walk.{asked, sortOk, Operand, vector, formula, levels, operandsAs, walkAll, walkStep, walksBelow, walk}
 use Rattle.echo_spec.specs.Input.{Node, shape, no-node, Dag}
-use Rattle.echo_spec.specs.Render.{symbolOf, binaryDigits, quoted, operatorText, numeralsText, callText, term, terms, stores}
+use Rattle.echo_spec.specs.Render.{symbolOf, binaryDigits, quoted, operatorText, callText, term, terms, stores}
 use Rattle.echo_lines.specs.Heads.{repeated, callHead}
-use Rattle.echo_walk.specs.Texts.{
-  Text,
-  whole,
-  refused,
-  outcome,
-  onto,
-  then,
-  nodeText,
-  headAs,
-  headOf,
-  callForm,
-  formAs,
-  blank,
-  close,
-  oneText,
-  twoText,
-  levelsText,
-  argsText,
-  formText,
-}
-use Rattle.echo_walk.specs.declared.Form.the-variants.{Leaf, One, Two, Choice, Chain, Arguments}
+use Rattle.echo_walk.specs.Texts.{Text, whole, refused, outcome, onto, then, nodeText, headAs, headOf, callForm, formAs, blank, oneText, twoText, levelsText, argsText, formText}
+use Rattle.echo_walk.specs.declared.Form.the-variants.{Chain}
 
 pub onto-append : (a b : List ℕ) (t : Text) → onto (a ++ b) t ≡ onto a (onto b t)
 unfolding onto

@@ -110,6 +110,7 @@ pub enum Form {
     Arguments(u64, u64),
 }
 
+// Entry i, or 0 past the end. Ruled out: the last entry where i lies past it; the entry after i.
 pub fn get(s: &[u64], i: u64) -> u64
     ensures { λ r. ⌜ r ≡ getD (now (s .entry)) i 0 ⌝ }
 {
@@ -364,7 +365,8 @@ fn operands_at(text: &[&[u8]; 6], i: u64) -> Form
     operands(node_of(nodes, i))
 }
 
-// Node i where a Bool is wanted, or a bit-vector.
+// Node i where a Bool is wanted, or a bit-vector. Ruled out: operands that change places; a call without its arguments; a refusal of a
+// later operand told before that of an earlier one.
 pub fn echo_node(
     text: &[&[u8]; 6],
     numbers: &[&[u64]; 13],

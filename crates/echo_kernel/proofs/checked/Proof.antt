@@ -8,13 +8,6 @@ use Rattle.echo_kernel.proofs.Checking.{failed, passed, bounds, over-li
 use borrow.Author.Needs.{needs}
 use Rattle.echo_kernel.proofs.checked.Statement.{statement}
 use Rattle.echo_kernel.proofs.checked.Tie as tie
-use Rattle.echo_kernel.proofs.checked.Reads as reads
-use Rattle.echo_kernel.proofs.checked.Lts as lts
-use Rattle.blast_kernel.proofs.encoded.Reads as encoded-reads
-use Rattle.blast_kernel.proofs.node_count.Reads as node-count-reads
-use Rattle.echo_checks.proofs.within_limits.Reads as within-limits-reads
-use Rattle.echo_kernel.proofs.tables.Reads as tables-reads
-use Rattle.sliver_kernel.proofs.widths.Reads as widths-reads
 
 -- the problem that is lent
 abbrev P : tie.Start → Problem
@@ -23,51 +16,39 @@ P s =
     (s .args .name-len .now) (s .args .var-node .now) (s .args .var-width .now) (s .args .anames .now) (s .args .aname-start .now)
     (s .args .aname-len .now) (s .args .fnames .now) (s .args .fname-start .now) (s .args .fname-len .now) (s .args .func-width .now)
 
--- src/lib.rt:201:9
 within-limits-requires : tie.Need-within-limits-requires
 within-limits-requires c κs = search needs
 
--- src/lib.rt:202:9
 returns : tie.Need-returns
 returns c = over-limit (P (c .before .before .before .before .before .before .before .before .before .before .before .before .before .before .before .before .before .before .before)) (failed (c .before .within-limits .ensures) refl (c .if1 .taken))
 
--- src/lib.rt:204:9
 encoded-requires : tie.Need-encoded-requires
 encoded-requires c κs = search needs
 
--- src/lib.rt:205:9
 returns-2 : tie.Need-returns-2
 returns-2 c = ill-encoded (P (c .before .before .before .before .before .before .before .before .before .before .before .before .before .before .before .before .before .before .before .before .before)) (passed (c .before .before .before .within-limits .ensures) refl (c .before .before .if1 .left)) (failed (c .before .encoded .ensures) refl (c .if2 .taken))
 
--- src/lib.rt:208:9
 widths-requires : tie.Need-widths-requires
 widths-requires c κs = bounds (P (c .before .before .before .before .before .before .before .before .before .before .before .before .before .before .before .before .before .before .before .before .before .before)) (true→T (passed (c .before .before .before .before .within-limits .ensures) refl (c .before .before .before .if1 .left))) .nodes
 
--- src/lib.rt:209:12
 node-count-requires : tie.Need-node-count-requires
 node-count-requires c κs = search needs
 
--- src/lib.rt:210:9
 returns-3 : tie.Need-returns-3
 returns-3 c = ill-formed (P (c .before .before .before .before .before .before .before .before .before .before .before .before .before .before .before .before .before .before .before .before .before .before .before .before .before)) (passed (c .before .before .before .before .before .before .before .within-limits .ensures) refl (c .before .before .before .before .before .before .if1 .left)) (passed (c .before .before .before .before .before .encoded .ensures) refl (c .before .before .before .before .if2 .left)) (c .before .before .widths .ensures) (omega (arith, c .if3 .taken, c .before .node-count .ensures))
 
--- src/lib.rt:212:164
 array-share-prefix-ws : tie.Need-array-share-prefix-ws
 array-share-prefix-ws c = passed-within (c .before .before .widths .ensures)
 
--- src/lib.rt:212:164
 slice-aggregate-tables : tie.Need-slice-aggregate-tables
 slice-aggregate-tables c = passed-length (c .before .before .before .widths .ensures)
 
--- src/lib.rt:212:5
 tables-requires : tie.Need-tables-requires
 tables-requires c κs = formed (P (c .before .before .before .before .before .before .before .before .before .before .before .before .before .before .before .before .before .before .before .before .before .before .before .before .before .before .before)) (c .before .before .before .before .widths .ensures) (omega (arith, c .before .before .if3 .left, c .before .before .before .node-count .ensures)) (passed (c .before .before .before .before .before .before .before .before .before .within-limits .ensures) refl (c .before .before .before .before .before .before .before .before .if1 .left)) (passed (c .before .before .before .before .before .before .before .encoded .ensures) refl (c .before .before .before .before .before .before .if2 .left))
 
--- src/lib.rt:180:1
 same-length : tie.Need-same-length
 same-length c = search needs
 
--- src/lib.rt:180:1
 returns-4 : tie.Need-returns-4
 returns-4 c = checks-passed (P (c .before .before .before .before .before .before .before .before .before .before .before .before .before .before .before .before .before .before .before .before .before .before .before .before .before .before .before .before .before .before)) (passed (c .before .before .before .before .before .before .before .before .before .before .before .before .within-limits .ensures) refl (c .before .before .before .before .before .before .before .before .before .before .before .if1 .left)) (passed (c .before .before .before .before .before .before .before .before .before .before .encoded .ensures) refl (c .before .before .before .before .before .before .before .before .before .if2 .left)) (c .before .before .before .before .before .before .before .widths .ensures) (omega (arith, c .before .before .before .before .before .if3 .left, c .before .before .before .before .before .before .node-count .ensures)) (c .before .before .tables .ensures)
 

@@ -5,11 +5,6 @@ use Rattle.echo_kernel.proofs.Answering.{listed, answer-room, answer-re
 use borrow.Author.Needs.{needs}
 use Rattle.echo_kernel.proofs.echo_ext.Statement.{statement}
 use Rattle.echo_kernel.proofs.echo_ext.Tie as tie
-use Rattle.echo_kernel.proofs.echo_ext.Reads as reads
-use Rattle.echo_kernel.proofs.echo_ext.Lts as lts
-use Rattle.echo_kernel.proofs.checked.Reads as checked-reads
-use Rattle.echo_kernel.proofs.clear.Reads as clear-reads
-use Rattle.echo_kernel.proofs.error.Reads as error-reads
 
 -- the problem that is lent
 abbrev P : tie.Start → Problem
@@ -18,51 +13,39 @@ P s =
     (s .args .name-len .now) (s .args .var-node .now) (s .args .var-width .now) (s .args .anames .now) (s .args .aname-start .now)
     (s .args .aname-len .now) (s .args .fnames .now) (s .args .fname-start .now) (s .args .fname-len .now) (s .args .func-width .now)
 
--- src/lib.rt:300:11
 checked-requires : tie.Need-checked-requires
 checked-requires c κs = search needs
 
--- src/lib.rt:301:22
 enum-known-e : tie.Need-enum-known-e
 enum-known-e c = search needs
 
--- src/lib.rt:302:13
 clear-requires : tie.Need-clear-requires
 clear-requires c κs = search needs
 
--- src/lib.rt:303:27
 error-requires : tie.Need-error-requires
 error-requires c κs = listed (P (c .before .before .before .before .before .before .before .before .before .before .before .before .before .before .before .before .before .before .before .before .before .before .before .before .before .before .before .before)) (c .before .before .before .before .before .before .before .before .before .checked .ensures) (c .before .before .before .before .before .e .given .1)
 
--- src/lib.rt:305:19
 enum-known-p : tie.Need-enum-known-p
 enum-known-p c = search needs
 
--- src/lib.rt:307:17
 clear-requires-2 : tie.Need-clear-requires-2
 clear-requires-2 c κs = search needs
 
--- src/lib.rt:308:17
 same-length : tie.Need-same-length
 same-length c = search needs
 
--- src/lib.rt:308:17
 returns : tie.Need-returns
 returns c = answer-room (P (c .before .before .before .before .before .before .before .before .before .before .before .before .before .before .before .before .before .before .before .before .before .before .before .before .before .before .before .before .before .before)) (c .before .before .before .before .before .before .before .before .before .before .before .checked .ensures) (c .before .before .before .before .before .before .before .p .given .1) (omega (arith, c .before .before .before .before .before .before .before .before .before .before .before .before .before .before .before .before .before .before .before .before .before .before .before .before .before .before .before .before .before .before .good)) (c .before .before .before .before .if1 .taken) (c .before .before .clear2 .ensures) (search needs)
 
--- src/lib.rt:279:1
 same-length-2 : tie.Need-same-length-2
 same-length-2 c = search needs
 
--- src/lib.rt:279:1
 returns-2 : tie.Need-returns-2
 returns-2 c = answer-refused (P (c .before .before .before .before .before .before .before .before .before .before .before .before .before .before .before .before .before .before .before .before .before .before .before .before .before .before .before .before .before)) (c .before .before .before .before .before .before .before .before .before .before .checked .ensures) (c .error .result) (c .before .before .before .before .before .before .e .given .1) (c .error .ensures) (c .before .before .before .clear .ensures) (search needs)
 
--- src/lib.rt:279:1
 same-length-3 : tie.Need-same-length-3
 same-length-3 c = search needs
 
--- src/lib.rt:279:1
 returns-3 : tie.Need-returns-3
 returns-3 c = answer-printed (P (c .before .before .before .before .before .before .before .before .before .before .before .before .before .before .before .before .before .before .before .before .before .before .before .before .before .before)) (c .before .before .before .before .before .before .before .checked .ensures) (c .before .before .before .p .given .1) (omega (arith, c .before .before .before .before .before .before .before .before .before .before .before .before .before .before .before .before .before .before .before .before .before .before .before .before .before .before .good)) (c .if1 .left) (search needs)
 

@@ -8,10 +8,6 @@ use Rattle.echo_walk.specs.Lent.{textAt}
 use Rattle.echo_kernel.proofs.Laws.{RootsSoFar, no-roots, roots-size, root-stop, root-inside, root-done, roots-end}
 use Rattle.echo_kernel.proofs.echo_roots.Statement.{statement}
 use Rattle.echo_kernel.proofs.echo_roots.Tie as tie
-use Rattle.echo_kernel.proofs.echo_roots.Reads as reads
-use Rattle.echo_kernel.proofs.echo_roots.Lts as lts
-use Rattle.echo_kernel.proofs.echo_root.Reads as echo-root-reads
-use Rattle.echo_kernel.proofs.place_after.Reads as place-after-reads
 
 abbrev Inv-loop : tie.InvT-loop
 Inv-loop text numbers roots out₀ q₀ k₀ out q k = RootsSoFar (textAt text numbers) roots (page q₀ out₀) k q out
@@ -19,71 +15,54 @@ Inv-loop text numbers roots out₀ q₀ k₀ out q k = RootsSoFar (textAt text n
 abbrev μ-loop : tie.MeasureT-loop
 μ-loop text numbers roots out₀ q₀ k₀ out q k = length roots - k
 
--- src/lib.rt:40:5
 loop-holds : tie.Need-loop-holds Inv-loop μ-loop
 loop-holds c = no-roots _ _ _ (omega arith) (c .before .before .pre .1)
 
--- src/lib.rt:42:40
 mul-echo-root : tie.Need-mul-echo-root Inv-loop μ-loop
 mul-echo-root c = omega arith
 
--- src/lib.rt:42:40
 shared-slice-read-echo-root : tie.Need-shared-slice-read-echo-root Inv-loop μ-loop
 shared-slice-read-echo-root c = omega (arith, c .before .loop-test .taken)
 
--- src/lib.rt:42:50
 sub-echo-root : tie.Need-sub-echo-root Inv-loop μ-loop
 sub-echo-root c = omega (arith, c .before .before .loop .inv .inside)
 
--- src/lib.rt:42:50
 part-echo-root-start : tie.Need-part-echo-root-start Inv-loop μ-loop
 part-echo-root-start c = omega (arith, c .before .before .loop .inv .inside)
 
--- src/lib.rt:42:50
 part-echo-root-end : tie.Need-part-echo-root-end Inv-loop μ-loop
 part-echo-root-end c = omega (arith, c .before .before .loop .inv .inside)
 
--- src/lib.rt:42:15
 echo-root-requires : tie.Need-echo-root-requires Inv-loop μ-loop
 echo-root-requires c κs = c .before .before .before .before .before .before .pre .0
 
--- src/lib.rt:43:26
 enum-known-e : tie.Need-enum-known-e Inv-loop μ-loop
 enum-known-e c = search needs
 
--- src/lib.rt:43:32
 same-length : tie.Need-same-length Inv-loop μ-loop
 same-length c = search (needs, roots-size (c .before .before .before .before .before .before .before .before .before .loop .inv), c .before .before .before .before .before .before .before .before .before .loop .inv .inside)
 
--- src/lib.rt:43:32
 returns : tie.Need-returns Inv-loop μ-loop
 returns c = root-stop (c .before .before .before .before .before .before .before .before .before .loop .inv) (c .before .before .before .before .before .before .before .before .loop-test .taken) refl (c .before .before .before .before .before .echo-root .ensures) (c .before .e .given .1)
 
--- src/lib.rt:44:23
 enum-known-r : tie.Need-enum-known-r Inv-loop μ-loop
 enum-known-r c = search needs
 
--- src/lib.rt:45:17
 place-after-requires : tie.Need-place-after-requires Inv-loop μ-loop
 place-after-requires c κs = omega (arith, roots-size (c .before .before .before .before .before .before .before .before .before .loop .inv), c .before .before .before .before .before .before .before .before .before .before .before .before .good, root-inside (c .before .before .before .before .before .before .before .before .before .loop .inv) (c .before .before .before .before .before .before .before .before .loop-test .taken) refl (c .before .before .before .before .before .echo-root .ensures) (c .before .r .given .1))
 
--- src/lib.rt:48:9
 add-k : tie.Need-add-k Inv-loop μ-loop
 add-k c = omega arith
 
--- src/lib.rt:40:5
 loop-less : tie.Need-loop-less Inv-loop μ-loop
 loop-less c = omega arith
 
--- src/lib.rt:40:5
 loop-again : tie.Need-loop-again Inv-loop μ-loop
 loop-again c = root-done (c .before .before .before .before .before .before .before .before .before .before .loop .inv) (c .before .before .before .before .before .before .before .before .before .loop-test .taken) refl (c .before .before .before .before .before .before .echo-root .ensures) (c .before .before .r .given .1) (c .place-after .ensures)
 
--- src/lib.rt:34:1
 same-length-2 : tie.Need-same-length-2 Inv-loop μ-loop
 same-length-2 c = search (needs, roots-size (c .before .loop .inv))
 
--- src/lib.rt:34:1
 returns-2 : tie.Need-returns-2 Inv-loop μ-loop
 returns-2 c = roots-end (c .before .loop .inv) (omega (arith, c .loop-test .left))
 

@@ -2,19 +2,13 @@ use Prim.Native.Nat.{_+_}
 use borrow.Author.Needs.{needs}
 use Rattle.echo_kernel.proofs.place_after.Statement.{statement}
 use Rattle.echo_kernel.proofs.place_after.Tie as tie
-use Rattle.echo_kernel.proofs.place_after.Reads as reads
-use Rattle.echo_kernel.proofs.place_after.Lts as lts
-use Rattle.echo_bytes.proofs.more.Reads as more-reads
 
--- src/lib.rt:16:14
 add-at : tie.Need-add-at
 add-at c = search needs
 
--- src/lib.rt:17:27
 more-requires : tie.Need-more-requires
 more-requires c κs = search needs
 
--- src/lib.rt:12:1
 returns : tie.Need-returns
 returns c = λ i. record { at = c .before .before .before .args .p .at + c .before .before .before .args .q .at; need = c .more .ensures i }
 

@@ -11,18 +11,6 @@ use Rattle.echo_kernel.proofs.Checking.{failed, passed, bounds, bits-bi
 use borrow.Author.Needs.{needs}
 use Rattle.echo_kernel.proofs.tables.Statement.{statement}
 use Rattle.echo_kernel.proofs.tables.Tie as tie
-use Rattle.echo_kernel.proofs.tables.Reads as reads
-use Rattle.echo_kernel.proofs.tables.Lts as lts
-use Rattle.echo_checks.proofs.columns_ok.Reads as columns-ok-reads
-use Rattle.echo_checks.proofs.decl_funcs_ok.Reads as decl-funcs-ok-reads
-use Rattle.echo_checks.proofs.decl_vars_ok.Reads as decl-vars-ok-reads
-use Rattle.echo_checks.proofs.names_ok.Reads as names-ok-reads
-use Rattle.echo_kernel.proofs.print.Reads as print-reads
-use Rattle.echo_lines.proofs.symbol_table.Reads as symbol-table-reads
-use Rattle.echo_sharing.proofs.unshared.Reads as unshared-reads
-use Rattle.echo_tables.proofs.entries.Reads as entries-reads
-use Rattle.echo_tables.proofs.first_calls.Reads as first-calls-reads
-use Rattle.echo_tables.proofs.mark.Reads as mark-reads
 
 -- the problem that is lent
 abbrev P : tie.Start → Problem
@@ -31,63 +19,48 @@ P s =
     (s .args .name-len .now) (s .args .var-node .now) (s .args .var-width .now) (s .args .anames .now) (s .args .aname-start .now)
     (s .args .aname-len .now) (s .args .fnames .now) (s .args .fname-start .now) (s .args .fname-len .now) (s .args .func-width .now)
 
--- src/lib.rt:152:9
 columns-ok-requires : tie.Need-columns-ok-requires
 columns-ok-requires c κs = search needs
 
--- src/lib.rt:153:9
 returns : tie.Need-returns
 returns c = bad-columns (P (c .before .before .before .before .before .before .before .before .before .before .before .before .before .before .before .before .before .before .before .before)) _ (failed (c .before .columns-ok .ensures) (columns-of (P (c .before .before .before .before .before .before .before .before .before .before .before .before .before .before .before .before .before .before .before .before))) (c .if1 .taken))
 
--- src/lib.rt:155:9
 names-ok-requires : tie.Need-names-ok-requires
 names-ok-requires c κs = aligned-names (P (c .before .before .before .before .before .before .before .before .before .before .before .before .before .before .before .before .before .before .before .before)) (aligned-of (P (c .before .before .before .before .before .before .before .before .before .before .before .before .before .before .before .before .before .before .before .before)) (passed (c .before .columns-ok .ensures) (columns-of (P (c .before .before .before .before .before .before .before .before .before .before .before .before .before .before .before .before .before .before .before .before))) (c .if1 .left)))
 
--- src/lib.rt:156:9
 returns-2 : tie.Need-returns-2
 returns-2 c = bad-names (P (c .before .before .before .before .before .before .before .before .before .before .before .before .before .before .before .before .before .before .before .before .before .before)) _ (passed (c .before .before .before .columns-ok .ensures) (columns-of (P (c .before .before .before .before .before .before .before .before .before .before .before .before .before .before .before .before .before .before .before .before .before .before))) (c .before .before .if1 .left)) (failed (c .before .names-ok .ensures) (names-of (P (c .before .before .before .before .before .before .before .before .before .before .before .before .before .before .before .before .before .before .before .before .before .before))) (c .if2 .taken))
 
--- src/lib.rt:158:9
 unshared-requires : tie.Need-unshared-requires
 unshared-requires c κs = (bounds (P (c .before .before .before .before .before .before .before .before .before .before .before .before .before .before .before .before .before .before .before .before .before .before)) (c .before .before .before .before .before .before .before .before .before .before .before .before .before .before .before .before .before .before .before .before .before .before .pre .within)) .nodes
 
--- src/lib.rt:159:9
 returns-3 : tie.Need-returns-3
 returns-3 c = shared-node (P (c .before .before .before .before .before .before .before .before .before .before .before .before .before .before .before .before .before .before .before .before .before .before .before .before)) _ (passed (c .before .before .before .before .before .columns-ok .ensures) (columns-of (P (c .before .before .before .before .before .before .before .before .before .before .before .before .before .before .before .before .before .before .before .before .before .before .before .before))) (c .before .before .before .before .if1 .left)) (passed (c .before .before .before .names-ok .ensures) (names-of (P (c .before .before .before .before .before .before .before .before .before .before .before .before .before .before .before .before .before .before .before .before .before .before .before .before))) (c .before .before .if2 .left)) (failed (c .before .unshared .ensures) refl (c .if3 .taken))
 
--- src/lib.rt:161:9
 decl-vars-ok-requires : tie.Need-decl-vars-ok-requires
 decl-vars-ok-requires c κs = search needs
 
--- src/lib.rt:162:9
 returns-4 : tie.Need-returns-4
 returns-4 c = bad-variables (P (c .before .before .before .before .before .before .before .before .before .before .before .before .before .before .before .before .before .before .before .before .before .before .before .before .before .before)) _ (passed (c .before .before .before .before .before .before .before .columns-ok .ensures) (columns-of (P (c .before .before .before .before .before .before .before .before .before .before .before .before .before .before .before .before .before .before .before .before .before .before .before .before .before .before))) (c .before .before .before .before .before .before .if1 .left)) (passed (c .before .before .before .before .before .names-ok .ensures) (names-of (P (c .before .before .before .before .before .before .before .before .before .before .before .before .before .before .before .before .before .before .before .before .before .before .before .before .before .before))) (c .before .before .before .before .if2 .left)) (passed (c .before .before .before .unshared .ensures) refl (c .before .before .if3 .left)) (failed (c .before .decl-vars-ok .ensures) (vars-of (P (c .before .before .before .before .before .before .before .before .before .before .before .before .before .before .before .before .before .before .before .before .before .before .before .before .before .before))) (c .if4 .taken))
 
--- src/lib.rt:167:5
 first-calls-requires : tie.Need-first-calls-requires
 first-calls-requires c κs = search needs
 
--- src/lib.rt:168:9
 decl-funcs-ok-requires : tie.Need-decl-funcs-ok-requires
 decl-funcs-ok-requires c κs = (bounds (P (c .before .before .before .before .before .before .before .before .before .before .before .before .before .before .before .before .before .before .before .before .before .before .before .before .before .before .before .before .before)) (c .before .before .before .before .before .before .before .before .before .before .before .before .before .before .before .before .before .before .before .before .before .before .before .before .before .before .before .before .before .pre .within)) .functions
 
--- src/lib.rt:169:9
 returns-5 : tie.Need-returns-5
 returns-5 c = bad-functions (P (c .before .before .before .before .before .before .before .before .before .before .before .before .before .before .before .before .before .before .before .before .before .before .before .before .before .before .before .before .before .before .before)) _ (passed (c .before .before .before .before .before .before .before .before .before .before .before .before .columns-ok .ensures) (columns-of (P (c .before .before .before .before .before .before .before .before .before .before .before .before .before .before .before .before .before .before .before .before .before .before .before .before .before .before .before .before .before .before .before))) (c .before .before .before .before .before .before .before .before .before .before .before .if1 .left)) (passed (c .before .before .before .before .before .before .before .before .before .before .names-ok .ensures) (names-of (P (c .before .before .before .before .before .before .before .before .before .before .before .before .before .before .before .before .before .before .before .before .before .before .before .before .before .before .before .before .before .before .before))) (c .before .before .before .before .before .before .before .before .before .if2 .left)) (passed (c .before .before .before .before .before .before .before .before .unshared .ensures) refl (c .before .before .before .before .before .before .before .if3 .left)) (passed (c .before .before .before .before .before .before .decl-vars-ok .ensures) (vars-of (P (c .before .before .before .before .before .before .before .before .before .before .before .before .before .before .before .before .before .before .before .before .before .before .before .before .before .before .before .before .before .before .before))) (c .before .before .before .before .before .if4 .left)) (failed (c .before .decl-funcs-ok .ensures (dagOf (P (c .before .before .before .before .before .before .before .before .before .before .before .before .before .before .before .before .before .before .before .before .before .before .before .before .before .before .before .before .before .before .before))) (functions-of (P (c .before .before .before .before .before .before .before .before .before .before .before .before .before .before .before .before .before .before .before .before .before .before .before .before .before .before .before .before .before .before .before)) (c .before .before .before .first-calls .ensures))) refl (c .if5 .taken))
 
--- src/lib.rt:172:5
 entries-requires : tie.Need-entries-requires
 entries-requires c κs = search needs
 
--- src/lib.rt:174:5
 mark-requires : tie.Need-mark-requires
 mark-requires c κs = ((bounds (P (c .before .before .before .before .before .before .before .before .before .before .before .before .before .before .before .before .before .before .before .before .before .before .before .before .before .before .before .before .before .before .before .before .before .before .before .before)) (c .before .before .before .before .before .before .before .before .before .before .before .before .before .before .before .before .before .before .before .before .before .before .before .before .before .before .before .before .before .before .before .before .before .before .before .before .pre .within)) .nodes, (bounds (P (c .before .before .before .before .before .before .before .before .before .before .before .before .before .before .before .before .before .before .before .before .before .before .before .before .before .before .before .before .before .before .before .before .before .before .before .before)) (c .before .before .before .before .before .before .before .before .before .before .before .before .before .before .before .before .before .before .before .before .before .before .before .before .before .before .before .before .before .before .before .before .before .before .before .before .pre .within)) .functions)
 
--- src/lib.rt:175:19
 symbol-table-requires : tie.Need-symbol-table-requires
 symbol-table-requires c κs = search needs
 
--- src/lib.rt:176:5
 print-requires : tie.Need-print-requires
 print-requires c κs = record {
   widths = c .before .before .before .before .before .before .before .before .before .before .before .before .before .before .before .before .before .before .before .before .before .before .before .before .before .before .before .before .before .before .before .before .before .before .before .before .before .before .before .before .before .before .before .pre .widths;
@@ -104,11 +77,9 @@ print-requires c κs = record {
   called = called-of (P (c .before .before .before .before .before .before .before .before .before .before .before .before .before .before .before .before .before .before .before .before .before .before .before .before .before .before .before .before .before .before .before .before .before .before .before .before .before .before .before .before .before .before .before)) _ (true→T (passed (c .before .before .before .before .before .before .before .before .before .before .before .before .before .decl-funcs-ok .ensures (dagOf (P (c .before .before .before .before .before .before .before .before .before .before .before .before .before .before .before .before .before .before .before .before .before .before .before .before .before .before .before .before .before .before .before .before .before .before .before .before .before .before .before .before .before .before .before))) (functions-of (P (c .before .before .before .before .before .before .before .before .before .before .before .before .before .before .before .before .before .before .before .before .before .before .before .before .before .before .before .before .before .before .before .before .before .before .before .before .before .before .before .before .before .before .before)) (c .before .before .before .before .before .before .before .before .before .before .before .before .before .before .before .first-calls .ensures))) refl (c .before .before .before .before .before .before .before .before .before .before .before .before .if5 .left)));
 }
 
--- src/lib.rt:129:1
 same-length : tie.Need-same-length
 same-length c = search needs
 
--- src/lib.rt:129:1
 returns-6 : tie.Need-returns-6
 returns-6 c = tables-passed (P (c .before .before .before .before .before .before .before .before .before .before .before .before .before .before .before .before .before .before .before .before .before .before .before .before .before .before .before .before .before .before .before .before .before .before .before .before .before .before .before .before .before .before .before .before .before .before)) _ (passed (c .before .before .before .before .before .before .before .before .before .before .before .before .before .before .before .before .before .before .before .before .before .before .before .before .before .before .before .columns-ok .ensures) (columns-of (P (c .before .before .before .before .before .before .before .before .before .before .before .before .before .before .before .before .before .before .before .before .before .before .before .before .before .before .before .before .before .before .before .before .before .before .before .before .before .before .before .before .before .before .before .before .before .before))) (c .before .before .before .before .before .before .before .before .before .before .before .before .before .before .before .before .before .before .before .before .before .before .before .before .before .before .if1 .left)) (passed (c .before .before .before .before .before .before .before .before .before .before .before .before .before .before .before .before .before .before .before .before .before .before .before .before .before .names-ok .ensures) (names-of (P (c .before .before .before .before .before .before .before .before .before .before .before .before .before .before .before .before .before .before .before .before .before .before .before .before .before .before .before .before .before .before .before .before .before .before .before .before .before .before .before .before .before .before .before .before .before .before))) (c .before .before .before .before .before .before .before .before .before .before .before .before .before .before .before .before .before .before .before .before .before .before .before .before .if2 .left)) (passed (c .before .before .before .before .before .before .before .before .before .before .before .before .before .before .before .before .before .before .before .before .before .before .before .unshared .ensures) refl (c .before .before .before .before .before .before .before .before .before .before .before .before .before .before .before .before .before .before .before .before .before .before .if3 .left)) (passed (c .before .before .before .before .before .before .before .before .before .before .before .before .before .before .before .before .before .before .before .before .before .decl-vars-ok .ensures) (vars-of (P (c .before .before .before .before .before .before .before .before .before .before .before .before .before .before .before .before .before .before .before .before .before .before .before .before .before .before .before .before .before .before .before .before .before .before .before .before .before .before .before .before .before .before .before .before .before .before))) (c .before .before .before .before .before .before .before .before .before .before .before .before .before .before .before .before .before .before .before .before .if4 .left)) (passed (c .before .before .before .before .before .before .before .before .before .before .before .before .before .before .before .before .decl-funcs-ok .ensures (dagOf (P (c .before .before .before .before .before .before .before .before .before .before .before .before .before .before .before .before .before .before .before .before .before .before .before .before .before .before .before .before .before .before .before .before .before .before .before .before .before .before .before .before .before .before .before .before .before .before))) (functions-of (P (c .before .before .before .before .before .before .before .before .before .before .before .before .before .before .before .before .before .before .before .before .before .before .before .before .before .before .before .before .before .before .before .before .before .before .before .before .before .before .before .before .before .before .before .before .before .before)) (c .before .before .before .before .before .before .before .before .before .before .before .before .before .before .before .before .before .before .first-calls .ensures))) refl (c .before .before .before .before .before .before .before .before .before .before .before .before .before .before .before .if5 .left)) (c .before .before .print .ensures)
 

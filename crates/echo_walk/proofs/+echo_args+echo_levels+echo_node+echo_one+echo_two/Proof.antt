@@ -107,7 +107,6 @@ abbrev echo-two-below : ℕ → In 5 echo-two-kinds.ps
 echo-two-below t =
     and 5 echo-two-kinds.ps (falls 5 echo-two-kinds.ps _<_ μ-echo-two t) echo-two.Pre
 
--- src/lib.rt:248:26
 echo-args-byte-requires : (t : ℕ) → echo-args-lts.Need-byte-requires (
   byte-reads.Asked,
   byte-reads.Learnt,
@@ -120,7 +119,6 @@ echo-args-byte-requires : (t : ℕ) → echo-args-lts.Need-byte-requires (
 ) (echo-args-at t) echo-args.Post
 echo-args-byte-requires t c κs = search needs
 
--- src/lib.rt:248:9
 echo-args-same-length : (t : ℕ) → echo-args-lts.Need-same-length (
   byte-reads.Asked,
   byte-reads.Learnt,
@@ -133,7 +131,6 @@ echo-args-same-length : (t : ℕ) → echo-args-lts.Need-same-length (
 ) (echo-args-at t) echo-args.Post
 echo-args-same-length t c = omega (arith, c .before .before .byte .kept .1 .0)
 
--- src/lib.rt:248:9
 echo-args-returns : (t : ℕ) → echo-args-lts.Need-returns (
   byte-reads.Asked,
   byte-reads.Learnt,
@@ -146,7 +143,6 @@ echo-args-returns : (t : ℕ) → echo-args-lts.Need-returns (
 ) (echo-args-at t) echo-args.Post
 echo-args-returns t c = args-none _ _ (c .before .before .before .before .if1 .taken) (last _ (c .before .before .byte .ensures))
 
--- src/lib.rt:250:16
 echo-args-element-copy-out-side : (t : ℕ) → echo-args-lts.Need-element-copy-out-side (
   byte-reads.Asked,
   byte-reads.Learnt,
@@ -159,7 +155,6 @@ echo-args-element-copy-out-side : (t : ℕ) → echo-args-lts.Need-element-copy-
 ) (echo-args-at t) echo-args.Post
 echo-args-element-copy-out-side t c = search needs
 
--- src/lib.rt:251:9
 echo-args-get-requires : (t : ℕ) → echo-args-lts.Need-get-requires (
   byte-reads.Asked,
   byte-reads.Learnt,
@@ -172,7 +167,6 @@ echo-args-get-requires : (t : ℕ) → echo-args-lts.Need-get-requires (
 ) (echo-args-at t) echo-args.Post
 echo-args-get-requires t c κs = search needs
 
--- src/lib.rt:252:9
 echo-args-byte-requires-2 : (t : ℕ) → echo-args-lts.Need-byte-requires-2 (
   byte-reads.Asked,
   byte-reads.Learnt,
@@ -185,7 +179,6 @@ echo-args-byte-requires-2 : (t : ℕ) → echo-args-lts.Need-byte-requires-2 (
 ) (echo-args-at t) echo-args.Post
 echo-args-byte-requires-2 t c κs = search needs
 
--- src/lib.rt:253:11
 echo-args-echo-node-requires : (t : ℕ) → echo-args-lts.Need-echo-node-requires (
   byte-reads.Asked,
   byte-reads.Learnt,
@@ -198,7 +191,6 @@ echo-args-echo-node-requires : (t : ℕ) → echo-args-lts.Need-echo-node-requir
 ) (echo-args-at t) echo-args.Post
 echo-args-echo-node-requires t c κs = (below _ _ _ (c .before .before .before .before .before .before .before .before .before .pre .0) (listed-first (c .before .before .before .before .before .before .before .before .before .pre .1 .1) (c .before .before .before .before .before .before .before .if1 .left) (c .before .before .before .before .before .get .ensures)), c .before .before .before .before .before .before .before .before .before .pre .1 .0)
 
--- src/lib.rt:254:22
 echo-args-enum-known-e : (t : ℕ) → echo-args-lts.Need-enum-known-e (
   byte-reads.Asked,
   byte-reads.Learnt,
@@ -211,7 +203,6 @@ echo-args-enum-known-e : (t : ℕ) → echo-args-lts.Need-enum-known-e (
 ) (echo-args-at t) echo-args.Post
 echo-args-enum-known-e t c = search needs
 
--- src/lib.rt:255:19
 echo-args-enum-known-r : (t : ℕ) → echo-args-lts.Need-enum-known-r (
   byte-reads.Asked,
   byte-reads.Learnt,
@@ -224,7 +215,6 @@ echo-args-enum-known-r : (t : ℕ) → echo-args-lts.Need-enum-known-r (
 ) (echo-args-at t) echo-args.Post
 echo-args-enum-known-r t c = search needs
 
--- src/lib.rt:255:55
 echo-args-add-echo-args : (t : ℕ) → echo-args-lts.Need-add-echo-args (
   byte-reads.Asked,
   byte-reads.Learnt,
@@ -237,7 +227,6 @@ echo-args-add-echo-args : (t : ℕ) → echo-args-lts.Need-add-echo-args (
 ) (echo-args-at t) echo-args.Post
 echo-args-add-echo-args t c = omega (arith, listed-place (c .before .before .before .before .before .before .before .before .before .before .before .before .before .before .before .pre .1 .1) (c .before .before .before .before .before .before .before .before .before .before .before .before .before .if1 .left), c .before .before .before .before .before .before .before .before .before .before .before .before .before .before .before .pre .1 .0 .entries)
 
--- src/lib.rt:255:62
 echo-args-sub-echo-args : (t : ℕ) → echo-args-lts.Need-sub-echo-args (
   byte-reads.Asked,
   byte-reads.Learnt,
@@ -250,7 +239,6 @@ echo-args-sub-echo-args : (t : ℕ) → echo-args-lts.Need-sub-echo-args (
 ) (echo-args-at t) echo-args.Post
 echo-args-sub-echo-args t c = omega (arith, c .before .before .before .before .before .before .before .before .before .before .before .before .before .if1 .left)
 
--- src/lib.rt:255:25
 echo-args-echo-args-requires : (t : ℕ) → echo-args-lts.Need-echo-args-requires (
   byte-reads.Asked,
   byte-reads.Learnt,
@@ -263,7 +251,6 @@ echo-args-echo-args-requires : (t : ℕ) → echo-args-lts.Need-echo-args-requir
 ) (echo-args-at t) echo-args.Post
 echo-args-echo-args-requires t c κs = (fewer _ _ _ (c .before .before .before .before .before .before .before .before .before .before .before .before .before .before .before .before .pre .0) (omega (arith, c .before .before .before .before .before .before .before .before .before .before .before .before .before .before .if1 .left)), (c .before .before .before .before .before .before .before .before .before .before .before .before .before .before .before .before .pre .1 .0, listed-rest (c .before .before .before .before .before .before .before .before .before .before .before .before .before .before .before .before .pre .1 .1) (c .before .before .before .before .before .before .before .before .before .before .before .before .before .before .if1 .left)))
 
--- src/lib.rt:243:1
 echo-args-same-length-2 : (t : ℕ) → echo-args-lts.Need-same-length-2 (
   byte-reads.Asked,
   byte-reads.Learnt,
@@ -276,7 +263,6 @@ echo-args-same-length-2 : (t : ℕ) → echo-args-lts.Need-same-length-2 (
 ) (echo-args-at t) echo-args.Post
 echo-args-same-length-2 t c = omega (arith, c .before .before .before .before .before .before .before .before .before .byte2 .kept .1 .0, c .before .before .before .before .before .echo-node .kept .1 .1 .1 .1 .1 .0)
 
--- src/lib.rt:243:1
 echo-args-returns-2 : (t : ℕ) → echo-args-lts.Need-returns-2 (
   byte-reads.Asked,
   byte-reads.Learnt,
@@ -289,7 +275,6 @@ echo-args-returns-2 : (t : ℕ) → echo-args-lts.Need-returns-2 (
 ) (echo-args-at t) echo-args.Post
 echo-args-returns-2 t c = args-in (c .before .before .before .before .before .before .before .before .before .before .before .before .before .before .before .pre .1 .1) (c .before .before .before .before .before .before .before .before .before .before .before .before .before .if1 .left) _ (c .before .before .before .before .before .before .before .before .before .before .before .get .ensures) (blank-then _ (c .before .before .before .before .before .before .before .before .before .byte2 .ensures) (stop _ _ (c .before .before .before .before .before .echo-node .ensures) (c .before .e .given .1)))
 
--- src/lib.rt:243:1
 echo-args-same-length-3 : (t : ℕ) → echo-args-lts.Need-same-length-3 (
   byte-reads.Asked,
   byte-reads.Learnt,
@@ -302,7 +287,6 @@ echo-args-same-length-3 : (t : ℕ) → echo-args-lts.Need-same-length-3 (
 ) (echo-args-at t) echo-args.Post
 echo-args-same-length-3 t c = omega (arith, c .before .before .before .before .before .before .before .before .before .before .before .before .before .byte2 .kept .1 .0, c .before .before .before .before .before .before .before .before .before .echo-node .kept .1 .1 .1 .1 .1 .0, c .before .before .echo-args .kept .1 .1 .1 .1 .1 .1 .0)
 
--- src/lib.rt:243:1
 echo-args-returns-3 : (t : ℕ) → echo-args-lts.Need-returns-3 (
   byte-reads.Asked,
   byte-reads.Learnt,
@@ -315,7 +299,6 @@ echo-args-returns-3 : (t : ℕ) → echo-args-lts.Need-returns-3 (
 ) (echo-args-at t) echo-args.Post
 echo-args-returns-3 t c = args-in (c .before .before .before .before .before .before .before .before .before .before .before .before .before .before .before .before .before .before .before .pre .1 .1) (c .before .before .before .before .before .before .before .before .before .before .before .before .before .before .before .before .before .if1 .left) _ (c .before .before .before .before .before .before .before .before .before .before .before .before .before .before .before .get .ensures) (blank-then _ (c .before .before .before .before .before .before .before .before .before .before .before .before .before .byte2 .ensures) (both _ _ (c .before .before .before .before .before .before .before .before .before .echo-node .ensures) (c .before .before .before .before .before .r .given .1) (c .before .before .echo-args .ensures)))
 
--- src/lib.rt:230:9
 echo-levels-returns : (t : ℕ) → echo-levels-lts.Need-returns (
   pair-at-reads.Asked,
   pair-at-reads.Learnt,
@@ -326,7 +309,6 @@ echo-levels-returns : (t : ℕ) → echo-levels-lts.Need-returns (
 ) (echo-levels-at t) echo-levels.Post
 echo-levels-returns t c = levels-none _ _ (c .if1 .taken) (omega arith)
 
--- src/lib.rt:232:16
 echo-levels-element-copy-out-side : (t : ℕ) → echo-levels-lts.Need-element-copy-out-side (
   pair-at-reads.Asked,
   pair-at-reads.Learnt,
@@ -337,7 +319,6 @@ echo-levels-element-copy-out-side : (t : ℕ) → echo-levels-lts.Need-element-c
 ) (echo-levels-at t) echo-levels.Post
 echo-levels-element-copy-out-side t c = search needs
 
--- src/lib.rt:233:13
 echo-levels-sub-l : (t : ℕ) → echo-levels-lts.Need-sub-l (
   pair-at-reads.Asked,
   pair-at-reads.Learnt,
@@ -348,7 +329,6 @@ echo-levels-sub-l : (t : ℕ) → echo-levels-lts.Need-sub-l (
 ) (echo-levels-at t) echo-levels.Post
 echo-levels-sub-l t c = omega (arith, c .before .if1 .left)
 
--- src/lib.rt:234:9
 echo-levels-pair-at-requires : (t : ℕ) → echo-levels-lts.Need-pair-at-requires (
   pair-at-reads.Asked,
   pair-at-reads.Learnt,
@@ -359,7 +339,6 @@ echo-levels-pair-at-requires : (t : ℕ) → echo-levels-lts.Need-pair-at-requir
 ) (echo-levels-at t) echo-levels.Post
 echo-levels-pair-at-requires t c κs = omega (arith, chained-place (c .before .before .before .pre .1 .1) (c .before .if1 .left), c .before .before .before .pre .1 .0 .entries)
 
--- src/lib.rt:235:9
 echo-levels-pair-at-requires-2 : (t : ℕ) → echo-levels-lts.Need-pair-at-requires-2 (
   pair-at-reads.Asked,
   pair-at-reads.Learnt,
@@ -370,7 +349,6 @@ echo-levels-pair-at-requires-2 : (t : ℕ) → echo-levels-lts.Need-pair-at-requ
 ) (echo-levels-at t) echo-levels.Post
 echo-levels-pair-at-requires-2 t c κs = omega (arith, chained-place (c .before .before .before .before .pre .1 .1) (c .before .before .if1 .left), c .before .before .before .before .pre .1 .0 .entries)
 
--- src/lib.rt:236:11
 echo-levels-echo-two-requires : (t : ℕ) → echo-levels-lts.Need-echo-two-requires (
   pair-at-reads.Asked,
   pair-at-reads.Learnt,
@@ -381,7 +359,6 @@ echo-levels-echo-two-requires : (t : ℕ) → echo-levels-lts.Need-echo-two-requ
 ) (echo-levels-at t) echo-levels.Post
 echo-levels-echo-two-requires t c κs = (fewer _ _ _ (c .before .before .before .before .before .before .pre .0) (omega (arith, c .before .before .before .before .if1 .left)), (c .before .before .before .before .before .before .pre .1 .0, chained-index (c .before .before .before .before .before .before .pre .1 .1) (c .before .before .before .before .if1 .left) (c .before .before .pair-at .ensures), chained-value (c .before .before .before .before .before .before .pre .1 .1) (c .before .before .before .before .if1 .left) (c .before .pair-at2 .ensures)))
 
--- src/lib.rt:237:22
 echo-levels-enum-known-e : (t : ℕ) → echo-levels-lts.Need-enum-known-e (
   pair-at-reads.Asked,
   pair-at-reads.Learnt,
@@ -392,7 +369,6 @@ echo-levels-enum-known-e : (t : ℕ) → echo-levels-lts.Need-enum-known-e (
 ) (echo-levels-at t) echo-levels.Post
 echo-levels-enum-known-e t c = search needs
 
--- src/lib.rt:238:19
 echo-levels-enum-known-q : (t : ℕ) → echo-levels-lts.Need-enum-known-q (
   pair-at-reads.Asked,
   pair-at-reads.Learnt,
@@ -403,7 +379,6 @@ echo-levels-enum-known-q : (t : ℕ) → echo-levels-lts.Need-enum-known-q (
 ) (echo-levels-at t) echo-levels.Post
 echo-levels-enum-known-q t c = search needs
 
--- src/lib.rt:238:25
 echo-levels-echo-levels-requires : (t : ℕ) → echo-levels-lts.Need-echo-levels-requires (
   pair-at-reads.Asked,
   pair-at-reads.Learnt,
@@ -414,7 +389,6 @@ echo-levels-echo-levels-requires : (t : ℕ) → echo-levels-lts.Need-echo-level
 ) (echo-levels-at t) echo-levels.Post
 echo-levels-echo-levels-requires t c κs = (fewer _ _ _ (c .before .before .before .before .before .before .before .before .before .before .before .before .before .pre .0) (omega (arith, c .before .before .before .before .before .before .before .before .before .before .before .if1 .left)), (c .before .before .before .before .before .before .before .before .before .before .before .before .before .pre .1 .0, chained-rest (c .before .before .before .before .before .before .before .before .before .before .before .before .before .pre .1 .1) (c .before .before .before .before .before .before .before .before .before .before .before .if1 .left)))
 
--- src/lib.rt:225:1
 echo-levels-same-length : (t : ℕ) → echo-levels-lts.Need-same-length (
   pair-at-reads.Asked,
   pair-at-reads.Learnt,
@@ -425,7 +399,6 @@ echo-levels-same-length : (t : ℕ) → echo-levels-lts.Need-same-length (
 ) (echo-levels-at t) echo-levels.Post
 echo-levels-same-length t c = omega (arith, c .before .before .before .before .before .echo-two .kept .1 .1 .1 .1 .1 .1 .1 .0)
 
--- src/lib.rt:225:1
 echo-levels-returns-2 : (t : ℕ) → echo-levels-lts.Need-returns-2 (
   pair-at-reads.Asked,
   pair-at-reads.Learnt,
@@ -436,7 +409,6 @@ echo-levels-returns-2 : (t : ℕ) → echo-levels-lts.Need-returns-2 (
 ) (echo-levels-at t) echo-levels.Post
 echo-levels-returns-2 t c = levels-in (c .before .before .before .before .before .before .before .before .before .before .before .before .pre .1 .1) (c .before .before .before .before .before .before .before .before .before .before .if1 .left) _ (c .before .before .before .before .before .before .before .before .pair-at .ensures) (c .before .before .before .before .before .before .before .pair-at2 .ensures) (stop _ _ (c .before .before .before .before .before .echo-two .ensures) (c .before .e .given .1))
 
--- src/lib.rt:225:1
 echo-levels-same-length-2 : (t : ℕ) → echo-levels-lts.Need-same-length-2 (
   pair-at-reads.Asked,
   pair-at-reads.Learnt,
@@ -447,7 +419,6 @@ echo-levels-same-length-2 : (t : ℕ) → echo-levels-lts.Need-same-length-2 (
 ) (echo-levels-at t) echo-levels.Post
 echo-levels-same-length-2 t c = omega (arith, c .before .before .before .before .before .before .before .before .before .echo-two .kept .1 .1 .1 .1 .1 .1 .1 .0, c .before .before .echo-levels .kept .1 .1 .1 .1 .1 .1 .0)
 
--- src/lib.rt:225:1
 echo-levels-returns-3 : (t : ℕ) → echo-levels-lts.Need-returns-3 (
   pair-at-reads.Asked,
   pair-at-reads.Learnt,
@@ -458,7 +429,6 @@ echo-levels-returns-3 : (t : ℕ) → echo-levels-lts.Need-returns-3 (
 ) (echo-levels-at t) echo-levels.Post
 echo-levels-returns-3 t c = levels-in (c .before .before .before .before .before .before .before .before .before .before .before .before .before .before .before .before .pre .1 .1) (c .before .before .before .before .before .before .before .before .before .before .before .before .before .before .if1 .left) _ (c .before .before .before .before .before .before .before .before .before .before .before .before .pair-at .ensures) (c .before .before .before .before .before .before .before .before .before .before .before .pair-at2 .ensures) (both _ _ (c .before .before .before .before .before .before .before .before .before .echo-two .ensures) (c .before .before .before .before .before .q .given .1) (c .before .before .echo-levels .ensures))
 
--- src/lib.rt:163:14
 echo-node-element-copy-out-ws : (t : ℕ) → echo-node-lts.Need-element-copy-out-ws (
   count-reads.Asked,
   count-reads.Learnt,
@@ -483,7 +453,6 @@ echo-node-element-copy-out-ws : (t : ℕ) → echo-node-lts.Need-element-copy-ou
 ) (echo-node-at t) echo-node.Post
 echo-node-element-copy-out-ws t c = search needs
 
--- src/lib.rt:164:13
 echo-node-count-requires : (t : ℕ) → echo-node-lts.Need-count-requires (
   count-reads.Asked,
   count-reads.Learnt,
@@ -508,7 +477,6 @@ echo-node-count-requires : (t : ℕ) → echo-node-lts.Need-count-requires (
 ) (echo-node-at t) echo-node.Post
 echo-node-count-requires t c κs = search needs
 
--- src/lib.rt:165:9
 echo-node-returns : (t : ℕ) → echo-node-lts.Need-returns (
   count-reads.Asked,
   count-reads.Learnt,
@@ -533,7 +501,6 @@ echo-node-returns : (t : ℕ) → echo-node-lts.Need-returns (
 ) (echo-node-at t) echo-node.Post
 echo-node-returns t c = node-out _ _ (c .before .before .before .before .pre .1) _ _ (omega (arith, c .if1 .taken, c .before .count .ensures))
 
--- src/lib.rt:167:9
 echo-node-refused-here-requires : (t : ℕ) → echo-node-lts.Need-refused-here-requires (
   count-reads.Asked,
   count-reads.Learnt,
@@ -558,7 +525,6 @@ echo-node-refused-here-requires : (t : ℕ) → echo-node-lts.Need-refused-here-
 ) (echo-node-at t) echo-node.Post
 echo-node-refused-here-requires t c κs = (c .before .before .before .before .pre .1, omega (arith, c .if1 .left, c .before .count .ensures))
 
--- src/lib.rt:169:9
 echo-node-returns-2 : (t : ℕ) → echo-node-lts.Need-returns-2 (
   count-reads.Asked,
   count-reads.Learnt,
@@ -583,7 +549,6 @@ echo-node-returns-2 : (t : ℕ) → echo-node-lts.Need-returns-2 (
 ) (echo-node-at t) echo-node.Post
 echo-node-returns-2 t c = node-stop _ _ (c .before .before .before .before .before .before .pre .1) _ _ (omega (arith, c .before .before .if1 .left, c .before .before .before .count .ensures)) (c .before .refused-here .ensures) (c .if2 .taken)
 
--- src/lib.rt:171:9
 echo-node-head-requires : (t : ℕ) → echo-node-lts.Need-head-requires (
   count-reads.Asked,
   count-reads.Learnt,
@@ -608,7 +573,6 @@ echo-node-head-requires : (t : ℕ) → echo-node-lts.Need-head-requires (
 ) (echo-node-at t) echo-node.Post
 echo-node-head-requires t c κs = (c .before .before .before .before .before .before .before .pre .1, (omega (arith, c .before .before .before .if1 .left, c .before .before .before .before .count .ensures)), none-asked _ _ _ _ (c .before .before .refused-here .ensures) (c .before .if2 .left))
 
--- src/lib.rt:172:9
 echo-node-operands-at-requires : (t : ℕ) → echo-node-lts.Need-operands-at-requires (
   count-reads.Asked,
   count-reads.Learnt,
@@ -633,7 +597,6 @@ echo-node-operands-at-requires : (t : ℕ) → echo-node-lts.Need-operands-at-re
 ) (echo-node-at t) echo-node.Post
 echo-node-operands-at-requires t c κs = node-count _ _ (c .before .before .before .before .before .before .before .before .before .before .pre .1) _ (omega (arith, c .before .before .before .before .before .before .if1 .left, c .before .before .before .before .before .before .before .count .ensures))
 
--- src/lib.rt:174:23
 echo-node-enum-told : (t : ℕ) → echo-node-lts.Need-enum-told (
   count-reads.Asked,
   count-reads.Learnt,
@@ -658,7 +621,6 @@ echo-node-enum-told : (t : ℕ) → echo-node-lts.Need-enum-told (
 ) (echo-node-at t) echo-node.Post
 echo-node-enum-told t c = search needs
 
--- src/lib.rt:175:19
 echo-node-enum-known-f : (t : ℕ) → echo-node-lts.Need-enum-known-f (
   count-reads.Asked,
   count-reads.Learnt,
@@ -683,7 +645,6 @@ echo-node-enum-known-f : (t : ℕ) → echo-node-lts.Need-enum-known-f (
 ) (echo-node-at t) echo-node.Post
 echo-node-enum-known-f t c = search needs
 
--- src/lib.rt:175:28
 echo-node-echo-one-requires : (t : ℕ) → echo-node-lts.Need-echo-one-requires (
   count-reads.Asked,
   count-reads.Learnt,
@@ -708,7 +669,6 @@ echo-node-echo-one-requires : (t : ℕ) → echo-node-lts.Need-echo-one-requires
 ) (echo-node-at t) echo-node.Post
 echo-node-echo-one-requires t c κs = (inside _ _ (c .before .before .before .before .before .before .before .before .before .before .before .before .before .before .before .pre .0) (omega arith), (c .before .before .before .before .before .before .before .before .before .before .before .before .before .before .before .pre .1, form-below _ _ (c .before .before .before .before .before .before .before .before .before .before .before .before .before .before .before .pre .1) _ (omega (arith, c .before .before .before .before .before .before .before .before .before .before .before .if1 .left, c .before .before .before .before .before .before .before .before .before .before .before .before .count .ensures)) (sym (c .before .before .f .given .1) ∙ c .before .before .before .before .operands-at .ensures)))
 
--- src/lib.rt:176:19
 echo-node-enum-known-f-2 : (t : ℕ) → echo-node-lts.Need-enum-known-f-2 (
   count-reads.Asked,
   count-reads.Learnt,
@@ -733,7 +693,6 @@ echo-node-enum-known-f-2 : (t : ℕ) → echo-node-lts.Need-enum-known-f-2 (
 ) (echo-node-at t) echo-node.Post
 echo-node-enum-known-f-2 t c = search needs
 
--- src/lib.rt:176:31
 echo-node-echo-two-requires : (t : ℕ) → echo-node-lts.Need-echo-two-requires (
   count-reads.Asked,
   count-reads.Learnt,
@@ -758,7 +717,6 @@ echo-node-echo-two-requires : (t : ℕ) → echo-node-lts.Need-echo-two-requires
 ) (echo-node-at t) echo-node.Post
 echo-node-echo-two-requires t c κs = (inside _ _ (c .before .before .before .before .before .before .before .before .before .before .before .before .before .before .before .pre .0) (omega arith), (c .before .before .before .before .before .before .before .before .before .before .before .before .before .before .before .pre .1, (form-below _ _ (c .before .before .before .before .before .before .before .before .before .before .before .before .before .before .before .pre .1) _ (omega (arith, c .before .before .before .before .before .before .before .before .before .before .before .if1 .left, c .before .before .before .before .before .before .before .before .before .before .before .before .count .ensures)) (sym (c .before .before .f2 .given .1) ∙ c .before .before .before .before .operands-at .ensures)) .0, (form-below _ _ (c .before .before .before .before .before .before .before .before .before .before .before .before .before .before .before .pre .1) _ (omega (arith, c .before .before .before .before .before .before .before .before .before .before .before .if1 .left, c .before .before .before .before .before .before .before .before .before .before .before .before .count .ensures)) (sym (c .before .before .f2 .given .1) ∙ c .before .before .before .before .operands-at .ensures)) .1))
 
--- src/lib.rt:177:22
 echo-node-enum-known-f-3 : (t : ℕ) → echo-node-lts.Need-enum-known-f-3 (
   count-reads.Asked,
   count-reads.Learnt,
@@ -783,7 +741,6 @@ echo-node-enum-known-f-3 : (t : ℕ) → echo-node-lts.Need-enum-known-f-3 (
 ) (echo-node-at t) echo-node.Post
 echo-node-enum-known-f-3 t c = search needs
 
--- src/lib.rt:178:17
 echo-node-byte-requires : (t : ℕ) → echo-node-lts.Need-byte-requires (
   count-reads.Asked,
   count-reads.Learnt,
@@ -808,7 +765,6 @@ echo-node-byte-requires : (t : ℕ) → echo-node-lts.Need-byte-requires (
 ) (echo-node-at t) echo-node.Post
 echo-node-byte-requires t c κs = search needs
 
--- src/lib.rt:179:19
 echo-node-echo-node-requires : (t : ℕ) → echo-node-lts.Need-echo-node-requires (
   count-reads.Asked,
   count-reads.Learnt,
@@ -833,7 +789,6 @@ echo-node-echo-node-requires : (t : ℕ) → echo-node-lts.Need-echo-node-requir
 ) (echo-node-at t) echo-node.Post
 echo-node-echo-node-requires t c κs = (below _ _ _ (c .before .before .before .before .before .before .before .before .before .before .before .before .before .before .before .before .before .before .before .pre .0) ((form-below _ _ (c .before .before .before .before .before .before .before .before .before .before .before .before .before .before .before .before .before .before .before .pre .1) _ (omega (arith, c .before .before .before .before .before .before .before .before .before .before .before .before .before .before .before .if1 .left, c .before .before .before .before .before .before .before .before .before .before .before .before .before .before .before .before .count .ensures)) (sym (c .before .before .before .before .before .before .f3 .given .1) ∙ c .before .before .before .before .before .before .before .before .operands-at .ensures)) .0), c .before .before .before .before .before .before .before .before .before .before .before .before .before .before .before .before .before .before .before .pre .1)
 
--- src/lib.rt:180:30
 echo-node-enum-known-x : (t : ℕ) → echo-node-lts.Need-enum-known-x (
   count-reads.Asked,
   count-reads.Learnt,
@@ -858,7 +813,6 @@ echo-node-enum-known-x : (t : ℕ) → echo-node-lts.Need-enum-known-x (
 ) (echo-node-at t) echo-node.Post
 echo-node-enum-known-x t c = search needs
 
--- src/lib.rt:181:27
 echo-node-enum-known-s : (t : ℕ) → echo-node-lts.Need-enum-known-s (
   count-reads.Asked,
   count-reads.Learnt,
@@ -883,7 +837,6 @@ echo-node-enum-known-s : (t : ℕ) → echo-node-lts.Need-enum-known-s (
 ) (echo-node-at t) echo-node.Post
 echo-node-enum-known-s t c = search needs
 
--- src/lib.rt:181:33
 echo-node-echo-two-requires-2 : (t : ℕ) → echo-node-lts.Need-echo-two-requires-2 (
   count-reads.Asked,
   count-reads.Learnt,
@@ -908,7 +861,6 @@ echo-node-echo-two-requires-2 : (t : ℕ) → echo-node-lts.Need-echo-two-requir
 ) (echo-node-at t) echo-node.Post
 echo-node-echo-two-requires-2 t c κs = (inside _ _ (c .before .before .before .before .before .before .before .before .before .before .before .before .before .before .before .before .before .before .before .before .before .before .before .before .before .before .pre .0) (omega arith), (c .before .before .before .before .before .before .before .before .before .before .before .before .before .before .before .before .before .before .before .before .before .before .before .before .before .before .pre .1, (form-below _ _ (c .before .before .before .before .before .before .before .before .before .before .before .before .before .before .before .before .before .before .before .before .before .before .before .before .before .before .pre .1) _ (omega (arith, c .before .before .before .before .before .before .before .before .before .before .before .before .before .before .before .before .before .before .before .before .before .before .if1 .left, c .before .before .before .before .before .before .before .before .before .before .before .before .before .before .before .before .before .before .before .before .before .before .before .count .ensures)) (sym (c .before .before .before .before .before .before .before .before .before .before .before .before .before .f3 .given .1) ∙ c .before .before .before .before .before .before .before .before .before .before .before .before .before .before .before .operands-at .ensures)) .1, (form-below _ _ (c .before .before .before .before .before .before .before .before .before .before .before .before .before .before .before .before .before .before .before .before .before .before .before .before .before .before .pre .1) _ (omega (arith, c .before .before .before .before .before .before .before .before .before .before .before .before .before .before .before .before .before .before .before .before .before .before .if1 .left, c .before .before .before .before .before .before .before .before .before .before .before .before .before .before .before .before .before .before .before .before .before .before .before .count .ensures)) (sym (c .before .before .before .before .before .before .before .before .before .before .before .before .before .f3 .given .1) ∙ c .before .before .before .before .before .before .before .before .before .before .before .before .before .before .before .operands-at .ensures)) .2))
 
--- src/lib.rt:184:21
 echo-node-enum-known-f-4 : (t : ℕ) → echo-node-lts.Need-enum-known-f-4 (
   count-reads.Asked,
   count-reads.Learnt,
@@ -933,7 +885,6 @@ echo-node-enum-known-f-4 : (t : ℕ) → echo-node-lts.Need-enum-known-f-4 (
 ) (echo-node-at t) echo-node.Post
 echo-node-enum-known-f-4 t c = search needs
 
--- src/lib.rt:185:19
 echo-node-echo-levels-requires : (t : ℕ) → echo-node-lts.Need-echo-levels-requires (
   count-reads.Asked,
   count-reads.Learnt,
@@ -958,7 +909,6 @@ echo-node-echo-levels-requires : (t : ℕ) → echo-node-lts.Need-echo-levels-re
 ) (echo-node-at t) echo-node.Post
 echo-node-echo-levels-requires t c κs = (inside _ _ (c .before .before .before .before .before .before .before .before .before .before .before .before .before .before .before .pre .0) (omega arith), (c .before .before .before .before .before .before .before .before .before .before .before .before .before .before .before .pre .1, (form-below _ _ (c .before .before .before .before .before .before .before .before .before .before .before .before .before .before .before .pre .1) _ (omega (arith, c .before .before .before .before .before .before .before .before .before .before .before .if1 .left, c .before .before .before .before .before .before .before .before .before .before .before .before .count .ensures)) (sym (c .before .before .f4 .given .1) ∙ c .before .before .before .before .operands-at .ensures)) .1))
 
--- src/lib.rt:186:30
 echo-node-enum-known-x-2 : (t : ℕ) → echo-node-lts.Need-enum-known-x-2 (
   count-reads.Asked,
   count-reads.Learnt,
@@ -983,7 +933,6 @@ echo-node-enum-known-x-2 : (t : ℕ) → echo-node-lts.Need-enum-known-x-2 (
 ) (echo-node-at t) echo-node.Post
 echo-node-enum-known-x-2 t c = search needs
 
--- src/lib.rt:187:27
 echo-node-enum-known-r : (t : ℕ) → echo-node-lts.Need-enum-known-r (
   count-reads.Asked,
   count-reads.Learnt,
@@ -1008,7 +957,6 @@ echo-node-enum-known-r : (t : ℕ) → echo-node-lts.Need-enum-known-r (
 ) (echo-node-at t) echo-node.Post
 echo-node-enum-known-r t c = search needs
 
--- src/lib.rt:187:33
 echo-node-echo-one-requires-2 : (t : ℕ) → echo-node-lts.Need-echo-one-requires-2 (
   count-reads.Asked,
   count-reads.Learnt,
@@ -1033,7 +981,6 @@ echo-node-echo-one-requires-2 : (t : ℕ) → echo-node-lts.Need-echo-one-requir
 ) (echo-node-at t) echo-node.Post
 echo-node-echo-one-requires-2 t c κs = (inside _ _ (c .before .before .before .before .before .before .before .before .before .before .before .before .before .before .before .before .before .before .before .before .before .before .pre .0) (omega arith), (c .before .before .before .before .before .before .before .before .before .before .before .before .before .before .before .before .before .before .before .before .before .before .pre .1, (form-below _ _ (c .before .before .before .before .before .before .before .before .before .before .before .before .before .before .before .before .before .before .before .before .before .before .pre .1) _ (omega (arith, c .before .before .before .before .before .before .before .before .before .before .before .before .before .before .before .before .before .before .if1 .left, c .before .before .before .before .before .before .before .before .before .before .before .before .before .before .before .before .before .before .before .count .ensures)) (sym (c .before .before .before .before .before .before .before .before .before .f4 .given .1) ∙ c .before .before .before .before .before .before .before .before .before .before .before .operands-at .ensures)) .0))
 
--- src/lib.rt:190:25
 echo-node-enum-known-f-5 : (t : ℕ) → echo-node-lts.Need-enum-known-f-5 (
   count-reads.Asked,
   count-reads.Learnt,
@@ -1058,7 +1005,6 @@ echo-node-enum-known-f-5 : (t : ℕ) → echo-node-lts.Need-enum-known-f-5 (
 ) (echo-node-at t) echo-node.Post
 echo-node-enum-known-f-5 t c = search needs
 
--- src/lib.rt:190:34
 echo-node-echo-args-requires : (t : ℕ) → echo-node-lts.Need-echo-args-requires (
   count-reads.Asked,
   count-reads.Learnt,
@@ -1083,7 +1029,6 @@ echo-node-echo-args-requires : (t : ℕ) → echo-node-lts.Need-echo-args-requir
 ) (echo-node-at t) echo-node.Post
 echo-node-echo-args-requires t c κs = (inside _ _ (c .before .before .before .before .before .before .before .before .before .before .before .before .before .before .before .pre .0) (omega arith), (c .before .before .before .before .before .before .before .before .before .before .before .before .before .before .before .pre .1, form-below _ _ (c .before .before .before .before .before .before .before .before .before .before .before .before .before .before .before .pre .1) _ (omega (arith, c .before .before .before .before .before .before .before .before .before .before .before .if1 .left, c .before .before .before .before .before .before .before .before .before .before .before .before .count .ensures)) (sym (c .before .before .f5 .given .1) ∙ c .before .before .before .before .operands-at .ensures)))
 
--- src/lib.rt:159:1
 echo-node-same-length : (t : ℕ) → echo-node-lts.Need-same-length (
   count-reads.Asked,
   count-reads.Learnt,
@@ -1108,7 +1053,6 @@ echo-node-same-length : (t : ℕ) → echo-node-lts.Need-same-length (
 ) (echo-node-at t) echo-node.Post
 echo-node-same-length t c = search needs
 
--- src/lib.rt:159:1
 echo-node-returns-3 : (t : ℕ) → echo-node-lts.Need-returns-3 (
   count-reads.Asked,
   count-reads.Learnt,
@@ -1133,7 +1077,6 @@ echo-node-returns-3 : (t : ℕ) → echo-node-lts.Need-returns-3 (
 ) (echo-node-at t) echo-node.Post
 echo-node-returns-3 t c = node-leaf _ _ (c .before .before .before .before .before .before .before .before .before .before .before .before .before .pre .1) _ _ (omega (arith, c .before .before .before .before .before .before .before .before .before .if1 .left, c .before .before .before .before .before .before .before .before .before .before .count .ensures)) (c .before .before .before .before .before .before .before .before .refused-here .ensures) (c .before .before .before .before .before .before .before .if2 .left) (sym (c .enum-told .given .1) ∙ c .before .before .operands-at .ensures) (c .before .before .before .before .before .head .ensures)
 
--- src/lib.rt:159:1
 echo-node-same-length-2 : (t : ℕ) → echo-node-lts.Need-same-length-2 (
   count-reads.Asked,
   count-reads.Learnt,
@@ -1158,7 +1101,6 @@ echo-node-same-length-2 : (t : ℕ) → echo-node-lts.Need-same-length-2 (
 ) (echo-node-at t) echo-node.Post
 echo-node-same-length-2 t c = search needs
 
--- src/lib.rt:159:1
 echo-node-returns-4 : (t : ℕ) → echo-node-lts.Need-returns-4 (
   count-reads.Asked,
   count-reads.Learnt,
@@ -1184,7 +1126,6 @@ echo-node-returns-4 : (t : ℕ) → echo-node-lts.Need-returns-4 (
 unfolding formText
 echo-node-returns-4 t c = node-in _ _ (c .before .before .before .before .before .before .before .before .before .before .before .before .before .before .before .before .before .before .pre .1) _ _ (omega (arith, c .before .before .before .before .before .before .before .before .before .before .before .before .before .before .if1 .left, c .before .before .before .before .before .before .before .before .before .before .before .before .before .before .before .count .ensures)) (c .before .before .before .before .before .before .before .before .before .before .before .before .before .refused-here .ensures) (c .before .before .before .before .before .before .before .before .before .before .before .before .if2 .left) (sym (c .before .before .before .before .before .f .given .1) ∙ c .before .before .before .before .before .before .before .operands-at .ensures) (c .before .before .before .before .before .before .before .before .before .before .head .ensures) (c .before .before .echo-one .ensures)
 
--- src/lib.rt:159:1
 echo-node-same-length-3 : (t : ℕ) → echo-node-lts.Need-same-length-3 (
   count-reads.Asked,
   count-reads.Learnt,
@@ -1209,7 +1150,6 @@ echo-node-same-length-3 : (t : ℕ) → echo-node-lts.Need-same-length-3 (
 ) (echo-node-at t) echo-node.Post
 echo-node-same-length-3 t c = search needs
 
--- src/lib.rt:159:1
 echo-node-returns-5 : (t : ℕ) → echo-node-lts.Need-returns-5 (
   count-reads.Asked,
   count-reads.Learnt,
@@ -1235,7 +1175,6 @@ echo-node-returns-5 : (t : ℕ) → echo-node-lts.Need-returns-5 (
 unfolding formText
 echo-node-returns-5 t c = node-in _ _ (c .before .before .before .before .before .before .before .before .before .before .before .before .before .before .before .before .before .before .pre .1) _ _ (omega (arith, c .before .before .before .before .before .before .before .before .before .before .before .before .before .before .if1 .left, c .before .before .before .before .before .before .before .before .before .before .before .before .before .before .before .count .ensures)) (c .before .before .before .before .before .before .before .before .before .before .before .before .before .refused-here .ensures) (c .before .before .before .before .before .before .before .before .before .before .before .before .if2 .left) (sym (c .before .before .before .before .before .f2 .given .1) ∙ c .before .before .before .before .before .before .before .operands-at .ensures) (c .before .before .before .before .before .before .before .before .before .before .head .ensures) (c .before .before .echo-two .ensures)
 
--- src/lib.rt:159:1
 echo-node-same-length-4 : (t : ℕ) → echo-node-lts.Need-same-length-4 (
   count-reads.Asked,
   count-reads.Learnt,
@@ -1260,7 +1199,6 @@ echo-node-same-length-4 : (t : ℕ) → echo-node-lts.Need-same-length-4 (
 ) (echo-node-at t) echo-node.Post
 echo-node-same-length-4 t c = search needs
 
--- src/lib.rt:159:1
 echo-node-returns-6 : (t : ℕ) → echo-node-lts.Need-returns-6 (
   count-reads.Asked,
   count-reads.Learnt,
@@ -1286,7 +1224,6 @@ echo-node-returns-6 : (t : ℕ) → echo-node-lts.Need-returns-6 (
 unfolding formText
 echo-node-returns-6 t c = node-in _ _ (c .before .before .before .before .before .before .before .before .before .before .before .before .before .before .before .before .before .before .before .before .before .before .before .before .before .pre .1) _ _ (omega (arith, c .before .before .before .before .before .before .before .before .before .before .before .before .before .before .before .before .before .before .before .before .before .if1 .left, c .before .before .before .before .before .before .before .before .before .before .before .before .before .before .before .before .before .before .before .before .before .before .count .ensures)) (c .before .before .before .before .before .before .before .before .before .before .before .before .before .before .before .before .before .before .before .before .refused-here .ensures) (c .before .before .before .before .before .before .before .before .before .before .before .before .before .before .before .before .before .before .before .if2 .left) (sym (c .before .before .before .before .before .before .before .before .before .before .before .before .f3 .given .1) ∙ c .before .before .before .before .before .before .before .before .before .before .before .before .before .before .operands-at .ensures) (c .before .before .before .before .before .before .before .before .before .before .before .before .before .before .before .before .before .head .ensures) (blank-then _ (c .before .before .before .before .before .before .before .before .before .byte .ensures) (stop _ _ (c .before .before .before .before .before .echo-node .ensures) (c .before .x .given .1)))
 
--- src/lib.rt:159:1
 echo-node-same-length-5 : (t : ℕ) → echo-node-lts.Need-same-length-5 (
   count-reads.Asked,
   count-reads.Learnt,
@@ -1311,7 +1248,6 @@ echo-node-same-length-5 : (t : ℕ) → echo-node-lts.Need-same-length-5 (
 ) (echo-node-at t) echo-node.Post
 echo-node-same-length-5 t c = search needs
 
--- src/lib.rt:159:1
 echo-node-returns-7 : (t : ℕ) → echo-node-lts.Need-returns-7 (
   count-reads.Asked,
   count-reads.Learnt,
@@ -1337,7 +1273,6 @@ echo-node-returns-7 : (t : ℕ) → echo-node-lts.Need-returns-7 (
 unfolding formText
 echo-node-returns-7 t c = node-in _ _ (c .before .before .before .before .before .before .before .before .before .before .before .before .before .before .before .before .before .before .before .before .before .before .before .before .before .before .before .before .before .pre .1) _ _ (omega (arith, c .before .before .before .before .before .before .before .before .before .before .before .before .before .before .before .before .before .before .before .before .before .before .before .before .before .if1 .left, c .before .before .before .before .before .before .before .before .before .before .before .before .before .before .before .before .before .before .before .before .before .before .before .before .before .before .count .ensures)) (c .before .before .before .before .before .before .before .before .before .before .before .before .before .before .before .before .before .before .before .before .before .before .before .before .refused-here .ensures) (c .before .before .before .before .before .before .before .before .before .before .before .before .before .before .before .before .before .before .before .before .before .before .before .if2 .left) (sym (c .before .before .before .before .before .before .before .before .before .before .before .before .before .before .before .before .f3 .given .1) ∙ c .before .before .before .before .before .before .before .before .before .before .before .before .before .before .before .before .before .before .operands-at .ensures) (c .before .before .before .before .before .before .before .before .before .before .before .before .before .before .before .before .before .before .before .before .before .head .ensures) (blank-then _ (c .before .before .before .before .before .before .before .before .before .before .before .before .before .byte .ensures) (both _ _ (c .before .before .before .before .before .before .before .before .before .echo-node .ensures) (c .before .before .before .before .before .s .given .1) (c .before .before .echo-two2 .ensures)))
 
--- src/lib.rt:159:1
 echo-node-same-length-6 : (t : ℕ) → echo-node-lts.Need-same-length-6 (
   count-reads.Asked,
   count-reads.Learnt,
@@ -1362,7 +1297,6 @@ echo-node-same-length-6 : (t : ℕ) → echo-node-lts.Need-same-length-6 (
 ) (echo-node-at t) echo-node.Post
 echo-node-same-length-6 t c = search needs
 
--- src/lib.rt:159:1
 echo-node-returns-8 : (t : ℕ) → echo-node-lts.Need-returns-8 (
   count-reads.Asked,
   count-reads.Learnt,
@@ -1388,7 +1322,6 @@ echo-node-returns-8 : (t : ℕ) → echo-node-lts.Need-returns-8 (
 unfolding formText
 echo-node-returns-8 t c = node-in _ _ (c .before .before .before .before .before .before .before .before .before .before .before .before .before .before .before .before .before .before .before .before .before .pre .1) _ _ (omega (arith, c .before .before .before .before .before .before .before .before .before .before .before .before .before .before .before .before .before .if1 .left, c .before .before .before .before .before .before .before .before .before .before .before .before .before .before .before .before .before .before .count .ensures)) (c .before .before .before .before .before .before .before .before .before .before .before .before .before .before .before .before .refused-here .ensures) (c .before .before .before .before .before .before .before .before .before .before .before .before .before .before .before .if2 .left) (sym (c .before .before .before .before .before .before .before .before .f4 .given .1) ∙ c .before .before .before .before .before .before .before .before .before .before .operands-at .ensures) (c .before .before .before .before .before .before .before .before .before .before .before .before .before .head .ensures) (stop _ _ (c .before .before .before .before .before .echo-levels .ensures) (c .before .x2 .given .1))
 
--- src/lib.rt:159:1
 echo-node-same-length-7 : (t : ℕ) → echo-node-lts.Need-same-length-7 (
   count-reads.Asked,
   count-reads.Learnt,
@@ -1413,7 +1346,6 @@ echo-node-same-length-7 : (t : ℕ) → echo-node-lts.Need-same-length-7 (
 ) (echo-node-at t) echo-node.Post
 echo-node-same-length-7 t c = search needs
 
--- src/lib.rt:159:1
 echo-node-returns-9 : (t : ℕ) → echo-node-lts.Need-returns-9 (
   count-reads.Asked,
   count-reads.Learnt,
@@ -1439,7 +1371,6 @@ echo-node-returns-9 : (t : ℕ) → echo-node-lts.Need-returns-9 (
 unfolding formText
 echo-node-returns-9 t c = node-in _ _ (c .before .before .before .before .before .before .before .before .before .before .before .before .before .before .before .before .before .before .before .before .before .before .before .before .before .pre .1) _ _ (omega (arith, c .before .before .before .before .before .before .before .before .before .before .before .before .before .before .before .before .before .before .before .before .before .if1 .left, c .before .before .before .before .before .before .before .before .before .before .before .before .before .before .before .before .before .before .before .before .before .before .count .ensures)) (c .before .before .before .before .before .before .before .before .before .before .before .before .before .before .before .before .before .before .before .before .refused-here .ensures) (c .before .before .before .before .before .before .before .before .before .before .before .before .before .before .before .before .before .before .before .if2 .left) (sym (c .before .before .before .before .before .before .before .before .before .before .before .before .f4 .given .1) ∙ c .before .before .before .before .before .before .before .before .before .before .before .before .before .before .operands-at .ensures) (c .before .before .before .before .before .before .before .before .before .before .before .before .before .before .before .before .before .head .ensures) (both _ _ (c .before .before .before .before .before .before .before .before .before .echo-levels .ensures) (c .before .before .before .before .before .r .given .1) (c .before .before .echo-one2 .ensures))
 
--- src/lib.rt:159:1
 echo-node-same-length-8 : (t : ℕ) → echo-node-lts.Need-same-length-8 (
   count-reads.Asked,
   count-reads.Learnt,
@@ -1464,7 +1395,6 @@ echo-node-same-length-8 : (t : ℕ) → echo-node-lts.Need-same-length-8 (
 ) (echo-node-at t) echo-node.Post
 echo-node-same-length-8 t c = search needs
 
--- src/lib.rt:159:1
 echo-node-returns-10 : (t : ℕ) → echo-node-lts.Need-returns-10 (
   count-reads.Asked,
   count-reads.Learnt,
@@ -1490,7 +1420,6 @@ echo-node-returns-10 : (t : ℕ) → echo-node-lts.Need-returns-10 (
 unfolding formText
 echo-node-returns-10 t c = node-in _ _ (c .before .before .before .before .before .before .before .before .before .before .before .before .before .before .before .before .before .before .pre .1) _ _ (omega (arith, c .before .before .before .before .before .before .before .before .before .before .before .before .before .before .if1 .left, c .before .before .before .before .before .before .before .before .before .before .before .before .before .before .before .count .ensures)) (c .before .before .before .before .before .before .before .before .before .before .before .before .before .refused-here .ensures) (c .before .before .before .before .before .before .before .before .before .before .before .before .if2 .left) (sym (c .before .before .before .before .before .f5 .given .1) ∙ c .before .before .before .before .before .before .before .operands-at .ensures) (c .before .before .before .before .before .before .before .before .before .before .head .ensures) (c .before .before .echo-args .ensures)
 
--- src/lib.rt:199:9
 echo-one-byte-requires : (t : ℕ) → echo-one-lts.Need-byte-requires (
   byte-reads.Asked,
   byte-reads.Learnt,
@@ -1499,7 +1428,6 @@ echo-one-byte-requires : (t : ℕ) → echo-one-lts.Need-byte-requires (
 ) (echo-one-at t) echo-one.Post
 echo-one-byte-requires t c κs = search needs
 
--- src/lib.rt:200:11
 echo-one-echo-node-requires : (t : ℕ) → echo-one-lts.Need-echo-node-requires (
   byte-reads.Asked,
   byte-reads.Learnt,
@@ -1508,7 +1436,6 @@ echo-one-echo-node-requires : (t : ℕ) → echo-one-lts.Need-echo-node-requires
 ) (echo-one-at t) echo-one.Post
 echo-one-echo-node-requires t c κs = (below _ _ _ (c .before .before .before .before .before .before .pre .0) (c .before .before .before .before .before .before .pre .1 .1), c .before .before .before .before .before .before .pre .1 .0)
 
--- src/lib.rt:201:22
 echo-one-enum-known-e : (t : ℕ) → echo-one-lts.Need-enum-known-e (
   byte-reads.Asked,
   byte-reads.Learnt,
@@ -1517,7 +1444,6 @@ echo-one-enum-known-e : (t : ℕ) → echo-one-lts.Need-enum-known-e (
 ) (echo-one-at t) echo-one.Post
 echo-one-enum-known-e t c = search needs
 
--- src/lib.rt:202:19
 echo-one-enum-known-r : (t : ℕ) → echo-one-lts.Need-enum-known-r (
   byte-reads.Asked,
   byte-reads.Learnt,
@@ -1526,7 +1452,6 @@ echo-one-enum-known-r : (t : ℕ) → echo-one-lts.Need-enum-known-r (
 ) (echo-one-at t) echo-one.Post
 echo-one-enum-known-r t c = search needs
 
--- src/lib.rt:202:35
 echo-one-byte-requires-2 : (t : ℕ) → echo-one-lts.Need-byte-requires-2 (
   byte-reads.Asked,
   byte-reads.Learnt,
@@ -1535,7 +1460,6 @@ echo-one-byte-requires-2 : (t : ℕ) → echo-one-lts.Need-byte-requires-2 (
 ) (echo-one-at t) echo-one.Post
 echo-one-byte-requires-2 t c κs = search needs
 
--- src/lib.rt:195:1
 echo-one-same-length : (t : ℕ) → echo-one-lts.Need-same-length (
   byte-reads.Asked,
   byte-reads.Learnt,
@@ -1544,7 +1468,6 @@ echo-one-same-length : (t : ℕ) → echo-one-lts.Need-same-length (
 ) (echo-one-at t) echo-one.Post
 echo-one-same-length t c = search needs
 
--- src/lib.rt:195:1
 echo-one-returns : (t : ℕ) → echo-one-lts.Need-returns (
   byte-reads.Asked,
   byte-reads.Learnt,
@@ -1554,7 +1477,6 @@ echo-one-returns : (t : ℕ) → echo-one-lts.Need-returns (
 unfolding oneText
 echo-one-returns t c = blank-then _ (c .before .before .before .before .before .before .before .before .before .byte .ensures) (stop _ _ (c .before .before .before .before .before .echo-node .ensures) (c .before .e .given .1))
 
--- src/lib.rt:195:1
 echo-one-same-length-2 : (t : ℕ) → echo-one-lts.Need-same-length-2 (
   byte-reads.Asked,
   byte-reads.Learnt,
@@ -1563,7 +1485,6 @@ echo-one-same-length-2 : (t : ℕ) → echo-one-lts.Need-same-length-2 (
 ) (echo-one-at t) echo-one.Post
 echo-one-same-length-2 t c = search needs
 
--- src/lib.rt:195:1
 echo-one-returns-2 : (t : ℕ) → echo-one-lts.Need-returns-2 (
   byte-reads.Asked,
   byte-reads.Learnt,
@@ -1573,7 +1494,6 @@ echo-one-returns-2 : (t : ℕ) → echo-one-lts.Need-returns-2 (
 unfolding oneText
 echo-one-returns-2 t c = blank-then _ (c .before .before .before .before .before .before .before .before .before .before .before .before .before .byte .ensures) (both _ _ (c .before .before .before .before .before .before .before .before .before .echo-node .ensures) (c .before .before .before .before .before .r .given .1) (last _ (c .before .before .byte2 .ensures)))
 
--- src/lib.rt:211:9
 echo-two-byte-requires : (t : ℕ) → echo-two-lts.Need-byte-requires (
   byte-reads.Asked,
   byte-reads.Learnt,
@@ -1582,7 +1502,6 @@ echo-two-byte-requires : (t : ℕ) → echo-two-lts.Need-byte-requires (
 ) (echo-two-at t) echo-two.Post
 echo-two-byte-requires t c κs = search needs
 
--- src/lib.rt:212:11
 echo-two-echo-node-requires : (t : ℕ) → echo-two-lts.Need-echo-node-requires (
   byte-reads.Asked,
   byte-reads.Learnt,
@@ -1591,7 +1510,6 @@ echo-two-echo-node-requires : (t : ℕ) → echo-two-lts.Need-echo-node-requires
 ) (echo-two-at t) echo-two.Post
 echo-two-echo-node-requires t c κs = (below _ _ _ (c .before .before .before .before .before .before .pre .0) (c .before .before .before .before .before .before .pre .1 .1), c .before .before .before .before .before .before .pre .1 .0)
 
--- src/lib.rt:213:22
 echo-two-enum-known-e : (t : ℕ) → echo-two-lts.Need-enum-known-e (
   byte-reads.Asked,
   byte-reads.Learnt,
@@ -1600,7 +1518,6 @@ echo-two-enum-known-e : (t : ℕ) → echo-two-lts.Need-enum-known-e (
 ) (echo-two-at t) echo-two.Post
 echo-two-enum-known-e t c = search needs
 
--- src/lib.rt:214:19
 echo-two-enum-known-r : (t : ℕ) → echo-two-lts.Need-enum-known-r (
   byte-reads.Asked,
   byte-reads.Learnt,
@@ -1609,7 +1526,6 @@ echo-two-enum-known-r : (t : ℕ) → echo-two-lts.Need-enum-known-r (
 ) (echo-two-at t) echo-two.Post
 echo-two-enum-known-r t c = search needs
 
--- src/lib.rt:215:17
 echo-two-byte-requires-2 : (t : ℕ) → echo-two-lts.Need-byte-requires-2 (
   byte-reads.Asked,
   byte-reads.Learnt,
@@ -1618,7 +1534,6 @@ echo-two-byte-requires-2 : (t : ℕ) → echo-two-lts.Need-byte-requires-2 (
 ) (echo-two-at t) echo-two.Post
 echo-two-byte-requires-2 t c κs = search needs
 
--- src/lib.rt:216:19
 echo-two-echo-node-requires-2 : (t : ℕ) → echo-two-lts.Need-echo-node-requires-2 (
   byte-reads.Asked,
   byte-reads.Learnt,
@@ -1627,7 +1542,6 @@ echo-two-echo-node-requires-2 : (t : ℕ) → echo-two-lts.Need-echo-node-requir
 ) (echo-two-at t) echo-two.Post
 echo-two-echo-node-requires-2 t c κs = (below _ _ _ (c .before .before .before .before .before .before .before .before .before .before .before .before .before .before .before .before .before .pre .0) (c .before .before .before .before .before .before .before .before .before .before .before .before .before .before .before .before .before .pre .1 .2), c .before .before .before .before .before .before .before .before .before .before .before .before .before .before .before .before .before .pre .1 .0)
 
--- src/lib.rt:217:30
 echo-two-enum-known-e-2 : (t : ℕ) → echo-two-lts.Need-enum-known-e-2 (
   byte-reads.Asked,
   byte-reads.Learnt,
@@ -1636,7 +1550,6 @@ echo-two-enum-known-e-2 : (t : ℕ) → echo-two-lts.Need-enum-known-e-2 (
 ) (echo-two-at t) echo-two.Post
 echo-two-enum-known-e-2 t c = search needs
 
--- src/lib.rt:218:27
 echo-two-enum-known-t : (t : ℕ) → echo-two-lts.Need-enum-known-t (
   byte-reads.Asked,
   byte-reads.Learnt,
@@ -1645,7 +1558,6 @@ echo-two-enum-known-t : (t : ℕ) → echo-two-lts.Need-enum-known-t (
 ) (echo-two-at t) echo-two.Post
 echo-two-enum-known-t t c = search needs
 
--- src/lib.rt:218:43
 echo-two-byte-requires-3 : (t : ℕ) → echo-two-lts.Need-byte-requires-3 (
   byte-reads.Asked,
   byte-reads.Learnt,
@@ -1654,7 +1566,6 @@ echo-two-byte-requires-3 : (t : ℕ) → echo-two-lts.Need-byte-requires-3 (
 ) (echo-two-at t) echo-two.Post
 echo-two-byte-requires-3 t c κs = search needs
 
--- src/lib.rt:207:1
 echo-two-same-length : (t : ℕ) → echo-two-lts.Need-same-length (
   byte-reads.Asked,
   byte-reads.Learnt,
@@ -1663,7 +1574,6 @@ echo-two-same-length : (t : ℕ) → echo-two-lts.Need-same-length (
 ) (echo-two-at t) echo-two.Post
 echo-two-same-length t c = search needs
 
--- src/lib.rt:207:1
 echo-two-returns : (t : ℕ) → echo-two-lts.Need-returns (
   byte-reads.Asked,
   byte-reads.Learnt,
@@ -1673,7 +1583,6 @@ echo-two-returns : (t : ℕ) → echo-two-lts.Need-returns (
 unfolding twoText
 echo-two-returns t c = blank-then _ (c .before .before .before .before .before .before .before .before .before .byte .ensures) (stop _ _ (c .before .before .before .before .before .echo-node .ensures) (c .before .e .given .1))
 
--- src/lib.rt:207:1
 echo-two-same-length-2 : (t : ℕ) → echo-two-lts.Need-same-length-2 (
   byte-reads.Asked,
   byte-reads.Learnt,
@@ -1682,7 +1591,6 @@ echo-two-same-length-2 : (t : ℕ) → echo-two-lts.Need-same-length-2 (
 ) (echo-two-at t) echo-two.Post
 echo-two-same-length-2 t c = omega (arith, c .before .before .before .before .before .before .before .before .before .before .before .before .before .before .before .before .before .before .before .before .byte .kept .1 .0, c .before .before .before .before .before .before .before .before .before .byte2 .kept .1 .0, c .before .before .before .before .before .before .before .before .before .before .before .before .before .before .before .before .echo-node .kept .1 .1 .1 .1 .1 .0, c .before .before .before .before .before .echo-node2 .kept .1 .1 .1 .1 .1 .0)
 
--- src/lib.rt:207:1
 echo-two-returns-2 : (t : ℕ) → echo-two-lts.Need-returns-2 (
   byte-reads.Asked,
   byte-reads.Learnt,
@@ -1692,7 +1600,6 @@ echo-two-returns-2 : (t : ℕ) → echo-two-lts.Need-returns-2 (
 unfolding twoText
 echo-two-returns-2 t c = blank-then _ (c .before .before .before .before .before .before .before .before .before .before .before .before .before .before .before .before .before .before .before .before .byte .ensures) (both _ _ (c .before .before .before .before .before .before .before .before .before .before .before .before .before .before .before .before .echo-node .ensures) (c .before .before .before .before .before .before .before .before .before .before .before .before .r .given .1) (blank-then _ (c .before .before .before .before .before .before .before .before .before .byte2 .ensures) (stop _ _ (c .before .before .before .before .before .echo-node2 .ensures) (c .before .e2 .given .1))))
 
--- src/lib.rt:207:1
 echo-two-same-length-3 : (t : ℕ) → echo-two-lts.Need-same-length-3 (
   byte-reads.Asked,
   byte-reads.Learnt,
@@ -1701,7 +1608,6 @@ echo-two-same-length-3 : (t : ℕ) → echo-two-lts.Need-same-length-3 (
 ) (echo-two-at t) echo-two.Post
 echo-two-same-length-3 t c = omega (arith, c .before .before .before .before .before .before .before .before .before .before .before .before .before .before .before .before .before .before .before .before .before .before .before .before .byte .kept .1 .0, c .before .before .before .before .before .before .before .before .before .before .before .before .before .byte2 .kept .1 .0, c .before .before .byte3 .kept .1 .0, c .before .before .before .before .before .before .before .before .before .before .before .before .before .before .before .before .before .before .before .before .echo-node .kept .1 .1 .1 .1 .1 .0, c .before .before .before .before .before .before .before .before .before .echo-node2 .kept .1 .1 .1 .1 .1 .0)
 
--- src/lib.rt:207:1
 echo-two-returns-3 : (t : ℕ) → echo-two-lts.Need-returns-3 (
   byte-reads.Asked,
   byte-reads.Learnt,

@@ -3,22 +3,16 @@ use lib.ListN.{List·getD-eq-default}
 use borrow.Author.Needs.{needs}
 use Rattle.echo_walk.proofs.get.Statement.{statement}
 use Rattle.echo_walk.proofs.get.Tie as tie
-use Rattle.echo_walk.proofs.get.Reads as reads
-use Rattle.echo_walk.proofs.get.Lts as lts
 
--- src/lib.rt:55:22
 mul-result : tie.Need-mul-result
 mul-result c = search needs
 
--- src/lib.rt:55:22
 shared-slice-read-result : tie.Need-shared-slice-read-result
 shared-slice-read-result c = search needs
 
--- src/lib.rt:51:1
 returns : tie.Need-returns
 returns c = search needs
 
--- src/lib.rt:51:1
 returns-2 : tie.Need-returns-2
 returns-2 c = sym (List·getD-eq-default (c .before .args .s .now) 0 (c .if1 .left))
 

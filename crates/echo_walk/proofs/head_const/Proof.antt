@@ -2,32 +2,22 @@ use Rattle.echo_walk.proofs.Heads.{constant-inside, head-of-const}
 use borrow.Author.Needs.{needs}
 use Rattle.echo_walk.proofs.head_const.Statement.{statement}
 use Rattle.echo_walk.proofs.head_const.Tie as tie
-use Rattle.echo_walk.proofs.head_const.Reads as reads
-use Rattle.echo_walk.proofs.head_const.Lts as lts
-use Rattle.echo_walk.proofs.node_of.Reads as node-of-reads
-use Rattle.echo_walk.proofs.push_bits.Reads as push-bits-reads
 
--- src/lib.rt:205:17
 element-copy-out-nodes : tie.Need-element-copy-out-nodes
 element-copy-out-nodes c = search needs
 
--- src/lib.rt:206:9
 node-of-requires : tie.Need-node-of-requires
 node-of-requires c κs = search needs
 
--- src/lib.rt:207:16
 element-copy-out-bits : tie.Need-element-copy-out-bits
 element-copy-out-bits c = search needs
 
--- src/lib.rt:208:5
 push-bits-requires : tie.Need-push-bits-requires
 push-bits-requires c κs = constant-inside (c .before .before .before .before .before .pre) (c .before .before .node-of .ensures)
 
--- src/lib.rt:201:1
 same-length : tie.Need-same-length
 same-length c = search needs
 
--- src/lib.rt:201:1
 returns : tie.Need-returns
 returns c = head-of-const (c .before .before .before .before .before .node-of .ensures) _ _ (c .before .before .push-bits .ensures)
 

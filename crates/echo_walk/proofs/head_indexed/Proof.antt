@@ -2,45 +2,31 @@ use Rattle.echo_walk.proofs.Heads.{symbol-of, head-of-two, head-of-one}
 use borrow.Author.Needs.{needs}
 use Rattle.echo_walk.proofs.head_indexed.Statement.{statement}
 use Rattle.echo_walk.proofs.head_indexed.Tie as tie
-use Rattle.echo_walk.proofs.head_indexed.Reads as reads
-use Rattle.echo_walk.proofs.head_indexed.Lts as lts
-use Rattle.echo_lines.proofs.open_one.Reads as open-one-reads
-use Rattle.echo_lines.proofs.open_two.Reads as open-two-reads
-use Rattle.echo_walk.proofs.node_of.Reads as node-of-reads
 
--- src/lib.rt:254:17
 element-copy-out-nodes : tie.Need-element-copy-out-nodes
 element-copy-out-nodes c = search needs
 
--- src/lib.rt:255:9
 node-of-requires : tie.Need-node-of-requires
 node-of-requires c κs = search needs
 
--- src/lib.rt:256:19
 element-copy-out-symbols : tie.Need-element-copy-out-symbols
 element-copy-out-symbols c = search needs
 
--- src/lib.rt:258:9
 open-two-requires : tie.Need-open-two-requires
 open-two-requires c κs = (c .before .before .before .before .before .before .pre .symbols, symbol-of (c .before .before .before .before .before .before .pre) (c .before .before .before .node-of .ensures))
 
--- src/lib.rt:258:9
 same-length : tie.Need-same-length
 same-length c = search needs
 
--- src/lib.rt:258:9
 returns : tie.Need-returns
 returns c = head-of-two (c .before .before .before .before .before .before .node-of .ensures) (c .before .before .before .before .if1 .taken) _ (c .before .before .open-two .ensures)
 
--- src/lib.rt:260:5
 open-one-requires : tie.Need-open-one-requires
 open-one-requires c κs = (c .before .before .before .before .before .before .pre .symbols, symbol-of (c .before .before .before .before .before .before .pre) (c .before .before .before .node-of .ensures))
 
--- src/lib.rt:250:1
 same-length-2 : tie.Need-same-length-2
 same-length-2 c = search needs
 
--- src/lib.rt:250:1
 returns-2 : tie.Need-returns-2
 returns-2 c = head-of-one (c .before .before .before .before .before .before .node-of .ensures) (c .before .before .before .before .if1 .left) _ (c .before .before .open-one .ensures)
 

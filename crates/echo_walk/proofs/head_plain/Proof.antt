@@ -2,32 +2,22 @@ use Rattle.echo_walk.proofs.Heads.{symbol-of, head-of-plain}
 use borrow.Author.Needs.{needs}
 use Rattle.echo_walk.proofs.head_plain.Statement.{statement}
 use Rattle.echo_walk.proofs.head_plain.Tie as tie
-use Rattle.echo_walk.proofs.head_plain.Reads as reads
-use Rattle.echo_walk.proofs.head_plain.Lts as lts
-use Rattle.echo_lines.proofs.open_plain.Reads as open-plain-reads
-use Rattle.echo_walk.proofs.node_of.Reads as node-of-reads
 
--- src/lib.rt:267:17
 element-copy-out-nodes : tie.Need-element-copy-out-nodes
 element-copy-out-nodes c = search needs
 
--- src/lib.rt:268:9
 node-of-requires : tie.Need-node-of-requires
 node-of-requires c κs = search needs
 
--- src/lib.rt:269:19
 element-copy-out-symbols : tie.Need-element-copy-out-symbols
 element-copy-out-symbols c = search needs
 
--- src/lib.rt:270:5
 open-plain-requires : tie.Need-open-plain-requires
 open-plain-requires c κs = (c .before .before .before .before .before .pre .symbols, symbol-of (c .before .before .before .before .before .pre) (c .before .before .node-of .ensures))
 
--- src/lib.rt:263:1
 same-length : tie.Need-same-length
 same-length c = search needs
 
--- src/lib.rt:263:1
 returns : tie.Need-returns
 returns c = head-of-plain (c .before .before .before .before .before .node-of .ensures) _ (c .before .before .open-plain .ensures)
 

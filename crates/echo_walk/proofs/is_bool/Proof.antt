@@ -6,35 +6,25 @@ use Rattle.echo_walk.proofs.Laws.{arm, no-bool}
 use borrow.Author.Needs.{needs}
 use Rattle.echo_walk.proofs.is_bool.Statement.{statement}
 use Rattle.echo_walk.proofs.is_bool.Tie as tie
-use Rattle.echo_walk.proofs.is_bool.Reads as reads
-use Rattle.echo_walk.proofs.is_bool.Lts as lts
-use Rattle.blast_kernel.proofs.shape.Reads as shape-reads
-use Rattle.echo_walk.proofs.node_of.Reads as node-of-reads
 
--- src/lib.rt:110:9
 node-of-requires : tie.Need-node-of-requires
 node-of-requires c κs = search needs
 
--- src/lib.rt:111:9
 shape-requires : tie.Need-shape-requires
 shape-requires c κs = search needs
 
--- src/lib.rt:106:1
 returns : tie.Need-returns
 unfolding isBool
 returns c = arm isBool (shape (nodeOf (c .before .before .node-of .result))) (c .before .shape .ensures) 8 (c .match .keys1) refl ∙ ap (λ (x : Node). isBool (shape x)) (c .before .before .node-of .ensures)
 
--- src/lib.rt:106:1
 returns-2 : tie.Need-returns-2
 unfolding isBool
 returns-2 c = arm isBool (shape (nodeOf (c .before .before .node-of .result))) (c .before .shape .ensures) 9 (c .match .keys2) refl ∙ ap (λ (x : Node). isBool (shape x)) (c .before .before .node-of .ensures)
 
--- src/lib.rt:106:1
 returns-3 : tie.Need-returns-3
 unfolding isBool
 returns-3 c = arm isBool (shape (nodeOf (c .before .before .node-of .result))) (c .before .shape .ensures) 10 (c .match .keys3) refl ∙ ap (λ (x : Node). isBool (shape x)) (c .before .before .node-of .ensures)
 
--- src/lib.rt:106:1
 returns-4 : tie.Need-returns-4
 returns-4 c = no-bool (shape (nodeOf (c .before .before .node-of .result))) (c .before .shape .ensures) (c .match .rest .0 .0 .1) (c .match .rest .0 .1) (c .match .rest .1) ∙ ap (λ (x : Node). isBool (shape x)) (c .before .before .node-of .ensures)
 

@@ -6,90 +6,69 @@ use Rattle.echo_walk.proofs.Laws.{arm, arm-past}
 use borrow.Author.Needs.{needs}
 use Rattle.echo_walk.proofs.operands.Statement.{statement}
 use Rattle.echo_walk.proofs.operands.Tie as tie
-use Rattle.echo_walk.proofs.operands.Reads as reads
-use Rattle.echo_walk.proofs.operands.Lts as lts
-use Rattle.blast_kernel.proofs.shape.Reads as shape-reads
-use Rattle.echo_walk.proofs.call_form.Reads as call-form-reads
 
--- src/lib.rt:68:9
 shape-requires : tie.Need-shape-requires
 shape-requires c κs = search needs
 
--- src/lib.rt:83:17
 call-form-requires : tie.Need-call-form-requires
 call-form-requires c κs = search needs
 
--- src/lib.rt:65:1
 returns : tie.Need-returns
 unfolding formAs
 returns c = arm (formAs (nodeOf (c .before .before .args .n))) (shape (nodeOf (c .before .before .args .n))) (c .before .shape .ensures) 0 (c .match .keys1) refl
 
--- src/lib.rt:65:1
 returns-2 : tie.Need-returns-2
 unfolding formAs
 returns-2 c = arm (formAs (nodeOf (c .before .before .args .n))) (shape (nodeOf (c .before .before .args .n))) (c .before .shape .ensures) 1 (c .match .keys2) refl
 
--- src/lib.rt:65:1
 returns-3 : tie.Need-returns-3
 unfolding formAs
 returns-3 c = arm (formAs (nodeOf (c .before .before .args .n))) (shape (nodeOf (c .before .before .args .n))) (c .before .shape .ensures) 2 (c .match .keys3) refl
 
--- src/lib.rt:65:1
 returns-4 : tie.Need-returns-4
 unfolding formAs
 returns-4 c = arm (formAs (nodeOf (c .before .before .args .n))) (shape (nodeOf (c .before .before .args .n))) (c .before .shape .ensures) 3 (c .match .keys4) refl
 
--- src/lib.rt:65:1
 returns-5 : tie.Need-returns-5
 unfolding formAs
 returns-5 c = arm (formAs (nodeOf (c .before .before .args .n))) (shape (nodeOf (c .before .before .args .n))) (c .before .shape .ensures) 4 (c .match .keys5) refl
 
--- src/lib.rt:65:1
 returns-6 : tie.Need-returns-6
 unfolding formAs
 returns-6 c = arm (formAs (nodeOf (c .before .before .args .n))) (shape (nodeOf (c .before .before .args .n))) (c .before .shape .ensures) 5 (c .match .keys6) refl
 
--- src/lib.rt:65:1
 returns-7 : tie.Need-returns-7
 unfolding formAs
 returns-7 c = arm (formAs (nodeOf (c .before .before .args .n))) (shape (nodeOf (c .before .before .args .n))) (c .before .shape .ensures) 6 (c .match .keys7) refl
 
--- src/lib.rt:65:1
 returns-8 : tie.Need-returns-8
 unfolding formAs
 returns-8 c = arm (formAs (nodeOf (c .before .before .args .n))) (shape (nodeOf (c .before .before .args .n))) (c .before .shape .ensures) 7 (c .match .keys8) refl
 
--- src/lib.rt:65:1
 returns-9 : tie.Need-returns-9
 unfolding formAs
 returns-9 c = arm (formAs (nodeOf (c .before .before .args .n))) (shape (nodeOf (c .before .before .args .n))) (c .before .shape .ensures) 8 (c .match .keys9) refl
 
--- src/lib.rt:65:1
 returns-10 : tie.Need-returns-10
 unfolding formAs
 returns-10 c = arm (formAs (nodeOf (c .before .before .args .n))) (shape (nodeOf (c .before .before .args .n))) (c .before .shape .ensures) 9 (c .match .keys10) refl
 
--- src/lib.rt:65:1
 returns-11 : tie.Need-returns-11
 unfolding formAs
 returns-11 c = arm (formAs (nodeOf (c .before .before .args .n))) (shape (nodeOf (c .before .before .args .n))) (c .before .shape .ensures) 10 (c .match .keys11) refl
 
--- src/lib.rt:65:1
 returns-12 : tie.Need-returns-12
 unfolding formAs
 returns-12 c = arm (formAs (nodeOf (c .before .before .args .n))) (shape (nodeOf (c .before .before .args .n))) (c .before .shape .ensures) 11 (c .match .keys12) refl
 
--- src/lib.rt:65:1
 returns-13 : tie.Need-returns-13
 unfolding formAs
 returns-13 c = arm (formAs (nodeOf (c .before .before .args .n))) (shape (nodeOf (c .before .before .args .n))) (c .before .shape .ensures) 12 (c .match .keys13) refl
 
--- src/lib.rt:65:1
 returns-14 : tie.Need-returns-14
 unfolding formAs
 returns-14 c = arm (formAs (nodeOf (c .before .before .before .args .n))) (shape (nodeOf (c .before .before .before .args .n))) (c .before .before .shape .ensures) 13 (c .before .match .keys14) (c .call-form .ensures)
 
--- src/lib.rt:65:1
 returns-15 : tie.Need-returns-15
 unfolding formAs
 returns-15 c = arm-past (formAs (nodeOf (c .before .before .args .n))) (shape (nodeOf (c .before .before .args .n))) (c .before .shape .ensures) (c .match .rest) refl

@@ -5,35 +5,25 @@ use Rattle.echo_walk.proofs.Heads.{bits-exact}
 use borrow.Author.Needs.{needs}
 use Rattle.echo_walk.proofs.push_bits.Statement.{statement}
 use Rattle.echo_walk.proofs.push_bits.Tie as tie
-use Rattle.echo_walk.proofs.push_bits.Reads as reads
-use Rattle.echo_walk.proofs.push_bits.Lts as lts
-use Rattle.echo_bytes.proofs.Place.constant.Reads as constant-reads
 
--- src/lib.rt:167:14
 add-to : tie.Need-add-to
 add-to c = search needs
 
--- src/lib.rt:168:21
 sub-constant : tie.Need-sub-constant
 sub-constant c = search needs
 
--- src/lib.rt:168:21
 part-constant-start : tie.Need-part-constant-start
 part-constant-start c = search needs
 
--- src/lib.rt:168:21
 part-constant-end : tie.Need-part-constant-end
 part-constant-end c = search needs
 
--- src/lib.rt:168:5
 constant-requires : tie.Need-constant-requires
 constant-requires c κs = every-part (λ b. leb b 1) (c .before .before .before .before .args .bits .now) (c .before .before .before .before .args .s) (c .before .before .before .before .args .s + c .before .before .before .before .args .w - c .before .before .before .before .args .s) (c .before .before .before .before .pre .1)
 
--- src/lib.rt:162:1
 same-length : tie.Need-same-length
 same-length c = search needs
 
--- src/lib.rt:162:1
 returns : tie.Need-returns
 returns c = bits-exact (c .before .before .before .before .before .before .before .args .bits .now) (c .before .before .before .before .before .before .before .args .s) (c .before .before .before .before .before .before .before .args .w) _ (c .before .before .constant .ensures)
 

@@ -2,37 +2,25 @@ use Rattle.echo_walk.proofs.Laws.{node-count, here-sort, here-asked}
 use borrow.Author.Needs.{needs}
 use Rattle.echo_walk.proofs.refused_here.Statement.{statement}
 use Rattle.echo_walk.proofs.refused_here.Tie as tie
-use Rattle.echo_walk.proofs.refused_here.Reads as reads
-use Rattle.echo_walk.proofs.refused_here.Lts as lts
-use Rattle.echo_walk.proofs.get.Reads as get-reads
-use Rattle.echo_walk.proofs.is_bool.Reads as is-bool-reads
-use Rattle.echo_walk.proofs.sort_ok.Reads as sort-ok-reads
 
--- src/lib.rt:148:17
 element-copy-out-nodes : tie.Need-element-copy-out-nodes
 element-copy-out-nodes c = search needs
 
--- src/lib.rt:149:28
 is-bool-requires : tie.Need-is-bool-requires
 is-bool-requires c κs = node-count _ _ (c .before .pre .0) _ (c .before .pre .1)
 
--- src/lib.rt:149:9
 sort-ok-requires : tie.Need-sort-ok-requires
 sort-ok-requires c κs = search needs
 
--- src/lib.rt:150:9
 returns : tie.Need-returns
 returns c = here-sort _ _ (c .before .before .before .before .pre .0) _ _ (c .before .before .is-bool .ensures) (c .before .sort-ok .ensures) (c .if1 .taken)
 
--- src/lib.rt:152:17
 element-copy-out-asked : tie.Need-element-copy-out-asked
 element-copy-out-asked c = search needs
 
--- src/lib.rt:153:5
 get-requires : tie.Need-get-requires
 get-requires c κs = search needs
 
--- src/lib.rt:144:1
 returns-2 : tie.Need-returns-2
 returns-2 c = here-asked _ _ (c .before .before .before .before .before .before .pre .0) _ _ (c .before .before .before .before .is-bool .ensures) (c .before .before .before .sort-ok .ensures) (c .before .before .if1 .left) (c .before .before .before .before .before .before .pre .1) (c .get .ensures)
 

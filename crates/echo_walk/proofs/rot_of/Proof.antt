@@ -2,31 +2,22 @@ use Rattle.echo_walk.proofs.Heads.{amount-exact}
 use borrow.Author.Needs.{needs}
 use Rattle.echo_walk.proofs.rot_of.Statement.{statement}
 use Rattle.echo_walk.proofs.rot_of.Tie as tie
-use Rattle.echo_walk.proofs.rot_of.Reads as reads
-use Rattle.echo_walk.proofs.rot_of.Lts as lts
-use Rattle.echo_tables.proofs.rot_amount.Reads as rot-amount-reads
 
--- src/lib.rt:177:14
 add-to : tie.Need-add-to
 add-to c = search needs
 
--- src/lib.rt:178:29
 sub-rot-amount : tie.Need-sub-rot-amount
 sub-rot-amount c = search needs
 
--- src/lib.rt:178:29
 part-rot-amount-start : tie.Need-part-rot-amount-start
 part-rot-amount-start c = search needs
 
--- src/lib.rt:178:29
 part-rot-amount-end : tie.Need-part-rot-amount-end
 part-rot-amount-end c = search needs
 
--- src/lib.rt:178:5
 rot-amount-requires : tie.Need-rot-amount-requires
 rot-amount-requires c κs = search needs
 
--- src/lib.rt:172:1
 returns : tie.Need-returns
 returns c = amount-exact (c .before .before .before .args .bits .now) (c .before .before .before .args .s) (c .before .before .before .args .n) (c .before .before .before .args .w) (c .rot-amount .ensures)
 
