@@ -3,7 +3,7 @@ use echo_bytes::Place;
 use echo_walk::Out;
 ghost use mathlib.Core.Path.{_≡_};
 ghost use Prim.Native.Nat.{ℕ, _+_, _≤_, _<_};
-ghost use lib.ListN.{length};
+ghost use lib.ListN.{length, getD};
 ghost use mathlib.Core.List.{[]};
 ghost use Rattle.echo_bytes.specs.Page.{page, start, after, written};
 ghost use Rattle.echo_walk.specs.Lent.{textAt, Ready, Wrote};
@@ -38,6 +38,14 @@ fn echo_root(text: &[&[u8]; 6], numbers: &[&[u64]; 13], root: u64, out: &mut [u8
     }
 }
 
+// Root k.
+fn root_at(roots: &[u64], k: usize) -> u64
+    requires { ⌜ k < length (now roots) ⌝ }
+    ensures { λ r. ⌜ r ≡ getD (now (roots .entry)) k 0 ⌝ }
+{
+    roots[k]
+}
+
 // The roots in order, each written into the rest of the buffer. The first refusal ends it; a full buffer does not.
 fn echo_roots(
     text: &[&[u8]; 6],
@@ -53,7 +61,7 @@ fn echo_roots(
     let mut k = 0;
     while k < roots.len() {
         let at = q.at;
-        match echo_root(text, numbers, roots[k], &mut out[at..]) {
+        match echo_root(text, numbers, root_at(roots, k), &mut out[at..]) {
             Out::Refused(e) => return Out::Refused(e),
             Out::Done(r) => {
                 q = place_after(q, r);

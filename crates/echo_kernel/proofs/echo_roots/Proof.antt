@@ -18,11 +18,8 @@ abbrev μ-loop : tie.MeasureT-loop
 loop-holds : tie.Need-loop-holds Inv-loop μ-loop
 loop-holds c = no-roots _ _ _ (omega arith) (c .before .before .pre .1)
 
-mul-echo-root : tie.Need-mul-echo-root Inv-loop μ-loop
-mul-echo-root c = omega arith
-
-shared-slice-read-echo-root : tie.Need-shared-slice-read-echo-root Inv-loop μ-loop
-shared-slice-read-echo-root c = omega (arith, c .before .loop-test .taken)
+root-at-requires : tie.Need-root-at-requires Inv-loop μ-loop
+root-at-requires c κs = omega (arith, c .loop-test .taken)
 
 sub-echo-root : tie.Need-sub-echo-root Inv-loop μ-loop
 sub-echo-root c = omega (arith, c .before .before .loop .inv .inside)
@@ -43,13 +40,13 @@ same-length : tie.Need-same-length Inv-loop μ-loop
 same-length c = search (needs, roots-size (c .before .before .before .before .before .before .before .before .before .loop .inv), c .before .before .before .before .before .before .before .before .before .loop .inv .inside)
 
 returns : tie.Need-returns Inv-loop μ-loop
-returns c = root-stop (c .before .before .before .before .before .before .before .before .before .loop .inv) (c .before .before .before .before .before .before .before .before .loop-test .taken) refl (c .before .before .before .before .before .echo-root .ensures) (c .before .e .given .1)
+returns c = root-stop (c .before .before .before .before .before .before .before .before .before .loop .inv) (c .before .before .before .before .before .before .before .before .loop-test .taken) (c .before .before .before .before .before .before .before .root-at .ensures) (c .before .before .before .before .before .echo-root .ensures) (c .before .e .given .1)
 
 enum-known-r : tie.Need-enum-known-r Inv-loop μ-loop
 enum-known-r c = search needs
 
 place-after-requires : tie.Need-place-after-requires Inv-loop μ-loop
-place-after-requires c κs = omega (arith, roots-size (c .before .before .before .before .before .before .before .before .before .loop .inv), c .before .before .before .before .before .before .before .before .before .before .before .before .good, root-inside (c .before .before .before .before .before .before .before .before .before .loop .inv) (c .before .before .before .before .before .before .before .before .loop-test .taken) refl (c .before .before .before .before .before .echo-root .ensures) (c .before .r .given .1))
+place-after-requires c κs = omega (arith, roots-size (c .before .before .before .before .before .before .before .before .before .loop .inv), c .before .before .before .before .before .before .before .before .before .before .before .before .good, root-inside (c .before .before .before .before .before .before .before .before .before .loop .inv) (c .before .before .before .before .before .before .before .before .loop-test .taken) (c .before .before .before .before .before .before .before .root-at .ensures) (c .before .before .before .before .before .echo-root .ensures) (c .before .r .given .1))
 
 add-k : tie.Need-add-k Inv-loop μ-loop
 add-k c = omega arith
@@ -58,7 +55,7 @@ loop-less : tie.Need-loop-less Inv-loop μ-loop
 loop-less c = omega arith
 
 loop-again : tie.Need-loop-again Inv-loop μ-loop
-loop-again c = root-done (c .before .before .before .before .before .before .before .before .before .before .loop .inv) (c .before .before .before .before .before .before .before .before .before .loop-test .taken) refl (c .before .before .before .before .before .before .echo-root .ensures) (c .before .before .r .given .1) (c .place-after .ensures)
+loop-again c = root-done (c .before .before .before .before .before .before .before .before .before .before .loop .inv) (c .before .before .before .before .before .before .before .before .before .loop-test .taken) (c .before .before .before .before .before .before .before .before .root-at .ensures) (c .before .before .before .before .before .before .echo-root .ensures) (c .before .before .r .given .1) (c .place-after .ensures)
 
 same-length-2 : tie.Need-same-length-2 Inv-loop μ-loop
 same-length-2 c = search (needs, roots-size (c .before .loop .inv))
@@ -73,8 +70,7 @@ echo-roots-spec =
     Inv-loop
     μ-loop
     loop-holds
-    mul-echo-root
-    shared-slice-read-echo-root
+    root-at-requires
     sub-echo-root
     part-echo-root-start
     part-echo-root-end

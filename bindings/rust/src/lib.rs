@@ -1,0 +1,192 @@
+//! A printer of SMT-LIB scripts, proved: a problem over bit-vectors, arrays and functions is printed whole or refused by a number.
+//!
+//! This package is a thin, safe layer over the proved library. [`echo_ext`] prints a [`Problem`]; [`ext_wf`] is the width pass alone.
+//! Terms are node records ([`node`], [`kind`]), and every input is a slice that is lent for the call.
+//!
+//! Is there an 8-bit `x` with `x + 5 = x`?
+//!
+//! ```
+//! use smt_echo::{Problem, echo_ext, kind, node};
+//!
+//! let nodes = [
+//!     node(kind::VAR, [8, 0, 0, 0]),   // 0: a variable of width 8
+//!     node(kind::CONST, [0, 8, 0, 0]), // 1: the constant of the 8 bits from bit 0 on
+//!     node(kind::ADD, [0, 1, 0, 0]),   // 2: node 0 + node 1
+//!     node(kind::EQ, [2, 0, 0, 0]),    // 3: node 2 = node 0
+//! ]
+//! .concat();
+//! let problem = Problem {
+//!     nodes: &nodes,
+//!     bits: &[1, 0, 1, 0, 0, 0, 0, 0], // 5, the lowest bit first
+//!     roots: &[3],
+//!     names: b"x",
+//!     name_start: &[0],
+//!     name_len: &[1],
+//!     var_node: &[0],
+//!     var_width: &[8],
+//!     ..Problem::default()
+//! };
+//! let mut out = [0; 200];
+//! let length = echo_ext(&problem, &mut out)?;
+//! assert_eq!(
+//!     std::str::from_utf8(&out[..length])?,
+//!     "(set-logic QF_BV)\n\
+//!      (declare-const |x| (_ BitVec 8))\n\
+//!      (assert (= (bvadd |x| #b00000101) |x|))\n\
+//!      (check-sat)\n"
+//! );
+//! # Ok::<(), Box<dyn std::error::Error>>(())
+//! ```
+//!
+//! # Stack
+//!
+//! The walk over the terms is recursive, and its depth comes from the problem. The repository's README.md has the stack that it
+//! needs. On a thread with less, a deep problem ends the process, as any overflow of the stack does; nothing is proved about the stack.
+
+#![deny(missing_docs)]
+#![deny(unsafe_code)]
+
+pub mod kind;
+#[allow(unsafe_code)]
+mod raw;
+mod refusal;
+
+pub use refusal::{Refusal, WidthRefusal};
+
+/// Bytes of a node record.
+pub const NODE_BYTES: usize = 17;
+/// The most node records.
+pub const MAX_NODES: usize = 2_048;
+/// The most elements of [`Problem::nodes`]: [`MAX_NODES`] records.
+pub const MAX_NODES_LEN: usize = MAX_NODES * NODE_BYTES;
+/// The most elements of [`Problem::bits`].
+pub const MAX_BITS_LEN: usize = 131_072;
+/// The most elements of [`Problem::side`].
+pub const MAX_SIDE_LEN: usize = 8_192;
+/// The most elements of [`Problem::roots`].
+pub const MAX_ROOTS_LEN: usize = 256;
+/// The most elements of any table column: `name_start`, `name_len`, `var_node`, `var_width`, `aname_start`, `aname_len`,
+/// `fname_start`, `fname_len`, `func_width`.
+pub const MAX_COLUMN_LEN: usize = 512;
+/// The most bytes of any arena: `names`, `anames`, `fnames`.
+pub const MAX_ARENA_LEN: usize = 16_384;
+
+/// A problem: sixteen slices, which are only read. The default is the empty problem, of which every slice is empty.
+///
+/// The three tables have columns of one length each. Entry `i` of a table has the name `arena[start[i]..start[i] + len[i]]`. Names are
+/// printable ASCII other than `|` and `\`, not empty, and all different, over the tables too. The first byte is no `@` and no `.`, and the
+/// words of SMT-LIB and some of solvers' (`bvadd`, `let`, ..) are reserved.
+#[derive(Clone, Copy, Debug, Default, PartialEq, Eq, Hash)]
+pub struct Problem<'a> {
+    /// Node records of [`NODE_BYTES`] bytes each, as [`node`] makes them. An operand is the number of an earlier node.
+    pub nodes: &'a [u8],
+    /// The bits of constants, each 0 or 1, the least significant first. A constant node says where its bits are.
+    pub bits: &'a [u8],
+    /// The side entries: the stores of selects and the arguments of calls, as numbers of nodes. A select or call says where its own are.
+    pub side: &'a [u64],
+    /// The nodes that are asserted, in order. Each must be Bool.
+    pub roots: &'a [u64],
+    /// The arena of the variables' names.
+    pub names: &'a [u8],
+    /// For each variable, where its name starts in the arena.
+    pub name_start: &'a [u64],
+    /// For each variable, how long its name is.
+    pub name_len: &'a [u64],
+    /// For each variable, its node.
+    pub var_node: &'a [u64],
+    /// For each variable, its width, which is its node's.
+    pub var_width: &'a [u64],
+    /// The arena of the arrays' names. An array has an index of width 32 and a value of width 8.
+    pub anames: &'a [u8],
+    /// For each array, where its name starts in the arena.
+    pub aname_start: &'a [u64],
+    /// For each array, how long its name is.
+    pub aname_len: &'a [u64],
+    /// The arena of the functions' names. A function's argument widths are those of the first node that calls it.
+    pub fnames: &'a [u8],
+    /// For each function, where its name starts in the arena.
+    pub fname_start: &'a [u64],
+    /// For each function, how long its name is.
+    pub fname_len: &'a [u64],
+    /// For each function, the width of its result.
+    pub func_width: &'a [u64],
+}
+
+/// The record of a node: its kind and four operands, each with the least significant byte first.
+///
+/// [`kind`] says which operands a kind has. Those that it does not have are 0, or the record is refused by
+/// [`Refusal::Encoding`].
+///
+/// ```
+/// use smt_echo::{kind, node};
+///
+/// let record = node(kind::ZERO_EXT, [3, 258, 0, 0]);
+/// assert_eq!(record, [16, 3, 0, 0, 0, 2, 1, 0, 0, 0, 0, 0, 0, 0, 0, 0, 0]);
+/// ```
+pub fn node(kind: u8, operands: [u32; 4]) -> [u8; NODE_BYTES] {
+    let mut record = [0; NODE_BYTES];
+    record[0] = kind;
+    for (place, operand) in record[1..].chunks_exact_mut(4).zip(operands) {
+        place.copy_from_slice(&operand.to_le_bytes());
+    }
+    record
+}
+
+/// Prints a problem as an SMT-LIB script, and answers the script's length.
+///
+/// On `Ok(length)` the script is `out[..length]`, and `out[length..]` is what it was. On `Err` every byte of `out` is 0. The answer and
+/// all of `out` depend on the problem and on what `out` was, and on nothing else.
+///
+/// [`Refusal::Room`] comes last: it says that nothing is wrong but the length of `out`. The length that is needed is not answered;
+/// call again with a longer buffer.
+///
+/// ```
+/// use smt_echo::{Problem, Refusal, echo_ext};
+///
+/// let mut out = [b'.'; 32];
+/// assert_eq!(echo_ext(&Problem::default(), &mut out), Ok(30));
+/// assert_eq!(&out, b"(set-logic QF_BV)\n(check-sat)\n..");
+///
+/// assert_eq!(echo_ext(&Problem::default(), &mut out[..29]), Err(Refusal::Room));
+/// assert_eq!(out[..29], [0; 29]);
+/// ```
+///
+/// The walk is recursive: see [Stack](crate#stack).
+pub fn echo_ext(problem: &Problem<'_>, out: &mut [u8]) -> Result<usize, Refusal> {
+    let answer = raw::echo_ext(problem, out);
+    match answer.number {
+        0 => Ok(answer.length as usize),
+        n => Err(refusal::of_number(n)),
+    }
+}
+
+/// The width pass: are all nodes well formed, and how wide is each? Answers the number of nodes.
+///
+/// On `Ok(count)` the width of node `i` is `out[i]` for each `i` below `count`, and `out[count..]` is what it was; a Bool has width 1. On
+/// `Err` every element of `out` is 0.
+///
+/// ```
+/// use smt_echo::{WidthRefusal, ext_wf, kind, node};
+///
+/// let nodes = [node(kind::VAR, [8, 0, 0, 0]), node(kind::CONCAT, [0, 0, 0, 0])].concat();
+/// let mut widths = [7; 3];
+/// assert_eq!(ext_wf(&nodes, &[], &[], &mut widths), Ok(2));
+/// assert_eq!(widths, [8, 16, 7]);
+///
+/// // Node 1 negates a bit-vector of width 8 as if it were Bool.
+/// let nodes = [node(kind::VAR, [8, 0, 0, 0]), node(kind::NOT, [0, 0, 0, 0])].concat();
+/// assert_eq!(ext_wf(&nodes, &[], &[], &mut widths), Err(WidthRefusal::Malformed { node: 1 }));
+/// assert_eq!(widths, [0, 0, 0]);
+/// ```
+pub fn ext_wf(nodes: &[u8], bits: &[u8], side: &[u64], out: &mut [u64]) -> Result<usize, WidthRefusal> {
+    let answer = raw::ext_wf(nodes, bits, side, out);
+    match answer.number {
+        0 => Ok(answer.count as usize),
+        n => Err(refusal::of_width_number(n, answer.count as usize)),
+    }
+}
+
+/// The example of README.md, as a test.
+#[cfg(doctest)]
+#[doc = include_str!("../README.md")]
+struct Readme;

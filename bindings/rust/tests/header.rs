@@ -1,0 +1,50 @@
+//! The constants here and those of the C header are the same.
+
+use smt_echo::*;
+use std::collections::BTreeMap;
+
+const HEADER: &str = include_str!("../../../include/echo.h");
+
+/// The lines `ECHO_NAME = number` of the header.
+fn header() -> BTreeMap<&'static str, u64> {
+    let mut found = BTreeMap::new();
+    for line in HEADER.lines() {
+        let Some((name, rest)) = line.trim().split_once(" = ") else { continue };
+        if !name.starts_with("ECHO_") {
+            continue;
+        }
+        let number: String = rest.chars().take_while(char::is_ascii_digit).collect();
+        assert!(found.insert(name, number.parse().unwrap()).is_none(), "{name} twice");
+    }
+    found
+}
+
+#[test]
+fn limits_numbers_and_kinds() {
+    let mut here: BTreeMap<String, u64> = BTreeMap::new();
+    for (name, value) in [
+        ("ECHO_NODE_BYTES", NODE_BYTES),
+        ("ECHO_MAX_NODES", MAX_NODES),
+        ("ECHO_MAX_NODES_LEN", MAX_NODES_LEN),
+        ("ECHO_MAX_BITS_LEN", MAX_BITS_LEN),
+        ("ECHO_MAX_SIDE_LEN", MAX_SIDE_LEN),
+        ("ECHO_MAX_ROOTS_LEN", MAX_ROOTS_LEN),
+        ("ECHO_MAX_COLUMN_LEN", MAX_COLUMN_LEN),
+        ("ECHO_MAX_ARENA_LEN", MAX_ARENA_LEN),
+        ("ECHO_ACCEPTED", 0),
+    ] {
+        here.insert(name.into(), value as u64);
+    }
+    for refusal in Refusal::ALL {
+        here.insert(format!("ECHO_{refusal:?}").to_uppercase(), refusal.number());
+    }
+    macro_rules! kinds {
+        ($($name:ident)*) => { $(here.insert(concat!("ECHO_KIND_", stringify!($name)).into(), kind::$name.into());)* };
+    }
+    kinds!(VAR CONST ADD SUB MUL UDIV UREM AND OR XOR SHL LSHR ASHR ROTR EXTRACT CONCAT ZERO_EXT SIGN_EXT ITE EQ NE ULT ULE UGT UGE
+           SLT SLE SGT SGE NOT BOOL_AND BOOL_OR BV_NOT NEG ROTL SDIV SREM SELECT CALL);
+
+    let there: BTreeMap<String, u64> = header().into_iter().map(|(name, value)| (name.to_string(), value)).collect();
+    assert_eq!(here, there);
+    assert_eq!(here.len(), 8 + 11 + 39);
+}

@@ -1,0 +1,12 @@
+-- What the exports answer, with the lent slice as it is then.
+use Prim.Native.Nat.{ℕ}
+use mathlib.Core.List.{List}
+use Rattle.echo_spec.specs.Answers.{Answer}
+use Rattle.echo_c.specs.declared.EchoAnswer.{EchoAnswer}
+use Rattle.echo_c.specs.declared.WidthAnswer.{WidthAnswer}
+
+abbrev pub printed : EchoAnswer → List ℕ → Answer
+printed r out = record { number = r .number; count = r .length; output = out }
+
+abbrev pub passed : WidthAnswer → List ℕ → Answer
+passed r out = record { number = r .number; count = r .count; output = out }

@@ -1,0 +1,236 @@
+/*
+ * The printer `echo_ext` and the width pass `ext_wf`, for C and C++.
+ *
+ * The library is target/staticlib/libecho_c.a, written by `rt staticlib echo_c`. It is for x86-64 with the System V calling
+ * convention. It allocates nothing, keeps nothing between calls and needs only memcpy and memset of the C library.
+ *
+ * Both functions take slices: a pointer and a number of elements (not of bytes). For each slice the caller sees to it that
+ *
+ *   - the pointer is not null and is aligned for its element, also where the number is 0. For an empty slice hand in the address of
+ *     any object of the element type;
+ *   - that many elements can be read there, and for the output be written too;
+ *   - the output overlaps no input. Inputs may overlap each other, since they are only read;
+ *   - no other thread writes an input, or touches the output, until the call is back.
+ *
+ * That is all that is asked. What the elements are is free: each input is answered, by an acceptance or by a refusal, and nothing
+ * outside the slices is read or written.
+ */
+#ifndef ECHO_H
+#define ECHO_H
+
+#include <stddef.h>
+#include <stdint.h>
+
+#ifdef __cplusplus
+extern "C" {
+#endif
+
+/*
+ * The limits. An input over its limit is refused by ECHO_LIMIT before anything else is looked at. A column is any of name_start,
+ * name_len, var_node, var_width, aname_start, aname_len, fname_start, fname_len and func_width; an arena is any of names, anames and
+ * fnames.
+ */
+enum {
+    ECHO_NODE_BYTES = 17,        /* bytes of a node record */
+    ECHO_MAX_NODES = 2048,       /* node records */
+    ECHO_MAX_NODES_LEN = 34816,  /* elements of nodes: ECHO_MAX_NODES records */
+    ECHO_MAX_BITS_LEN = 131072,  /* elements of bits */
+    ECHO_MAX_SIDE_LEN = 8192,    /* elements of side */
+    ECHO_MAX_ROOTS_LEN = 256,    /* elements of roots */
+    ECHO_MAX_COLUMN_LEN = 512,   /* elements of a column */
+    ECHO_MAX_ARENA_LEN = 16384   /* elements of an arena */
+};
+
+/*
+ * The numbers that are answered. echo_ext answers any of them. ext_wf answers ECHO_ACCEPTED, ECHO_MALFORMED, ECHO_ENCODING,
+ * ECHO_LIMIT or ECHO_ROOM. If several things are wrong, the order is 9, 8, 1 (width pass, columns), 2, 6, 4 and 7 (declarations),
+ * then what the walk over the roots meets first, and 10 last.
+ */
+enum {
+    /* The result is at the front of the output. */
+    ECHO_ACCEPTED = 0,
+
+    /*
+     * A node is not well formed (ext_wf over the same nodes, bits and side tells which); or the columns of one table differ in
+     * length; or a root is no node; or a node below a root names an array or a function that its table does not have.
+     */
+    ECHO_MALFORMED = 1,
+
+    /*
+     * A declared name cannot stand in the script: it is empty or not wholly inside its arena; has a byte outside 32 to 126, or a
+     * bar or a backslash; begins with an at sign or a full stop; is a word of SMT-LIB or of a solver, such as "bvadd"; or is given
+     * twice, be it in two tables. Rename it.
+     */
+    ECHO_NAME = 2,
+
+    /*
+     * A Bool stands where a bit-vector is wanted, or a bit-vector where a Bool is: a root, an operand of not, and, or, and the
+     * condition of an ite are Bool, every other operand and every side entry is a bit-vector. To assert a bit-vector of width 1
+     * compare it with a constant; to make one of a Bool use an ite.
+     */
+    ECHO_SORT = 3,
+
+    /*
+     * An element of var_width is 0; or a variable below a root is not in var_node, or the first entry that names its node there has
+     * another width in var_width.
+     */
+    ECHO_VAR = 4,
+
+    /*
+     * A rotation below a root is by a term that is no constant node, or its width is above 65,536. Rotate by a constant, or write
+     * the rotation as shifts.
+     */
+    ECHO_ROTATE = 5,
+
+    /*
+     * A node that is neither variable nor constant is used twice or more, by operands, side entries and roots together, reached or
+     * not. Repeat the node for each use: the script is a tree.
+     */
+    ECHO_SHARED = 6,
+
+    /*
+     * No node calls a function of the table, its func_width is 0, or its first call in node order reads past the end of side; or a
+     * call below a root has another width than func_width says, or other arguments in number or width than that first call. Drop
+     * functions that are not called, and declare one function for each signature.
+     */
+    ECHO_SIGNATURE = 7,
+
+    /*
+     * The bytes are no encoding of a problem: nodes is no whole number of records, a kind is above 38, an operand that the kind
+     * does not have is not 0, or an element of bits, used or not, is neither 0 nor 1.
+     */
+    ECHO_ENCODING = 8,
+
+    /* An input is longer than its limit. Split the problem. */
+    ECHO_LIMIT = 9,
+
+    /*
+     * Nothing is wrong with the problem, but the result is longer than the output. Call again with a longer one. The length that is
+     * needed is not answered, and a problem within the limits can need more than a machine has.
+     */
+    ECHO_ROOM = 10
+};
+
+/*
+ * The kinds of a node. Byte 0 of a record is the kind; bytes 1 to 4, 5 to 8, 9 to 12 and 13 to 16 are operands, each a little-endian
+ * number. Operands that a kind does not have are 0. Below, a, b and c are numbers of nodes, which must stand before the node; the same
+ * goes for the side entries that it reads. The first record is node 0.
+ */
+enum {
+    ECHO_KIND_VAR = 0,         /* width */
+    ECHO_KIND_CONST = 1,       /* place of the lowest bit in bits, width; the lowest bit first */
+    ECHO_KIND_ADD = 2,         /* a, b: two bit-vectors of one width, as up to ECHO_KIND_ROTR */
+    ECHO_KIND_SUB = 3,
+    ECHO_KIND_MUL = 4,
+    ECHO_KIND_UDIV = 5,
+    ECHO_KIND_UREM = 6,
+    ECHO_KIND_AND = 7,
+    ECHO_KIND_OR = 8,
+    ECHO_KIND_XOR = 9,
+    ECHO_KIND_SHL = 10,
+    ECHO_KIND_LSHR = 11,
+    ECHO_KIND_ASHR = 12,
+    ECHO_KIND_ROTR = 13,       /* a, b: b is a constant node, the amount */
+    ECHO_KIND_EXTRACT = 14,    /* highest bit, lowest bit, a */
+    ECHO_KIND_CONCAT = 15,     /* a, b: a has the high bits */
+    ECHO_KIND_ZERO_EXT = 16,   /* a, by how many bits */
+    ECHO_KIND_SIGN_EXT = 17,   /* a, by how many bits */
+    ECHO_KIND_ITE = 18,        /* a, b, c: a Bool and two bit-vectors of one width */
+    ECHO_KIND_EQ = 19,         /* a, b: two bit-vectors of one width, into a Bool, as up to ECHO_KIND_SGE */
+    ECHO_KIND_NE = 20,
+    ECHO_KIND_ULT = 21,
+    ECHO_KIND_ULE = 22,
+    ECHO_KIND_UGT = 23,
+    ECHO_KIND_UGE = 24,
+    ECHO_KIND_SLT = 25,
+    ECHO_KIND_SLE = 26,
+    ECHO_KIND_SGT = 27,
+    ECHO_KIND_SGE = 28,
+    ECHO_KIND_NOT = 29,        /* a: a Bool */
+    ECHO_KIND_BOOL_AND = 30,   /* a, b: two Bools */
+    ECHO_KIND_BOOL_OR = 31,    /* a, b: two Bools */
+    ECHO_KIND_BV_NOT = 32,     /* a: a bit-vector */
+    ECHO_KIND_NEG = 33,        /* a: a bit-vector */
+    ECHO_KIND_ROTL = 34,       /* a, b: b is a constant node, the amount */
+    ECHO_KIND_SDIV = 35,       /* a, b: two bit-vectors of one width */
+    ECHO_KIND_SREM = 36,       /* a, b: two bit-vectors of one width */
+    ECHO_KIND_SELECT = 37,     /* array, a, side start, n: a is the index, of width 32; n pairs of index (32) and value (8) in side
+                                  are stores, the first the outermost */
+    ECHO_KIND_CALL = 38        /* function, width, side start, n: n arguments in side */
+};
+
+/* What echo_ext answers. */
+struct echo_answer {
+    uint64_t number; /* ECHO_ACCEPTED, or why the problem is refused */
+    uint64_t length; /* the length of the script; 0 with a refusal */
+};
+
+/* What ext_wf answers. */
+struct width_answer {
+    uint64_t number; /* ECHO_ACCEPTED, or why the nodes are refused */
+    uint64_t count;  /* the number of nodes; with ECHO_MALFORMED the number of the refused node; 0 with any other refusal */
+};
+
+/*
+ * Prints a problem as an SMT-LIB script.
+ *
+ *   nodes, bits, side      the terms: node records, the bits of constants, the side entries of selects and calls
+ *   roots                  the nodes that are asserted, in order
+ *   names ..               a table of variables: names is an arena of bytes, and entry i is the name_len[i] bytes of it from
+ *                          name_start[i] on, for node var_node[i], of width var_width[i]
+ *   anames ..              a table of arrays, by number; each has an index of width 32 and a value of width 8
+ *   fnames ..              a table of functions, by number; func_width[i] is the width of the result. The argument widths are those
+ *                          of the first node that calls the function
+ *
+ * Accepted: number is ECHO_ACCEPTED, out[0] to out[length - 1] is the script, and every element of out from out[length] on is what it
+ * was before the call. The script ends in a line break. No byte 0 is put after it.
+ *
+ * Refused: number is 1 to 10, length is 0, and all out_len elements of out are 0.
+ *
+ * An output of out_len 0 is allowed; every script is longer than that, so that a problem is refused by some number then.
+ *
+ * The walk over the terms is recursive, and its depth comes from the input. README.md has the stack that it needs; the proofs say
+ * nothing about the stack. On a thread with less a deep problem ends the process, as any overflow of the stack does.
+ */
+struct echo_answer echo_ext(
+    const uint8_t *nodes, size_t nodes_len,
+    const uint8_t *bits, size_t bits_len,
+    const uint64_t *side, size_t side_len,
+    const uint64_t *roots, size_t roots_len,
+    const uint8_t *names, size_t names_len,
+    const uint64_t *name_start, size_t name_start_len,
+    const uint64_t *name_len, size_t name_len_len,
+    const uint64_t *var_node, size_t var_node_len,
+    const uint64_t *var_width, size_t var_width_len,
+    const uint8_t *anames, size_t anames_len,
+    const uint64_t *aname_start, size_t aname_start_len,
+    const uint64_t *aname_len, size_t aname_len_len,
+    const uint8_t *fnames, size_t fnames_len,
+    const uint64_t *fname_start, size_t fname_start_len,
+    const uint64_t *fname_len, size_t fname_len_len,
+    const uint64_t *func_width, size_t func_width_len,
+    uint8_t *out, size_t out_len);
+
+/*
+ * The width pass alone: tells whether every node is well formed, and how wide each is. A Bool has width 1 here.
+ *
+ * Accepted: number is ECHO_ACCEPTED, count is the number of nodes, out[i] is the width of node i for each i below count, and every
+ * element of out from out[count] on is what it was before the call.
+ *
+ * Refused: number is 1, 8, 9 or 10, and all out_len elements of out are 0. With ECHO_MALFORMED count is the number of the first node
+ * that is not well formed; with the others count is 0. ECHO_ROOM is answered where out_len is less than the number of nodes, and
+ * nothing else is wrong.
+ *
+ * It is not recursive.
+ */
+struct width_answer ext_wf(
+    const uint8_t *nodes, size_t nodes_len,
+    const uint8_t *bits, size_t bits_len,
+    const uint64_t *side, size_t side_len,
+    uint64_t *out, size_t out_len);
+
+#ifdef __cplusplus
+}
+#endif
+
+#endif
