@@ -1,0 +1,5 @@
+(set-logic QF_ABV)
+(declare-const |eqrange| (_ BitVec 8))
+(declare-const |a| (Array (_ BitVec 32) (_ BitVec 8)))
+(assert (= |eqrange| #b00000000))
+(check-sat)

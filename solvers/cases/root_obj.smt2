@@ -1,0 +1,5 @@
+(set-logic QF_AUFBV)
+(declare-const |x| (_ BitVec 8))
+(declare-fun |root-obj| ((_ BitVec 8)) (_ BitVec 8))
+(assert (distinct (|root-obj| |x|) |x|))
+(check-sat)

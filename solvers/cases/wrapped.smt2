@@ -1,0 +1,5 @@
+(set-logic QF_BV)
+(declare-const |x| (_ BitVec 8))
+(assert (= ((_ zero_extend 1073741824) ((_ zero_extend 1073741824) ((_ zero_extend 1073741824) ((_ zero_extend 1073741824) |x|)))) ((_ sign_extend 1073741824) ((_ sign_extend 1073741824) ((_ sign_extend 1073741824) ((_ sign_extend 1073741824) |x|))))))
+(assert (bvslt |x| #b00000000))
+(check-sat)
