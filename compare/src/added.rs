@@ -45,6 +45,11 @@ fn encoded(p: &Problem) -> bool {
         && p.bits.iter().all(|b| *b <= 1)
 }
 
+/// The answer to a problem whose answer with endless room is known.
+pub fn with_room<T>(a: Answer<T>, room: usize) -> Answer<T> {
+    if a.number == 0 && a.result.len() > room { refused(10, 0) } else { a }
+}
+
 pub fn width_answer(p: &Problem, room: usize) -> Answer<u64> {
     if !nodes_within(p) {
         return refused(9, 0);
@@ -54,8 +59,7 @@ pub fn width_answer(p: &Problem, room: usize) -> Answer<u64> {
     }
     match oracle::widths(p) {
         Err(node) => refused(1, node),
-        Ok(ws) if ws.len() > room => refused(10, 0),
-        Ok(ws) => Answer { number: 0, count: ws.len(), result: ws },
+        Ok(ws) => with_room(Answer { number: 0, count: ws.len(), result: ws }, room),
     }
 }
 
@@ -68,8 +72,7 @@ pub fn print_answer(p: &Problem, room: usize) -> Answer<u8> {
     }
     match oracle::script(p) {
         Err(number) => refused(number, 0),
-        Ok(s) if s.len() > room => refused(10, 0),
-        Ok(s) => Answer { number: 0, count: s.len(), result: s },
+        Ok(s) => with_room(Answer { number: 0, count: s.len(), result: s }, room),
     }
 }
 
