@@ -85,66 +85,76 @@ pub const CALL: u8 = 13;
 
 pub const UNKNOWN: u8 = 14;
 
-// The shape of each kind, 0 to 38.
-const SHAPES: [u8; 39] = [
-    VAR, // Var
-    CONST, // Const
-    BINARY, // Add
-    BINARY, // Sub
-    BINARY, // Mul
-    BINARY, // Udiv
-    BINARY, // Urem
-    BINARY, // And
-    BINARY, // Or
-    BINARY, // Xor
-    BINARY, // Shl
-    BINARY, // Lshr
-    BINARY, // Ashr
-    ROTATION, // Rotr
-    EXTRACTION, // Extract
-    CONCAT, // Concat
-    EXTENSION, // ZeroExt
-    EXTENSION, // SignExt
-    ITE, // Ite
-    COMPARISON, // Eq
-    COMPARISON, // Ne
-    COMPARISON, // Ult
-    COMPARISON, // Ule
-    COMPARISON, // Ugt
-    COMPARISON, // Uge
-    COMPARISON, // Slt
-    COMPARISON, // Sle
-    COMPARISON, // Sgt
-    COMPARISON, // Sge
-    NEGATION, // Not
-    CONNECTIVE, // BoolAnd
-    CONNECTIVE, // BoolOr
-    UNARY, // BvNot
-    UNARY, // Neg
-    ROTATION, // Rotl
-    BINARY, // Sdiv
-    BINARY, // Srem
-    SELECT, // Select
-    CALL, // Call
-];
-
-// How many operands a node of each shape has, by the shape's code.
-const OPERANDS: [usize; 14] = [1, 2, 2, 2, 3, 2, 2, 3, 2, 1, 2, 1, 4, 4];
-
-// A kind's shape, as its code. Ruled out: a rotation as another binary operator; a kind past the last as a call.
+// A kind's shape, as its code: the table is a match, since a constant array would be stored anew at each use. Ruled out: a rotation as
+// another binary operator; a kind past the last as a call.
 pub fn shape(kind: u8) -> u8
     ensures { λ r. ⌜ r ≡ codeOf (shapeOf kind) ⌝ }
 {
-    let k = kind as usize;
-    if k < 39 { SHAPES[k] } else { UNKNOWN }
+    match kind {
+        0 => VAR, // Var
+        1 => CONST, // Const
+        2 => BINARY, // Add
+        3 => BINARY, // Sub
+        4 => BINARY, // Mul
+        5 => BINARY, // Udiv
+        6 => BINARY, // Urem
+        7 => BINARY, // And
+        8 => BINARY, // Or
+        9 => BINARY, // Xor
+        10 => BINARY, // Shl
+        11 => BINARY, // Lshr
+        12 => BINARY, // Ashr
+        13 => ROTATION, // Rotr
+        14 => EXTRACTION, // Extract
+        15 => CONCAT, // Concat
+        16 => EXTENSION, // ZeroExt
+        17 => EXTENSION, // SignExt
+        18 => ITE, // Ite
+        19 => COMPARISON, // Eq
+        20 => COMPARISON, // Ne
+        21 => COMPARISON, // Ult
+        22 => COMPARISON, // Ule
+        23 => COMPARISON, // Ugt
+        24 => COMPARISON, // Uge
+        25 => COMPARISON, // Slt
+        26 => COMPARISON, // Sle
+        27 => COMPARISON, // Sgt
+        28 => COMPARISON, // Sge
+        29 => NEGATION, // Not
+        30 => CONNECTIVE, // BoolAnd
+        31 => CONNECTIVE, // BoolOr
+        32 => UNARY, // BvNot
+        33 => UNARY, // Neg
+        34 => ROTATION, // Rotl
+        35 => BINARY, // Sdiv
+        36 => BINARY, // Srem
+        37 => SELECT, // Select
+        38 => CALL, // Call
+        _ => UNKNOWN,
+    }
 }
 
 // How many of the four operands a shape has. Ruled out: two for an extraction; four for an unknown shape.
 pub fn operand_count(shape: u8) -> usize
     ensures { λ r. ⌜ r ≡ operandCount (shapeCoded shape) ⌝ }
 {
-    let s = shape as usize;
-    if s < 14 { OPERANDS[s] } else { 0 }
+    match shape {
+        VAR => 1,
+        CONST => 2,
+        BINARY => 2,
+        ROTATION => 2,
+        EXTRACTION => 3,
+        CONCAT => 2,
+        EXTENSION => 2,
+        ITE => 3,
+        COMPARISON => 2,
+        NEGATION => 1,
+        CONNECTIVE => 2,
+        UNARY => 1,
+        SELECT => 4,
+        CALL => 4,
+        _ => 0,
+    }
 }
 
 // Is every number 0.

@@ -86,7 +86,7 @@ impl Place {
         self
     }
 
-    // `push_word`
+    // `push_word`. Ruled out: the last byte left out though it fits; a word that does not fit counted as far as it was written.
     pub fn word(mut self, out: &mut [u8], w: &[u8]) -> Place
         ensures { λ r. ⌜ page r (now (out .exit)) ≡ written (page self (now (out .entry))) (now (w .entry)) ⌝ }
     {
@@ -100,7 +100,7 @@ impl Place {
         self
     }
 
-    // `|name|` (`push_name`)
+    // `|name|` (`push_name`). Ruled out: a blank for the opening bar; a name without its closing bar.
     pub fn name(mut self, out: &mut [u8], n: &[u8]) -> Place
         ensures { λ r. ⌜ page r (now (out .exit)) ≡ written (page self (now (out .entry))) (quoted (now (n .entry))) ⌝ }
     {
@@ -125,6 +125,7 @@ impl Place {
     }
 
     // The decimal numeral of n (`push_dec`). Its digits are found lowest first and held in a small buffer: the largest `u64` has 20.
+    // Ruled out: the units first; a number that starts with 10 written with the byte after 9.
     pub fn number(mut self, out: &mut [u8], n: u64) -> Place
         ensures { λ r. ⌜ page r (now (out .exit)) ≡ written (page self (now (out .entry))) (decimal n) ⌝ }
     {
@@ -142,7 +143,8 @@ impl Place {
         self
     }
 
-    // `#b`, then the bits from the highest down, which are lent lowest first (`push_bits`).
+    // `#b`, then the bits from the highest down, which are lent lowest first (`push_bits`). Ruled out: the lowest bit first; the lowest
+    // bits of a constant that does not fit.
     pub fn constant(mut self, out: &mut [u8], bits: &[u8]) -> Place
         requires { ⌜ T (every (λ b. leb b 1) (now bits)) ⌝ }
         ensures { λ r. ⌜ page r (now (out .exit)) ≡ written (page self (now (out .entry))) (bytes "#b" ++ binaryDigits (now (bits .entry))) ⌝ }

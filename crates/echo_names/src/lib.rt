@@ -2,6 +2,7 @@
 // A name is the part of its arena itself, never a copy, so `range_eq` and `word_is` of the Rust are one comparison of two slices.
 ghost use mathlib.Core.Path.{_≡_};
 ghost use mathlib.Core.List.{_++_};
+ghost use mathlib.Core.Bool.{false};
 ghost use Prim.Native.Nat.{_≤_, _<_};
 ghost use lib.ListN.{length, take};
 ghost use Rattle.lists.specs.Tests.{same, inList, every};
@@ -13,7 +14,7 @@ ghost use Rattle.echo_names.specs.Tables.{Columns, entryAt};
 // ---------------------------------------------------------------- parts of an arena
 
 // The part of the arena from `start` on, `len` bytes long; the empty part where that does not lie inside.
-// Shut out: a part that starts one byte late; one cut short at the arena's end.
+// Ruled out: a part that starts one byte late; one cut short at the arena's end.
 pub fn part<'a>(arena: &'a [u8], start: u64, len: u64) -> &'a [u8]
     ensures { λ r. ⌜ now r ≡ «part-of» (now (arena .entry)) start len ⌝ }
 {
@@ -29,13 +30,28 @@ pub fn part<'a>(arena: &'a [u8], start: u64, len: u64) -> &'a [u8]
     &arena[s..s + l]
 }
 
+// Can the two be the same: their last bytes are, or the first has none. (Most names that differ do so at the end.)
+fn last_alike(a: &[u8], b: &[u8]) -> bool
+    requires { ⌜ length (now a) ≡ length (now b) ⌝ }
+    ensures { λ r. ⌜ (r ≡ false → now (a .entry) ≡ now (b .entry) → ⊥) ⌝ }
+{
+    let n = a.len();
+    if n == 0 {
+        return true;
+    }
+    a[n - 1] == b[n - 1]
+}
+
 // Are the two the same bytes?
-// Shut out: one that compares no more bytes than the shorter has; one that leaves the last byte out.
+// Ruled out: one that compares no more bytes than the shorter has; one that leaves the last byte out.
 pub fn same_bytes(a: &[u8], b: &[u8]) -> bool
     ensures { λ r. ⌜ r ≡ same (now (a .entry)) (now (b .entry)) ⌝ }
 {
     let n = a.len();
     if n != b.len() {
+        return false;
+    }
+    if !last_alike(a, b) {
         return false;
     }
     let mut i = 0;
@@ -174,7 +190,7 @@ fn find_word(name: &[u8], words: &[u8], counts: &[usize]) -> bool
 }
 
 // Is the name a reserved word or a theory symbol? The table is lent, so that a search stores it once.
-// Shut out: a table with one letter of a word wrong; a search that leaves out the last word of a group.
+// Ruled out: a table with one letter of a word wrong; a search that leaves out the last word of a group.
 pub fn is_reserved(name: &[u8]) -> bool
     ensures { λ r. ⌜ r ≡ inList (now (name .entry)) reserved ⌝ }
 {
@@ -244,7 +260,7 @@ fn entry_ok(
 
 // Does each name of a table pass, after the names of the two tables before it and those before it in its own?
 // That a table's columns are of one length is the caller's to show, where the Rust tests it here.
-// Shut out: names compared with their own table alone; a last name that is not looked at.
+// Ruled out: names compared with their own table alone; a last name that is not looked at.
 pub fn table_ok(
     arena: &[u8],
     starts: &[u64],

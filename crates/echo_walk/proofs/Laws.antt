@@ -6,7 +6,8 @@ use mathlib.Core.List.{List, [], _∷_, _++_, append-nil}
 use native.Mathlib.Nat.{suc-mul, mul-le-mul-right}
 use native.Mathlib.Numerals.{add-one}
 use native.Mathlib.Omega.{arith}
-use lib.Dec.{T, ltb, ltb→lt}
+use borrow.Author.Tests.{eqb-true}
+use lib.Dec.{T, eqb, ltb, ltb→lt}
 use lib.ListN.{length, getD, take, drop, length-drop}
 use lib.Seq.{drop-cons, getD-drop}
 use Rattle.lists.specs.Tests.{All, and-0, and-1}
@@ -32,22 +33,23 @@ use Rattle.echo_spec.specs.Shapes.{
 use Rattle.echo_spec.specs.Input.{Node, shape, no-node, nodeAt, nodesOf, Dag, dagOf}
 use Rattle.echo_spec.specs.Widths.{indexWidth, valueWidth, earlier, earlierOf, un-wf, bin-wf, wfAs, node-wf}
 use Rattle.echo_spec.specs.WidthLaws.{Sized, sized, earlier-below, earlier-width, un-operand, bin-operands, args-operands}
-use Rattle.echo_spec.specs.Refusals.{unless}
+use Rattle.echo_spec.specs.Refusals.{unless, _orElse_}
 use Rattle.echo_spec.specs.Walk.{asked, Operand, vector, levels, sortOk}
 use Rattle.echo_spec.specs.Accepted.{orElse-passed}
-use Rattle.blast_kernel.specs.Codes.{codeOf, shapeCoded, in-arm, NoneOf, past-arms}
+use Rattle.blast_kernel.specs.Codes.{codeOf, shapeCoded, coded-back, in-arm, NoneOf, past-arms}
 use Rattle.blast_kernel.specs.Records.{nodes-length, nodes-at}
 use Rattle.echo_bytes.specs.declared.Place.{Place}
 use Rattle.echo_bytes.specs.Page.{Page, page, written}
-use Rattle.echo_bytes.specs.Laws.{written-nil}
+use Rattle.echo_bytes.specs.Laws.{written-nil, written-append, length-written}
 use Rattle.echo_walk.specs.declared.Out.{Out}
 use Rattle.echo_walk.specs.declared.Out.the-variants.{Done, Refused}
 use Rattle.echo_walk.specs.declared.Form.{Form}
 use Rattle.echo_walk.specs.declared.Form.the-variants.{Leaf, One, Two, Choice, Chain, Arguments}
 use Rattle.echo_walk.specs.Texts.{Text, whole, refused, onto, then, headOf, callForm, formAs, blank, close, twoText, levelsText, argsText, formText}
-use Rattle.echo_walk.specs.TextLaws.{then-assoc, refusedHere, node-past, node-refused, node-passed, chain-operands, joined-operands, extend-un}
+use Rattle.echo_walk.specs.TextLaws.{onto-append, onto-nil, then-assoc, refusedHere, node-past, node-refused, node-passed, chain-operands, joined-operands, extend-un}
 use Rattle.echo_walk.specs.WroteLaws.{behind, last}
-use Rattle.echo_walk.specs.Lent.{Slice, slot, dagAt, widthsAt, bitsAt, textAt, nodeAtPlace, Ready, Listed, Chained, Wrote}
+use Rattle.echo_walk.specs.declared.Run.{Run}
+use Rattle.echo_walk.specs.Lent.{Slice, slot, dagAt, widthsAt, bitsAt, textAt, nodeAtPlace, Ready, LeafAt, Listed, Chained, Leaves, Wrote}
 
 -- ---------------------------------------------------------------- an arm of a match on the code of a shape
 
@@ -158,6 +160,52 @@ module _ {lim : ℕ} {side : List ℕ} {s n : ℕ} (h : Listed lim side s n) (f 
 pub args-none : (g : ℕ → Bool → Text) (side : List ℕ) {n : ℕ} {p : Page} {o : Out} {l : List ℕ} → n ≡ 0 → Wrote close p o l → Wrote (argsText g n side) p o l
 unfolding argsText
 args-none g side e w = rw e w
+
+-- ---------------------------------------------------------------- leaves at the start of a list
+
+-- the place of a run
+abbrev placeOf : Run → Place
+placeOf r = record { at = r .at; need = r .need }
+
+pub leaves-start : {lim : ℕ} (g : ℕ → Bool → Text) {side : List ℕ} {s n : ℕ} {p : Place} {l : List ℕ} → Listed lim side s n → p .need < 2 ^ 64
+    → Leaves lim g side s n (page p l) (record { next = s; left = n; at = p .at; need = p .need }) l
+leaves-start g {side} {s} {n} {p} {l} h z = record {
+  text = [];
+  rest = sym (onto-nil (argsText g n (drop s side)));
+  stands = sym (written-nil (page p l) z);
+  listed = h;
+  fewer = omega arith;
+}
+
+module _ {lim : ℕ} {g : ℕ → Bool → Text} {side : List ℕ} {s n : ℕ} {p : Page} {r : Run} {l : List ℕ} (h : Leaves lim g side s n p r l) where
+  -- the buffer keeps its length
+  pub leaves-size : length l ≡ length (p .bytes)
+  leaves-size = ap (λ (z : Page). length (z .bytes)) (h .stands) ∙ length-written p (h .text)
+
+  -- the rest of the arguments behind the leaves
+  pub leaves-then : {o : Out} {l′ : List ℕ} → Wrote (argsText g (r .left) (drop (r .next) side)) (page (placeOf r) l) o l′ → Wrote (argsText g n (drop s side)) p o l′
+  leaves-then w = rw (h .rest) (behind (h .text) (argsText g (r .left) (drop (r .next) side)) (h .stands) w)
+
+  -- one leaf more
+  pub leaves-next : (r .left ≡ 0 → ⊥) → {x : ℕ} → x ≡ getD side (r .next) 0 → {bs : List ℕ} → g x false ≡ whole bs → {q q′ : Place} {l₁ l₂ : List ℕ}
+      → page q l₁ ≡ written (page (placeOf r) l) (32 ∷ []) → page q′ l₂ ≡ written (page q l₁) bs
+      → Leaves lim g side s n p (record { next = r .next + 1; left = r .left - 1; at = q′ .at; need = q′ .need }) l₂
+  unfolding then onto
+  leaves-next f {x} e {bs} t {q} {q′} {l₁} {l₂} b w =
+      let more : r .left ≡ suc (r .left - 1) = omega arith in
+      let tail : Text = argsText g (r .left - 1) (drop (r .next + 1) side) in
+      let now : argsText g (r .left) (drop (r .next) side) ≡ onto (32 ∷ bs) tail =
+      ap (λ (k : ℕ). argsText g k (drop (r .next) side)) more ∙ args-step g side (r .next) (r .left - 1) (listed-place (h .listed) f)
+      ∙ ap (λ (y : ℕ). then blank (then (g y false) tail)) (sym e) ∙ ap (λ (u : Text). then blank (then u tail)) t ∙ sym (onto-append (32 ∷ []) bs tail) in
+      record {
+        text = h .text ++ (32 ∷ bs);
+        rest = h .rest ∙ ap (onto (h .text)) now ∙ sym (onto-append (h .text) (32 ∷ bs) tail);
+        stands =
+            w ∙ ap (λ (z : Page). written z bs) b ∙ written-append (page (placeOf r) l) (32 ∷ []) bs ∙ ap (λ (z : Page). written z (32 ∷ bs)) (h .stands)
+            ∙ written-append p (h .text) (32 ∷ bs);
+        listed = listed-rest (h .listed) f;
+        fewer = omega (arith, h .fewer);
+      }
 
 -- ---------------------------------------------------------------- pairs of a chain
 
@@ -290,6 +338,26 @@ module _ (nbits : ℕ) (ws side : List ℕ) (i : ℕ) (here : i < length ws) whe
       call-below i side (n .c) (n .d) (record { below = r .0; inside = r .1 })
   below-as n unknown t = absurd t
 
+-- ---------------------------------------------------------------- leaves
+
+-- what is so of a variable and of a constant is so of a shape whose code is at most theirs
+pub first-two : (P : Shape → Type 0) → P var → P const → (s : Shape) → codeOf s ≤ 1 → P s
+first-two P v c s h = subst P (coded-back s) (go (codeOf s) h)
+  where
+    go : (k : ℕ) → k ≤ 1 → P (shapeCoded k)
+    go zero l = v
+    go (suc zero) l = c
+    go (suc (suc k)) l = absurd (omega arith)
+
+leaf-form : (m : Node) (g : ℕ → Bool → Text) (side bs : List ℕ) (s : Shape) → codeOf s ≤ 1 → onto bs (formText g side (formAs m s)) ≡ whole bs
+unfolding formAs formText onto
+leaf-form m g side bs s h = first-two (λ (s : Shape). onto bs (formText g side (formAs m s)) ≡ whole bs) (ap whole (append-nil bs)) (ap whole (append-nil bs)) s h
+
+leaf-here : (d : Dag) (ws : List ℕ) (i : ℕ) → codeOf (shape (getD (d .nodes) i no-node)) ≤ 1 → asked d ws i ≡ 0 → refusedHere d ws i false ≡ 0
+unfolding refusedHere isBool
+leaf-here d ws i h a =
+    first-two (λ (s : Shape). (unless (sortOk false (isBool s)) 3 orElse asked d ws i) ≡ 0) a a (shape (getD (d .nodes) i no-node)) h
+
 -- ---------------------------------------------------------------- node i
 
 module _ (t n : List Slice) (ready : Ready t n) (i : ℕ) where
@@ -330,6 +398,23 @@ module _ (t n : List Slice) (ready : Ready t n) (i : ℕ) where
         let none : refusedHere (dagAt t n) (widthsAt n) i w ≡ 0 = sym r ∙ omega arith in
         rw (node-passed (dagAt t n) (length (bitsAt t)) (widthsAt n) (bitsAt t) (ready .counted) i w (ready .widths) h none, ← ef)
         (rw (append-nil (headOf (dagAt t n) (widthsAt n) (bitsAt t) i)) (last (headOf (dagAt t n) (widthsAt n) (bitsAt t) i) eq))
+
+  -- a leaf that the tables take, as a bit-vector
+  pub leaf-text : LeafAt t n i → textAt t n i false ≡ whole (headOf (dagAt t n) (widthsAt n) (bitsAt t) i)
+  unfolding dagOf
+  leaf-text h =
+      node-passed (dagAt t n) (length (bitsAt t)) (widthsAt n) (bitsAt t) (ready .counted) i false (ready .widths) (h .here) (leaf-here (dagAt t n) (widthsAt n) i (h .leaf) (h .taken))
+      ∙ leaf-form (nodeAtPlace t i) (textAt t n) (slot n 0) (headOf (dagAt t n) (widthsAt n) (bitsAt t) i) (shape (nodeAtPlace t i)) (h .leaf)
+
+  -- what a test for a leaf finds
+  pub leaf-found : i < length (widthsAt n) → {s : ℕ} → s ≡ codeOf (shape (nodeAtPlace t i)) → s ≤ 1 → {a : ℕ} → a ≡ getD (slot n 12) i 0 → eqb a 0 ≡ true → LeafAt t n i
+  leaf-found h {s} e l {a} f z = record { here = h; leaf = omega (arith, e, l); taken = sym (ready .marked i h) ∙ sym f ∙ eqb-true a 0 z }
+
+pub no-leaf : {A : Type 0} → false ≡ true → A
+no-leaf e = absurd (subst T (sym e) tt)
+
+pub second-leaf : {r c : ℕ} → r ≡ c → c ≤ 1 → (r ≡ 0 → ⊥) → r ≡ 1
+second-leaf e h f = omega arith
 
 -- node i passes, so the tables ask nothing of it
 pub none-asked : (d : Dag) (ws : List ℕ) (i : ℕ) (w : Bool) {e : ℕ} → e ≡ refusedHere d ws i w → e ≤ 0 → asked d ws i ≡ 0

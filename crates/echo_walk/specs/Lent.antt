@@ -16,10 +16,12 @@ use Rattle.echo_spec.specs.Walk.{askedAs, asked, Operand, levels}
 use Rattle.echo_spec.specs.Render.{symbolOf, operatorText}
 use Rattle.echo_tables.specs.Found.{orZero}
 use Rattle.echo_lines.specs.Symbols.{symbolTable}
-use Rattle.echo_bytes.specs.Page.{Page, written}
+use Rattle.blast_kernel.specs.Codes.{codeOf}
+use Rattle.echo_bytes.specs.Page.{Page, page, written}
 use Rattle.echo_walk.specs.declared.Out.{Out}
 use Rattle.echo_walk.specs.declared.Out.the-variants.{Done, Refused}
-use Rattle.echo_walk.specs.Texts.{Text, whole, refused, nodeText, headAs}
+use Rattle.echo_walk.specs.declared.Run.{Run}
+use Rattle.echo_walk.specs.Texts.{Text, whole, refused, onto, argsText, nodeText, headAs}
 
 -- ---------------------------------------------------------------- slices in an array
 
@@ -117,6 +119,12 @@ unfoldable pub indexedHead : Bool → Node → List ℕ
 indexedHead true n = bytes "(" ++ operatorText (symbolOf (n .kind)) (n .a ∷ n .b ∷ [])
 indexedHead false n = bytes "(" ++ operatorText (symbolOf (n .kind)) (n .b ∷ [])
 
+-- node i is a variable or a constant, and the tables take it
+pub record LeafAt (t n : List Slice) (i : ℕ) : Type 0 where
+  pub here : i < length (widthsAt n)
+  pub leaf : codeOf (shape (nodeAtPlace t i)) ≤ 1
+  pub taken : asked (dagAt t n) (widthsAt n) i ≡ 0
+
 -- n side entries from s on are nodes below lim
 pub record Listed (lim : ℕ) (side : List ℕ) (s n : ℕ) : Type 0 where
   pub below : All (λ x. ltb x lim) (take n (drop s side))
@@ -136,3 +144,11 @@ After (refused e) p o l = o ≡ Refused e
 
 pub record Wrote (t : Text) (p : Page) (o : Out) (l : List ℕ) : Type 0 where
   pub told : After t p o l
+
+-- the leaves that n arguments begin with are written: the text of the arguments is theirs, and then that of the arguments left
+pub record Leaves (lim : ℕ) (g : ℕ → Bool → Text) (side : List ℕ) (s n : ℕ) (p : Page) (r : Run) (l : List ℕ) : Type 0 where
+  pub text : List ℕ
+  pub rest : argsText g n (drop s side) ≡ onto text (argsText g (r .left) (drop (r .next) side))
+  pub stands : page (record { at = r .at; need = r .need }) l ≡ written p text
+  pub listed : Listed lim side (r .next) (r .left)
+  pub fewer : r .left ≤ n

@@ -117,6 +117,10 @@ oneText g a b = then blank (then (g a b) close)
 unfoldable pub twoText : (ℕ → Bool → Text) → ℕ → ℕ → Bool → Text
 twoText g a b w = then blank (then (g a w) (then blank (then (g b w) close)))
 
+-- ` A B C)`: a Bool and two bit-vectors
+abbrev pub choiceText : (ℕ → Bool → Text) → ℕ → ℕ → ℕ → Text
+choiceText g a b c = then blank (then (g a true) (twoText g b c false))
+
 -- ` I V)` for each of n pairs, the last pair first
 unfoldable pub levelsText : (ℕ → Bool → Text) → ℕ → List ℕ → Text
 levelsText g zero side = whole []
@@ -134,6 +138,6 @@ unfoldable pub formText : (ℕ → Bool → Text) → List ℕ → Form → Text
 formText g side Leaf = whole []
 formText g side (One a b) = oneText g a b
 formText g side (Two a b w) = twoText g a b w
-formText g side (Choice a b c) = then blank (then (g a true) (twoText g b c false))
+formText g side (Choice a b c) = choiceText g a b c
 formText g side (Chain j s n) = then (levelsText g n (drop s side)) (oneText g j false)
 formText g side (Arguments s n) = argsText g n (drop s side)

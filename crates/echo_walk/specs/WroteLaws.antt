@@ -1,6 +1,6 @@
 -- Texts written one after the other, for callers of the walk. Assumes nothing.
 use Prim.Native.Nat.{ℕ}
-use mathlib.Core.Path.{_≡_, sym, ap, _∙_}
+use mathlib.Core.Path.{_≡_, sym, ap, _∙_, subst}
 use mathlib.Core.List.{List, [], _∷_}
 use native.Mathlib.Omega.{arith}
 use Rattle.echo_bytes.specs.declared.Place.{Place}
@@ -44,3 +44,7 @@ module _ {p : Page} {o : Out} {l : List ℕ} where
   stop (whole bs) s {x} h e =
       let h₀ : o ≡ Done (written p bs .place) = h .told .0 in let z : _≡_ {A = ℕ} 0 1 = cc in absurd (omega arith)
   stop (refused y) s h e = record { told = sym e ∙ h .told }
+
+  -- the answer by another name
+  pub as-told : {t : Text} {o′ : Out} → Wrote t p o l → o ≡ o′ → Wrote t p o′ l
+  as-told {t} h e = subst (λ (x : Out). Wrote t p x l) e h

@@ -1,6 +1,6 @@
 // The walk: a node as a term, written at a place in the lent buffer, or the number of a refusal (ordeal's "THE WALK").
 //
-// Five writers call each other: `echo_node`, `echo_one`, `echo_two`, `echo_levels`, `echo_args`. A node's operands have lower
+// Six writers call each other: `echo_node`, `echo_one`, `echo_two`, `echo_choice`, `echo_levels`, `echo_args`. A node's operands have lower
 // numbers, and in a list the entries left grow fewer, so the walk ends. What the tables ask of each node stands in a table that is
 // lent, made before the walk; the text before a node's operands, its head, is written by a function outside the cycle.
 //
@@ -23,6 +23,7 @@ use blast_kernel::VAR;
 use echo_bytes::Place;
 ghost use mathlib.Core.Path.{_≡_};
 ghost use mathlib.Core.List.{[], _++_};
+ghost use mathlib.Core.Bool.{true};
 ghost use Prim.Native.Nat.{ℕ, _+_, _%_, _^_, _≤_, _<_};
 ghost use lib.Dec.{T, leb};
 ghost use lib.ListN.{length, getD, take, drop};
@@ -36,7 +37,7 @@ ghost use Rattle.echo_spec.specs.Render.{symbolOf, binaryDigits};
 ghost use Rattle.blast_kernel.specs.Codes.{codeOf};
 ghost use Rattle.blast_kernel.specs.Records.{nodeOf};
 ghost use Rattle.echo_bytes.specs.Page.{page, written};
-ghost use Rattle.echo_walk.specs.Texts.{headOf, callForm, formAs, oneText, twoText, levelsText, argsText};
+ghost use Rattle.echo_walk.specs.Texts.{headOf, callForm, formAs, oneText, twoText, choiceText, levelsText, argsText};
 ghost use Rattle.echo_walk.specs.TextLaws.{refusedHere};
 ghost use Rattle.echo_walk.specs.Lent.{
   slot,
@@ -51,8 +52,10 @@ ghost use Rattle.echo_walk.specs.Lent.{
   Passed,
   Constant,
   Operator,
+  LeafAt,
   Listed,
   Chained,
+  Leaves,
   Wrote,
 };
 
@@ -365,6 +368,86 @@ fn operands_at(text: &[&[u8]; 6], i: u64) -> Form
     operands(node_of(nodes, i))
 }
 
+// Is node i a leaf that is accepted as a bit-vector.
+fn is_leaf(text: &[&[u8]; 6], numbers: &[&[u64]; 13], i: u64) -> bool
+    requires { ⌜ Ready (now text) (now numbers) ⌝ }
+    ensures { λ r. ⌜ (r ≡ true → LeafAt (now (text .entry)) (now (numbers .entry)) i) ⌝ }
+{
+    let ws = numbers[WS];
+    if i >= count(ws) {
+        return false;
+    }
+    if shape_at(text, i) > CONST {
+        return false;
+    }
+    let asked = numbers[ASKED];
+    get(asked, i) == 0
+}
+
+// The text of a leaf: a variable's name or a constant.
+fn echo_leaf(text: &[&[u8]; 6], numbers: &[&[u64]; 13], i: u64, p: Place, out: &mut [u8]) -> Place
+    requires { ⌜ Ready (now text) (now numbers) × LeafAt (now text) (now numbers) i ⌝ }
+    ensures { λ r. ⌜ page r (now (out .exit)) ≡ written (page p (now (out .entry))) (headOf (dagAt (now (text .entry)) (now (numbers .entry))) (widthsAt (now (numbers .entry))) (bitsAt (now (text .entry))) i) ⌝ }
+{
+    let s = shape_at(text, i);
+    match s {
+        VAR => head_var(text, numbers, i, p, out),
+        _ => head_const(text, i, p, out),
+    }
+}
+
+// Where a run of leaves ends: the place in the side entries, the entries left, and the place in the buffer.
+pub struct Run {
+    pub next: u64,
+    pub left: u64,
+    pub at: usize,
+    pub need: usize,
+}
+
+// The leaves that n arguments begin with, each after a blank. A call of many leaves is written here in a loop, and each argument that is
+// no leaf costs one level of the stack: it stays low for calls of many arguments.
+fn echo_leaves(
+    text: &[&[u8]; 6],
+    numbers: &[&[u64]; 13],
+    lim: u64,
+    s: u64,
+    n: u64,
+    p: Place,
+    out: &mut [u8],
+) -> Run
+    requires { ⌜ Ready (now text) (now numbers) × Listed lim (slot (now numbers) 0) s n ⌝ }
+    ensures { λ r. ⌜ Leaves lim (textAt (now (text .entry)) (now (numbers .entry))) (slot (now (numbers .entry)) 0) s n (page p (now (out .entry))) r (now (out .exit)) ⌝ }
+{
+    let side = numbers[SIDE];
+    let mut q = Place {
+        at: p.at,
+        need: p.need,
+    };
+    let mut k = s;
+    let mut left = n;
+    while left > 0 {
+        let x = get(side, k);
+        if !is_leaf(text, numbers, x) {
+            return Run {
+                next: k,
+                left: left,
+                at: q.at,
+                need: q.need,
+            };
+        }
+        let r = q.byte(out, 32);
+        q = echo_leaf(text, numbers, x, r, out);
+        k += 1;
+        left -= 1;
+    }
+    Run {
+        next: k,
+        left: left,
+        at: q.at,
+        need: q.need,
+    }
+}
+
 // Node i where a Bool is wanted, or a bit-vector. Ruled out: operands that change places; a call without its arguments; a refusal of a
 // later operand told before that of an earlier one.
 pub fn echo_node(
@@ -386,26 +469,113 @@ pub fn echo_node(
     if e > 0 {
         return Out::Refused(e);
     }
-    let q = head(text, numbers, i, p, out);
+    let q = head(
+        text,
+        numbers,
+        i,
+        Place {
+            at: p.at,
+            need: p.need,
+        },
+        out,
+    );
     let f = operands_at(text, i);
     match f {
         Form::Leaf => Out::Done(q),
-        Form::One(a, b) => echo_one(text, numbers, i, a, b, q, out),
-        Form::Two(a, b, w) => echo_two(text, numbers, i, a, b, w, q, out),
-        Form::Choice(a, b, c) => {
-            let r = q.byte(out, 32);
-            match echo_node(text, numbers, a, true, r, out) {
-                Out::Refused(x) => Out::Refused(x),
-                Out::Done(s) => echo_two(text, numbers, i, b, c, false, s, out),
-            }
-        }
+        Form::One(a, b) => match echo_one(text, numbers, i, a, b, q, out) {
+            Out::Refused(x) => Out::Refused(x),
+            Out::Done(t) => Out::Done(Place {
+                at: t.at,
+                need: t.need,
+            }),
+        },
+        Form::Two(a, b, w) => match echo_two(text, numbers, i, a, b, w, q, out) {
+            Out::Refused(x) => Out::Refused(x),
+            Out::Done(t) => Out::Done(Place {
+                at: t.at,
+                need: t.need,
+            }),
+        },
+        Form::Choice(a, b, c) => match echo_choice(text, numbers, i, a, b, c, q, out) {
+            Out::Refused(x) => Out::Refused(x),
+            Out::Done(t) => Out::Done(Place {
+                at: t.at,
+                need: t.need,
+            }),
+        },
         Form::Chain(j, s, n) => {
             match echo_levels(text, numbers, i, s, n, q, out) {
                 Out::Refused(x) => Out::Refused(x),
-                Out::Done(r) => echo_one(text, numbers, i, j, false, r, out),
+                Out::Done(r) => match echo_one(
+                    text,
+                    numbers,
+                    i,
+                    j,
+                    false,
+                    Place {
+                        at: r.at,
+                        need: r.need,
+                    },
+                    out,
+                ) {
+                    Out::Refused(x) => Out::Refused(x),
+                    Out::Done(t) => Out::Done(Place {
+                        at: t.at,
+                        need: t.need,
+                    }),
+                },
             }
         }
-        Form::Arguments(s, n) => echo_args(text, numbers, i, s, n, q, out),
+        Form::Arguments(s, n) => match echo_args(text, numbers, i, s, n, q, out) {
+            Out::Refused(x) => Out::Refused(x),
+            Out::Done(t) => Out::Done(Place {
+                at: t.at,
+                need: t.need,
+            }),
+        },
+    }
+}
+
+// ` A B C)`: the three operands of an `ite`, and its closing bracket. (It stands by itself to keep the frame of `echo_node` small.)
+fn echo_choice(
+    text: &[&[u8]; 6],
+    numbers: &[&[u64]; 13],
+    lim: u64,
+    a: u64,
+    b: u64,
+    c: u64,
+    p: Place,
+    out: &mut [u8],
+) -> Out
+    requires { ⌜ Ready (now text) (now numbers) × (a < lim) × (b < lim) × (c < lim) ⌝ }
+    ensures { λ r. ⌜ Wrote (choiceText (textAt (now (text .entry)) (now (numbers .entry))) a b c) (page p (now (out .entry))) r (now (out .exit)) ⌝ }
+{
+    let o = Place {
+        at: p.at,
+        need: p.need,
+    };
+    let q = o.byte(out, 32);
+    match echo_node(text, numbers, a, true, q, out) {
+        Out::Refused(e) => Out::Refused(e),
+        Out::Done(r) => match echo_two(
+            text,
+            numbers,
+            lim,
+            b,
+            c,
+            false,
+            Place {
+                at: r.at,
+                need: r.need,
+            },
+            out,
+        ) {
+            Out::Refused(x) => Out::Refused(x),
+            Out::Done(t) => Out::Done(Place {
+                at: t.at,
+                need: t.need,
+            }),
+        },
     }
 }
 
@@ -422,10 +592,20 @@ fn echo_one(
     requires { ⌜ Ready (now text) (now numbers) × (a < lim) ⌝ }
     ensures { λ r. ⌜ Wrote (oneText (textAt (now (text .entry)) (now (numbers .entry))) a «want_bool») (page p (now (out .entry))) r (now (out .exit)) ⌝ }
 {
-    let q = p.byte(out, 32);
+    let o = Place {
+        at: p.at,
+        need: p.need,
+    };
+    let q = o.byte(out, 32);
     match echo_node(text, numbers, a, want_bool, q, out) {
         Out::Refused(e) => Out::Refused(e),
-        Out::Done(r) => Out::Done(r.byte(out, 41)),
+        Out::Done(r) => {
+            let s = Place {
+                at: r.at,
+                need: r.need,
+            };
+            Out::Done(s.byte(out, 41))
+        }
     }
 }
 
@@ -443,14 +623,28 @@ fn echo_two(
     requires { ⌜ Ready (now text) (now numbers) × (a < lim) × (b < lim) ⌝ }
     ensures { λ r. ⌜ Wrote (twoText (textAt (now (text .entry)) (now (numbers .entry))) a b «want_bool») (page p (now (out .entry))) r (now (out .exit)) ⌝ }
 {
-    let q = p.byte(out, 32);
+    let o = Place {
+        at: p.at,
+        need: p.need,
+    };
+    let q = o.byte(out, 32);
     match echo_node(text, numbers, a, want_bool, q, out) {
         Out::Refused(e) => Out::Refused(e),
         Out::Done(r) => {
-            let s = r.byte(out, 32);
+            let o = Place {
+                at: r.at,
+                need: r.need,
+            };
+            let s = o.byte(out, 32);
             match echo_node(text, numbers, b, want_bool, s, out) {
                 Out::Refused(e) => Out::Refused(e),
-                Out::Done(t) => Out::Done(t.byte(out, 41)),
+                Out::Done(t) => {
+                    let u = Place {
+                        at: t.at,
+                        need: t.need,
+                    };
+                    Out::Done(u.byte(out, 41))
+                }
             }
         }
     }
@@ -470,15 +664,47 @@ fn echo_levels(
     ensures { λ r. ⌜ Wrote (levelsText (textAt (now (text .entry)) (now (numbers .entry))) n (drop s (slot (now (numbers .entry)) 0))) (page p (now (out .entry))) r (now (out .exit)) ⌝ }
 {
     if n == 0 {
-        return Out::Done(p);
+        return Out::Done(Place {
+            at: p.at,
+            need: p.need,
+        });
     }
     let side = numbers[SIDE];
     let l = n - 1;
     let x = pair_at(side, s, l, 0);
     let v = pair_at(side, s, l, 1);
-    match echo_two(text, numbers, lim, x, v, false, p, out) {
+    match echo_two(
+        text,
+        numbers,
+        lim,
+        x,
+        v,
+        false,
+        Place {
+            at: p.at,
+            need: p.need,
+        },
+        out,
+    ) {
         Out::Refused(e) => Out::Refused(e),
-        Out::Done(q) => echo_levels(text, numbers, lim, s, l, q, out),
+        Out::Done(q) => match echo_levels(
+            text,
+            numbers,
+            lim,
+            s,
+            l,
+            Place {
+                at: q.at,
+                need: q.need,
+            },
+            out,
+        ) {
+            Out::Refused(x) => Out::Refused(x),
+            Out::Done(t) => Out::Done(Place {
+                at: t.at,
+                need: t.need,
+            }),
+        },
     }
 }
 
@@ -495,14 +721,49 @@ fn echo_args(
     requires { ⌜ Ready (now text) (now numbers) × Listed lim (slot (now numbers) 0) s n ⌝ }
     ensures { λ r. ⌜ Wrote (argsText (textAt (now (text .entry)) (now (numbers .entry))) n (drop s (slot (now (numbers .entry)) 0))) (page p (now (out .entry))) r (now (out .exit)) ⌝ }
 {
-    if n == 0 {
-        return Out::Done(p.byte(out, 41));
+    let run = echo_leaves(
+        text,
+        numbers,
+        lim,
+        s,
+        n,
+        Place {
+            at: p.at,
+            need: p.need,
+        },
+        out,
+    );
+    let u = Place {
+        at: run.at,
+        need: run.need,
+    };
+    let m = run.left;
+    if m == 0 {
+        return Out::Done(u.byte(out, 41));
     }
     let side = numbers[SIDE];
-    let x = get(side, s);
-    let q = p.byte(out, 32);
+    let k = run.next;
+    let x = get(side, k);
+    let q = u.byte(out, 32);
     match echo_node(text, numbers, x, false, q, out) {
         Out::Refused(e) => Out::Refused(e),
-        Out::Done(r) => echo_args(text, numbers, lim, s + 1, n - 1, r, out),
+        Out::Done(r) => match echo_args(
+            text,
+            numbers,
+            lim,
+            k + 1,
+            m - 1,
+            Place {
+                at: r.at,
+                need: r.need,
+            },
+            out,
+        ) {
+            Out::Refused(x) => Out::Refused(x),
+            Out::Done(t) => Out::Done(Place {
+                at: t.at,
+                need: t.need,
+            }),
+        },
     }
 }

@@ -1,0 +1,131 @@
+//! Times the port beside the Rust, on the same problems in one run. The answers are compared before anything is timed.
+mod problem;
+mod shapes;
+use problem::{Answer, Decoded, Problem};
+use std::ffi::{c_int, c_long};
+use std::hint::black_box;
+
+/// The processor time of this thread so far, in seconds: what other programs take in between is not counted. The standard library
+/// has no such clock, but links the C library's.
+fn now() -> f64 {
+    const CLOCK_THREAD_CPUTIME_ID: c_int = 3;
+    unsafe extern "C" {
+        fn clock_gettime(clock: c_int, time: *mut [c_long; 2]) -> c_int;
+    }
+    let mut t = [0; 2];
+    // Safety: on 64-bit Linux a timespec is these two numbers.
+    assert_eq!(unsafe { clock_gettime(CLOCK_THREAD_CPUTIME_ID, &mut t) }, 0);
+    t[0] as f64 + t[1] as f64 * 1e-9
+}
+
+/// The time of one call, from n calls.
+fn seconds(n: usize, f: &mut dyn FnMut()) -> f64 {
+    let t = now();
+    for _ in 0..n {
+        f();
+    }
+    (now() - t) / n as f64
+}
+
+fn at(sorted: &[f64], part: f64) -> f64 {
+    sorted[((sorted.len() - 1) as f64 * part).round() as usize]
+}
+
+fn sorted(mut xs: Vec<f64>) -> Vec<f64> {
+    xs.sort_by(f64::total_cmp);
+    xs
+}
+
+struct Times {
+    rust: f64,
+    port: f64,
+    ratio: [f64; 3],
+}
+
+/// The two in turn, many times. A sample is as many calls as take about half a millisecond; a shape takes about a second.
+fn pairs(rust: &mut dyn FnMut(), port: &mut dyn FnMut()) -> Times {
+    let once = seconds(3, rust).max(seconds(3, port));
+    let calls = ((0.0005 / once) as usize).max(1);
+    let rounds = ((1.0 / (once * calls as f64)) as usize).clamp(7, 501);
+    let (mut r, mut p) = (Vec::new(), Vec::new());
+    for _ in 0..rounds {
+        r.push(seconds(calls, rust));
+        p.push(seconds(calls, port));
+    }
+    let ratios = sorted(p.iter().zip(&r).map(|(p, r)| p / r).collect());
+    Times { rust: at(&sorted(r), 0.5), port: at(&sorted(p), 0.5), ratio: [0.5, 0.1, 0.9].map(|x| at(&ratios, x)) }
+}
+
+fn line(label: &str, length: usize, t: &Times) {
+    let mbs = |s: f64| length as f64 / s / 1e6;
+    println!(
+        "| {label} | {length} | {:.1} | {:.1} | {:.2} | {:.2} to {:.2} | {:.0} | {:.0} |",
+        t.rust * 1e6,
+        t.port * 1e6,
+        t.ratio[0],
+        t.ratio[1],
+        t.ratio[2],
+        mbs(t.rust),
+        mbs(t.port)
+    );
+}
+
+/// A refusal by the port, in a buffer of `room` bytes, which it zeroes.
+fn alone(label: &str, room: usize, p: &Problem, number: u64) {
+    let mut out = vec![1u8; room];
+    assert_eq!(problem::echo(p, &mut out), Answer(number, 0), "{label}");
+    assert!(out.iter().all(|b| *b == 0), "{label}: the output is not zeroed");
+    let mut call = || {
+        black_box(problem::echo(p, &mut out));
+    };
+    let once = seconds(2, &mut call);
+    let calls = ((0.0002 / once) as usize).max(1);
+    let rounds = ((0.5 / (once * calls as f64)) as usize).clamp(5, 501);
+    let ts = sorted((0..rounds).map(|_| 1e6 * seconds(calls, &mut call)).collect());
+    println!("| {label} | {number} | {room} | {:.2} | {:.2} to {:.2} |", at(&ts, 0.5), at(&ts, 0.1), at(&ts, 0.9));
+}
+
+fn main() {
+    let wanted = std::env::args().nth(1).unwrap_or_default();
+    let all: Vec<_> = shapes::all().into_iter().filter(|s| s.0.contains(&wanted)).collect();
+    let mut out = vec![0u8; 48 << 20];
+    println!("| printer | script bytes | Rust us | port us | ratio | 10th to 90th | Rust MB/s | port MB/s |");
+    println!("|---|---|---|---|---|---|---|---|");
+    for (label, p) in &all {
+        let d = Decoded::of(p);
+        let script = d.echo().unwrap_or_else(|e| panic!("{label}: the Rust refuses with {e}"));
+        assert_eq!(problem::echo(p, &mut out), Answer(0, script.len() as u64), "{label}");
+        assert!(out[..script.len()] == script[..], "{label}: the bytes differ");
+        let t = pairs(&mut || drop(black_box(d.echo())), &mut || {
+            black_box(problem::echo(p, &mut out));
+        });
+        line(label, script.len(), &t);
+    }
+    println!();
+    println!("| width pass | record bytes | Rust us | port us | ratio | 10th to 90th | Rust MB/s | port MB/s |");
+    println!("|---|---|---|---|---|---|---|---|");
+    let mut ws = vec![0u64; 2048];
+    for (label, p) in &all {
+        let d = Decoded::of(p);
+        let expected: Vec<u64> = d.widths().unwrap().iter().map(|w| *w as u64).collect();
+        assert_eq!(problem::widths(p, &mut ws), Answer(0, expected.len() as u64), "{label}");
+        assert!(ws[..expected.len()] == expected[..], "{label}: the widths differ");
+        let t = pairs(&mut || drop(black_box(d.widths())), &mut || {
+            black_box(problem::widths(p, &mut ws));
+        });
+        line(label, p.nodes.len(), &t);
+    }
+    if !wanted.is_empty() {
+        return;
+    }
+    println!();
+    println!("| refusal, port alone | number | buffer bytes | us | 10th to 90th |");
+    println!("|---|---|---|---|---|");
+    alone("the longest script", 4096, &shapes::longest(), 10);
+    alone("refused at the end of the walk", 4096, &shapes::refused_last(), 4);
+    alone("refused at the end of the walk", 1 << 20, &shapes::refused_last(), 4);
+    alone("refused at the end of the walk", 32 << 20, &shapes::refused_last(), 4);
+    alone("over a limit", 0, &shapes::over_limit(), 9);
+    alone("over a limit", 4096, &shapes::over_limit(), 9);
+    alone("over a limit", 1 << 20, &shapes::over_limit(), 9);
+}

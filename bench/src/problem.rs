@@ -1,0 +1,282 @@
+//! A problem as it is lent to the port, the same problem as the Rust takes it, and the two calls.
+use kernel::blast_kernel::DagNode as D;
+use kernel::echo_kernel::EchoError;
+use kernel::sliver_kernel::ExtNode;
+
+/// Kinds by number.
+#[allow(dead_code)]
+pub mod kind {
+    pub const VAR: u8 = 0;
+    pub const CONST: u8 = 1;
+    pub const ADD: u8 = 2;
+    pub const ASHR: u8 = 12;
+    pub const ZERO_EXT: u8 = 16;
+    pub const ITE: u8 = 18;
+    pub const EQ: u8 = 19;
+    pub const BV_NOT: u8 = 32;
+    pub const SELECT: u8 = 37;
+    pub const CALL: u8 = 38;
+}
+
+/// The sixteen inputs of the port: records of 17 bytes, bits as bytes, 64-bit numbers.
+#[derive(Clone, Default)]
+pub struct Problem {
+    pub nodes: Vec<u8>,
+    pub bits: Vec<u8>,
+    pub side: Vec<u64>,
+    pub roots: Vec<u64>,
+    pub names: Vec<u8>,
+    pub name_start: Vec<u64>,
+    pub name_len: Vec<u64>,
+    pub var_node: Vec<u64>,
+    pub var_width: Vec<u64>,
+    pub anames: Vec<u8>,
+    pub aname_start: Vec<u64>,
+    pub aname_len: Vec<u64>,
+    pub fnames: Vec<u8>,
+    pub fname_start: Vec<u64>,
+    pub fname_len: Vec<u64>,
+    pub func_width: Vec<u64>,
+}
+
+impl Problem {
+    /// Adds a node and answers its number.
+    pub fn node(&mut self, kind: u8, operands: &[u32]) -> u32 {
+        let at = self.count();
+        self.nodes.push(kind);
+        for k in 0..4 {
+            self.nodes.extend_from_slice(&operands.get(k).copied().unwrap_or(0).to_le_bytes());
+        }
+        at as u32
+    }
+    pub fn count(&self) -> usize {
+        self.nodes.len() / 17
+    }
+    /// How many more nodes fit.
+    pub fn left(&self) -> usize {
+        2048 - self.count()
+    }
+    pub fn var(&mut self, name: &[u8], width: u32) -> u32 {
+        let start = self.names.len() as u64;
+        self.names.extend_from_slice(name);
+        self.var_at(start, name.len() as u64, width)
+    }
+    /// A variable whose name is a part of the arena as it stands.
+    pub fn var_at(&mut self, start: u64, len: u64, width: u32) -> u32 {
+        let i = self.node(kind::VAR, &[width]);
+        self.name_start.push(start);
+        self.name_len.push(len);
+        self.var_node.push(u64::from(i));
+        self.var_width.push(u64::from(width));
+        i
+    }
+    pub fn constant(&mut self, width: u32, seed: u64) -> u32 {
+        let start = self.bits.len() as u32;
+        let mut x = seed | 1;
+        for _ in 0..width {
+            x ^= x << 13;
+            x ^= x >> 7;
+            x ^= x << 17;
+            self.bits.push((x >> 32) as u8 & 1);
+        }
+        self.node(kind::CONST, &[start, width])
+    }
+    pub fn array(&mut self, name: &[u8]) -> u32 {
+        self.aname_start.push(self.anames.len() as u64);
+        self.aname_len.push(name.len() as u64);
+        self.anames.extend_from_slice(name);
+        self.aname_start.len() as u32 - 1
+    }
+    pub fn func(&mut self, name: &[u8], width: u32) -> u32 {
+        self.fname_start.push(self.fnames.len() as u64);
+        self.fname_len.push(name.len() as u64);
+        self.fnames.extend_from_slice(name);
+        self.func_width.push(u64::from(width));
+        self.fname_start.len() as u32 - 1
+    }
+    /// A call whose arguments are new side entries.
+    pub fn call(&mut self, func: u32, width: u32, arguments: &[u32]) -> u32 {
+        let start = self.entries(arguments);
+        self.node(kind::CALL, &[func, width, start, arguments.len() as u32])
+    }
+    /// A select whose stores (index, value, index, value, ..) are new side entries.
+    pub fn select(&mut self, array: u32, index: u32, stores: &[u32]) -> u32 {
+        let start = self.entries(stores);
+        self.node(kind::SELECT, &[array, index, start, stores.len() as u32 / 2])
+    }
+    /// Adds side entries and answers where they start.
+    pub fn entries(&mut self, entries: &[u32]) -> u32 {
+        let start = self.side.len() as u32;
+        self.side.extend(entries.iter().map(|x| u64::from(*x)));
+        start
+    }
+    pub fn root(&mut self, i: u32) {
+        self.roots.push(u64::from(i));
+    }
+    /// The root `(= a b)`.
+    pub fn root_eq(&mut self, a: u32, b: u32) {
+        let e = self.node(kind::EQ, &[a, b]);
+        self.root(e);
+    }
+}
+
+/// The same problem as the Rust takes it: nodes decoded, bits as `bool`, numbers as `usize`. Made before any timing.
+pub struct Decoded {
+    nodes: Vec<ExtNode>,
+    bits: Vec<bool>,
+    numbers: [Vec<usize>; 11],
+    names: [Vec<u8>; 3],
+}
+
+fn core(k: u8, a: usize, b: usize, c: usize) -> D {
+    const TWO: [(u8, fn(usize, usize) -> D); 31] = [
+        (1, D::Const),
+        (2, D::Add),
+        (3, D::Sub),
+        (4, D::Mul),
+        (5, D::Udiv),
+        (6, D::Urem),
+        (7, D::And),
+        (8, D::Or),
+        (9, D::Xor),
+        (10, D::Shl),
+        (11, D::Lshr),
+        (12, D::Ashr),
+        (13, D::Rotr),
+        (15, D::Concat),
+        (16, D::ZeroExt),
+        (17, D::SignExt),
+        (19, D::Eq),
+        (20, D::Ne),
+        (21, D::Ult),
+        (22, D::Ule),
+        (23, D::Ugt),
+        (24, D::Uge),
+        (25, D::Slt),
+        (26, D::Sle),
+        (27, D::Sgt),
+        (28, D::Sge),
+        (30, D::BoolAnd),
+        (31, D::BoolOr),
+        (34, D::Rotl),
+        (35, D::Sdiv),
+        (36, D::Srem),
+    ];
+    match k {
+        0 => D::Var(a),
+        14 => D::Extract(a, b, c),
+        18 => D::Ite(a, b, c),
+        29 => D::Not(a),
+        32 => D::BvNot(a),
+        33 => D::Neg(a),
+        _ => TWO.iter().find(|t| t.0 == k).expect("a kind of the core").1(a, b),
+    }
+}
+
+impl Decoded {
+    pub fn of(p: &Problem) -> Decoded {
+        let nodes = p.nodes.chunks_exact(17).map(|r| {
+            let [a, b, c, d] = [1, 5, 9, 13].map(|at| u32::from_le_bytes(r[at..at + 4].try_into().unwrap()) as usize);
+            match r[0] {
+                37 => ExtNode::Select(a, b, c, d),
+                38 => ExtNode::Call(a, b, c, d),
+                k => ExtNode::Core(core(k, a, b, c)),
+            }
+        });
+        let columns = [
+            &p.side,
+            &p.roots,
+            &p.name_start,
+            &p.name_len,
+            &p.var_node,
+            &p.var_width,
+            &p.aname_start,
+            &p.aname_len,
+            &p.fname_start,
+            &p.fname_len,
+            &p.func_width,
+        ];
+        Decoded {
+            nodes: nodes.collect(),
+            bits: p.bits.iter().map(|b| *b == 1).collect(),
+            numbers: columns.map(|c| c.iter().map(|x| *x as usize).collect()),
+            names: [p.names.clone(), p.anames.clone(), p.fnames.clone()],
+        }
+    }
+    /// The Rust's printer: it allocates the script that it hands back.
+    #[rustfmt::skip]
+    pub fn echo(&self) -> Result<Vec<u8>, u64> {
+        let [side, roots, ns, nl, vn, vw, ans, anl, fns, fnl, fw] = &self.numbers;
+        let [names, anames, fnames] = &self.names;
+        kernel::echo_kernel::echo_ext(
+            &self.nodes, &self.bits, side, roots, names, ns, nl, vn, vw, anames, ans, anl, fnames, fns, fnl, fw,
+        )
+        .map_err(|e| match e {
+            EchoError::Malformed => 1,
+            EchoError::Name => 2,
+            EchoError::Sort => 3,
+            EchoError::Var => 4,
+            EchoError::Rotate => 5,
+            EchoError::Shared => 6,
+            EchoError::Signature => 7,
+        })
+    }
+    /// The Rust's width pass: it allocates the widths that it hands back.
+    pub fn widths(&self) -> Option<Vec<usize>> {
+        kernel::sliver_kernel::ext_wf(&self.nodes, self.bits.len(), &self.numbers[0]).ok()
+    }
+}
+
+/// Number, then length or count.
+#[repr(C)]
+#[derive(Clone, Copy, PartialEq, Eq, Debug)]
+pub struct Answer(pub u64, pub u64);
+
+#[rustfmt::skip]
+mod port {
+    use super::Answer;
+    type B = *const u8;
+    type N = *const u64;
+    type L = usize;
+    unsafe extern "C" {
+        pub fn echo_ext(
+            nodes: B, _: L, bits: B, _: L, side: N, _: L, roots: N, _: L,
+            names: B, _: L, name_start: N, _: L, name_len: N, _: L, var_node: N, _: L, var_width: N, _: L,
+            anames: B, _: L, aname_start: N, _: L, aname_len: N, _: L,
+            fnames: B, _: L, fname_start: N, _: L, fname_len: N, _: L, func_width: N, _: L,
+            out: *mut u8, _: L,
+        ) -> Answer;
+        pub fn ext_wf(nodes: B, _: L, bits: B, _: L, side: N, _: L, out: *mut u64, _: L) -> Answer;
+    }
+}
+
+/// The port's printer: it writes to the lent buffer.
+#[rustfmt::skip]
+pub fn echo(p: &Problem, out: &mut [u8]) -> Answer {
+    // Safety: each pair is a slice's, and none overlaps the buffer, which is lent exclusively.
+    unsafe {
+        port::echo_ext(
+            p.nodes.as_ptr(), p.nodes.len(), p.bits.as_ptr(), p.bits.len(),
+            p.side.as_ptr(), p.side.len(), p.roots.as_ptr(), p.roots.len(),
+            p.names.as_ptr(), p.names.len(), p.name_start.as_ptr(), p.name_start.len(), p.name_len.as_ptr(), p.name_len.len(),
+            p.var_node.as_ptr(), p.var_node.len(), p.var_width.as_ptr(), p.var_width.len(),
+            p.anames.as_ptr(), p.anames.len(), p.aname_start.as_ptr(), p.aname_start.len(),
+            p.aname_len.as_ptr(), p.aname_len.len(),
+            p.fnames.as_ptr(), p.fnames.len(), p.fname_start.as_ptr(), p.fname_start.len(),
+            p.fname_len.as_ptr(), p.fname_len.len(), p.func_width.as_ptr(), p.func_width.len(),
+            out.as_mut_ptr(), out.len(),
+        )
+    }
+}
+
+/// The port's width pass: it writes to the lent slice.
+#[rustfmt::skip]
+pub fn widths(p: &Problem, out: &mut [u64]) -> Answer {
+    // Safety: as above.
+    unsafe {
+        port::ext_wf(
+            p.nodes.as_ptr(), p.nodes.len(), p.bits.as_ptr(), p.bits.len(), p.side.as_ptr(), p.side.len(),
+            out.as_mut_ptr(), out.len(),
+        )
+    }
+}

@@ -1,0 +1,14 @@
+#!/bin/sh
+# Measures the stack of the port beside the Rust's: stack.sh FOLDER, where FOLDER holds the unchanged Rust (kernel.rs and the files
+# that it includes). target/staticlib/libecho_c.a must be there (`rt staticlib echo_c`), or LIBRARY names another. What is built goes
+# to a folder of its own and is removed.
+set -eu
+source=$(cd "$1" && pwd)
+here=$(cd "$(dirname "$0")" && pwd)
+library=${LIBRARY:-$here/../target/staticlib/libecho_c.a}
+room=$(mktemp -d)
+trap 'rm -rf "$room"' EXIT
+cp "$library" "$room/libecho_c.a"
+rustc --edition 2024 --crate-type rlib --crate-name kernel -C opt-level=3 -A warnings -o "$room/libkernel.rlib" "$source/kernel.rs"
+rustc --edition 2024 -C opt-level=3 --extern kernel="$room/libkernel.rlib" -L native="$room" -l static=echo_c -o "$room/stack" "$here/src/stack.rs"
+"$room/stack"
