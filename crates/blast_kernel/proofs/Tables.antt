@@ -1,5 +1,8 @@
 -- The tables of shapes and operand counts, an arm of a match at a time, and past the last arm. Assumes nothing.
-use Prim.Native.Nat.{ℕ}
+use Prim.Native.Nat.{ℕ, zero-le, _≤_, _<_}
+use native.Mathlib.Omega.{arith}
+use lib.Dec.{leb, leb→le}
+use Rattle.lists.specs.Tests.{every-at}
 use mathlib.Core.Path.{_≡_, refl, sym, ap}
 use lib.ListN.{List·getD-eq-default}
 use Rattle.echo_spec.specs.Shapes.{unknown, shapes, shapeOf, operandCount}
@@ -20,3 +23,8 @@ count-at k e = ap (λ (j : ℕ). operandCount (shapeCoded j)) (sym e)
 pub count-past : {code : ℕ} → NoneOf 14 code → 0 ≡ operandCount (shapeCoded code)
 unfolding operandCount
 count-past {code} t = rw (List·getD-eq-default coded unknown (none-of 14 code t)) refl
+
+-- every kind has an operand
+pub has-one : (kind : ℕ) → kind < 39 → 1 ≤ operandCount (shapeOf kind)
+unfolding shapes operandCount
+has-one kind h = leb→le 1 (operandCount (shapeOf kind)) (every-at (λ k. leb 1 (operandCount (shapeOf k))) 0 39 tt kind zero-le (omega arith))

@@ -1,8 +1,8 @@
 -- A loop that tests each element in turn: the whole list passes where what is left of it does.
 use Prim.Native.Nat.{ℕ, _+_, _≤_, _<_}
-use mathlib.Core.Path.{_≡_, refl, _∙_}
+use mathlib.Core.Path.{_≡_, refl, sym, ap, _∙_}
 use mathlib.Core.List.{List}
-use mathlib.Core.Bool.{Bool, true, false}
+use mathlib.Core.Bool.{Bool, true, false, _&&_}
 use native.Mathlib.Numerals.{add-one}
 use lib.ListN.{length, drop, getD, drop-of-length-le}
 use lib.Seq.{drop-cons}
@@ -24,3 +24,36 @@ module _ {A : Type 0} (p : A → Bool) {s : List A} {i : ℕ} (d : A) (h : Left 
 
   pub left-ends : length s ≤ i → every p s ≡ true
   left-ends l = h .rest ∙ rw (drop-of-length-le s l) refl
+
+-- ---------------------------------------------------------------- a loop that looks at every element
+
+-- so far is `ok`, and what is left decides the rest
+pub record Seen {A : Type 0} (p : A → Bool) (s : List A) (ok : Bool) (i : ℕ) : Type 0 where
+  pub rest : (ok && every p (drop i s)) ≡ every p s
+
+pub seen-start : {A : Type 0} (p : A → Bool) (s : List A) → Seen p s true 0
+seen-start p s = record { rest = refl }
+
+and-false : (b : Bool) → (b && false) ≡ false
+and-false true = refl
+and-false false = refl
+
+pub and-true : (b : Bool) → (b && true) ≡ b
+and-true true = refl
+and-true false = refl
+
+module _ {A : Type 0} (p : A → Bool) {s : List A} {ok : Bool} {i : ℕ} (d : A) (h : Seen p s ok i) where
+  pub seen-pass : i < length s → p (getD s i d) ≡ true → Seen p s ok (i + 1)
+  seen-pass l e =
+      let q : every p (drop i s) ≡ every p (drop (i + 1) s) = rw (drop-cons s i d l, e, add-one) refl in
+      record { rest = ap (λ (b : Bool). ok && b) (sym q) ∙ h .rest }
+
+  pub seen-fail : i < length s → p (getD s i d) ≡ false → Seen p s false (i + 1)
+  seen-fail l e =
+      let q : every p (drop i s) ≡ false = rw (drop-cons s i d l, e) refl in
+      record { rest = sym (and-false ok) ∙ ap (λ (b : Bool). ok && b) (sym q) ∙ h .rest }
+
+  pub seen-ends : length s ≤ i → ok ≡ every p s
+  seen-ends l =
+      let q : every p (drop i s) ≡ true = rw (drop-of-length-le s l) refl in
+      sym (and-true ok) ∙ ap (λ (b : Bool). ok && b) (sym q) ∙ h .rest

@@ -2,6 +2,7 @@
 // Under "Ruled out" stand wrong programs that a public function's contract refuses.
 ghost use mathlib.Core.Path.{_≡_};
 ghost use Prim.Native.Nat.{_+_, _*_, _≤_, _<_};
+ghost use mathlib.Core.List.{[], _∷_};
 ghost use lib.ListN.{length};
 ghost use Rattle.lists.specs.Tests.{every};
 ghost use Rattle.echo_spec.specs.Shapes.{shapeOf, operandCount};
@@ -157,18 +158,22 @@ pub fn operand_count(shape: u8) -> usize
     }
 }
 
-// Is every number 0.
-fn all_zero(s: &[u64]) -> bool
-    ensures { λ r. ⌜ r ≡ every unused (now (s .entry)) ⌝ }
+fn two_zero(x: u64, y: u64) -> bool
+    ensures { λ r. ⌜ r ≡ every unused (x ∷ y ∷ []) ⌝ }
 {
-    let mut i = 0;
-    while i < s.len() {
-        if s[i] != 0 {
-            return false;
-        }
-        i += 1;
+    if x != 0 {
+        return false;
     }
-    true
+    y == 0
+}
+
+fn three_zero(x: u64, y: u64, z: u64) -> bool
+    ensures { λ r. ⌜ r ≡ every unused (x ∷ y ∷ z ∷ []) ⌝ }
+{
+    if x != 0 {
+        return false;
+    }
+    two_zero(y, z)
 }
 
 // Is the kind known, and is each operand that it does not have 0. Ruled out: kind 39 as known; a unary node whose third operand
@@ -179,9 +184,13 @@ pub fn node_encoded(n: Node) -> bool
     if n.kind >= 39 {
         return false;
     }
-    let operands = [n.a, n.b, n.c, n.d];
     let count = operand_count(shape(n.kind));
-    all_zero(&operands[count..])
+    match count {
+        1 => three_zero(n.b, n.c, n.d),
+        2 => two_zero(n.c, n.d),
+        3 => n.d == 0,
+        _ => true,
+    }
 }
 
 // Is every record encoded.
@@ -199,18 +208,19 @@ fn nodes_encoded(nodes: &[u8]) -> bool
     true
 }
 
-// Is every byte of the bits 0 or 1.
+// Is every byte of the bits 0 or 1. (All are looked at: a loop that is left midway is not made into one over many bytes at a time.)
 fn bits_encoded(bits: &[u8]) -> bool
     ensures { λ r. ⌜ r ≡ every bit (now (bits .entry)) ⌝ }
 {
+    let mut ok = true;
     let mut i = 0;
     while i < bits.len() {
         if bits[i] > 1 {
-            return false;
+            ok = false;
         }
         i += 1;
     }
-    true
+    ok
 }
 
 // Refusal 8 is where this is false. Ruled out: bytes left over after the last record; a bit of 2 past those that a node uses.

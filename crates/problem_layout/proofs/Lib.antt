@@ -1,0 +1,5 @@
+pub mod Tables
+pub mod Steps
+pub mod Pieces
+pub mod Texts
+pub mod Saying

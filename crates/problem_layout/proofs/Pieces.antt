@@ -1,0 +1,104 @@
+-- Texts in one array, and where each ends: a computed test says that each piece is the text wanted. Assumes nothing.
+use Prim.Native.Nat.{ℕ, suc, _+_, _-_, _≤_, _<_}
+use mathlib.Core.Path.{_≡_, refl, ap, sym, _∙_}
+use mathlib.Core.Bool.{Bool, _&&_}
+use mathlib.Core.List.{List, [], _∷_, _++_}
+use native.Mathlib.Numerals.{add-one}
+use native.Mathlib.Omega.{arith}
+use lib.Dec.{T, leb, leb→le}
+use lib.ListN.{length, take, drop, getD}
+use Rattle.lists.specs.Bytes.{bytes}
+use Rattle.lists.specs.Tests.{same, same→eq, every-at, and-0, and-1}
+use Rattle.echo_kernel.specs.declared.EchoError.{EchoError}
+use Rattle.echo_kernel.specs.declared.EchoError.the-variants.{Malformed, Name, Sort, Var, Rotate, Shared, Signature, Encoding, Limit, Room}
+use Rattle.echo_kernel.specs.Outcomes.{errorNumber}
+use Rattle.problem_layout.specs.Layout.{inputs, inputAt}
+use Rattle.problem_layout.specs.Lines.{refusedLine}
+use Rattle.problem_layout.specs.Telling.{errorOf}
+
+-- ---------------------------------------------------------------- one law for both tables
+
+abbrev ordered : List ℕ → ℕ → Bool
+ordered ends k = leb (getD ends k 0) (getD ends (suc k) 0)
+
+abbrev inside : List ℕ → List ℕ → ℕ → Bool
+inside text ends k = leb (getD ends (suc k) 0) (length text)
+
+abbrev piece : List ℕ → List ℕ → ℕ → List ℕ
+piece text ends k = take (getD ends (suc k) 0 - getD ends k 0) (drop (getD ends k 0) text)
+
+abbrev pub pieces : List ℕ → List ℕ → (ℕ → List ℕ) → ℕ → Bool
+pieces text ends wanted k = ordered ends k && (inside text ends k && same (piece text ends k) (wanted k))
+
+pub record Piece (text ends : List ℕ) (k : ℕ) (wanted : List ℕ) : Type 0 where
+  pub starts : getD ends k 0 ≤ getD ends (k + 1) 0
+  pub stops : getD ends (k + 1) 0 ≤ length text
+  pub is : take (getD ends (k + 1) 0 - getD ends k 0) (drop (getD ends k 0) text) ≡ wanted
+
+piece-of : (text ends : List ℕ) (wanted : ℕ → List ℕ) (k : ℕ) → T (pieces text ends wanted k) → Piece text ends k (wanted k)
+piece-of text ends wanted k t =
+    let a : T (ordered ends k) = and-0 (ordered ends k) (inside text ends k && same (piece text ends k) (wanted k)) t in
+    let r : T (inside text ends k && same (piece text ends k) (wanted k)) = and-1 (ordered ends k) (inside text ends k && same (piece text ends k) (wanted k)) t in
+    let b : T (inside text ends k) = and-0 (inside text ends k) (same (piece text ends k) (wanted k)) r in
+    let c : T (same (piece text ends k) (wanted k)) = and-1 (inside text ends k) (same (piece text ends k) (wanted k)) r in
+    record {
+      starts = rw add-one (leb→le (getD ends k 0) (getD ends (suc k) 0) a);
+      stops = rw add-one (leb→le (getD ends (suc k) 0) (length text) b);
+      is = rw add-one (same→eq (piece text ends k) (wanted k) c);
+    }
+
+-- ---------------------------------------------------------------- the refusals
+
+abbrev pub refusals : List ℕ
+refusals =
+    refusedLine Malformed
+    ++ (refusedLine Name
+    ++ (refusedLine Sort
+    ++ (refusedLine Var
+    ++ (refusedLine Rotate ++ (refusedLine Shared ++ (refusedLine Signature ++ (refusedLine Encoding ++ (refusedLine Limit ++ refusedLine Room))))))))
+
+abbrev pub refusal-ends : List ℕ
+refusal-ends = 0 ∷ 132 ∷ 270 ∷ 363 ∷ 447 ∷ 530 ∷ 589 ∷ 703 ∷ 831 ∷ 876 ∷ 977 ∷ []
+
+error-at : (e : EchoError) → errorOf (errorNumber e) ≡ e
+error-at Malformed = refl
+error-at Name = refl
+error-at Sort = refl
+error-at Var = refl
+error-at Rotate = refl
+error-at Shared = refl
+error-at Signature = refl
+error-at Encoding = refl
+error-at Limit = refl
+error-at Room = refl
+
+refusal-tested : (k : ℕ) → k < 10 → T (pieces refusals refusal-ends (λ j. refusedLine (errorOf (suc j))) k)
+unfolding bytes same refusedLine
+refusal-tested k h = every-at (pieces refusals refusal-ends (λ j. refusedLine (errorOf (suc j)))) 0 10 tt k (omega arith) h
+
+pub refusal-piece : {k : ℕ} (e : EchoError) → (k + 1 ≡ errorNumber e) × (k < 10) → Piece refusals refusal-ends k (refusedLine e)
+refusal-piece {k} e h =
+    let q : errorOf (suc k) ≡ e = ap errorOf (sym (add-one k) ∙ h .0) ∙ error-at e in
+    rw q at (piece-of refusals refusal-ends (λ j. refusedLine (errorOf (suc j))) k (refusal-tested k (h .1)))
+
+-- ---------------------------------------------------------------- the names
+
+abbrev joined : List (List ℕ) → List ℕ
+joined [] = []
+joined (x ∷ xs) = x ++ joined xs
+
+abbrev pub names : List ℕ
+names =
+    joined
+    (inputAt 0 .name ∷ inputAt 1 .name ∷ inputAt 2 .name ∷ inputAt 3 .name ∷ inputAt 4 .name ∷ inputAt 5 .name ∷ inputAt 6 .name ∷ inputAt 7 .name
+    ∷ inputAt 8 .name ∷ inputAt 9 .name ∷ inputAt 10 .name ∷ inputAt 11 .name ∷ inputAt 12 .name ∷ inputAt 13 .name ∷ inputAt 14 .name ∷ inputAt 15 .name ∷ [])
+
+abbrev pub name-ends : List ℕ
+name-ends = 0 ∷ 5 ∷ 9 ∷ 13 ∷ 18 ∷ 23 ∷ 33 ∷ 41 ∷ 49 ∷ 58 ∷ 64 ∷ 75 ∷ 84 ∷ 90 ∷ 101 ∷ 110 ∷ 120 ∷ []
+
+name-tested : (k : ℕ) → k < 16 → T (pieces names name-ends (λ j. inputAt j .name) k)
+unfolding bytes same inputs inputAt
+name-tested k h = every-at (pieces names name-ends (λ j. inputAt j .name)) 0 16 tt k (omega arith) h
+
+pub name-piece : (k : ℕ) → k < 16 → Piece names name-ends k (inputAt k .name)
+name-piece k h = piece-of names name-ends (λ j. inputAt j .name) k (name-tested k h)

@@ -1,0 +1,99 @@
+-- A problem in bytes: the sixteen inputs of `echo_ext` in its order, each a count of 8 bytes and then its elements. Nothing follows.
+use Prim.Native.Nat.{ℕ, zero, suc, _+_, _*_}
+use Prim.Native.String.{String}
+use mathlib.Core.List.{List, [], _∷_}
+use mathlib.Core.Bool.{Bool, true, false}
+use lib.Dec.{leb}
+use lib.ListN.{length, take, drop, getD}
+use Rattle.lists.specs.Build.{tabulate}
+use Rattle.lists.specs.Bytes.{bytes}
+use Rattle.echo_spec.specs.Input.{Problem, word32}
+use Rattle.echo_checks.specs.Given.{problemOf}
+
+-- ---------------------------------------------------------------- the inputs
+
+-- what is fixed of an input: its name, the bytes of one element, and the largest count
+pub record Input : Type 0 where
+  pub name : List ℕ
+  pub size : ℕ
+  pub limit : ℕ
+
+abbrev pub input : String → ℕ → ℕ → Input
+input name size limit = record { name = bytes name; size = size; limit = limit }
+
+unfoldable pub inputs : List Input
+inputs =
+    input "nodes" 1 34816
+    ∷ input "bits" 1 131072
+    ∷ input "side" 8 8192
+    ∷ input "roots" 8 256
+    ∷ input "names" 1 16384
+    ∷ input "name_start" 8 512
+    ∷ input "name_len" 8 512
+    ∷ input "var_node" 8 512
+    ∷ input "var_width" 8 512
+    ∷ input "anames" 1 16384
+    ∷ input "aname_start" 8 512
+    ∷ input "aname_len" 8 512
+    ∷ input "fnames" 1 16384
+    ∷ input "fname_start" 8 512
+    ∷ input "fname_len" 8 512
+    ∷ input "func_width" 8 512
+    ∷ []
+
+-- input k, counted from 0
+unfoldable pub inputAt : ℕ → Input
+inputAt k = getD inputs k (input "" 1 0)
+
+-- ---------------------------------------------------------------- where they stand
+
+-- 64 bits from place i on, least significant byte first
+unfoldable pub word64 : List ℕ → ℕ → ℕ
+word64 s i = word32 s i + 4294967296 * word32 s (i + 4)
+
+-- where input k begins, with its count: behind the elements of the one before it
+unfoldable pub placeOf : List ℕ → ℕ → ℕ
+placeOf s zero = 0
+placeOf s (suc k) = placeOf s k + 8 + inputAt k .size * word64 s (placeOf s k)
+
+abbrev pub countOf : List ℕ → ℕ → ℕ
+countOf s k = word64 s (placeOf s k)
+
+-- the elements of input k, where they are bytes and where they are numbers
+unfoldable pub bytesOf : List ℕ → ℕ → List ℕ
+bytesOf s k = take (countOf s k) (drop (placeOf s k + 8) s)
+
+unfoldable pub numbersOf : List ℕ → ℕ → List ℕ
+numbersOf s k = tabulate (countOf s k) (λ i. word64 s (placeOf s k + 8 + 8 * i))
+
+unfoldable pub problemIn : List ℕ → Problem
+problemIn s =
+    problemOf (bytesOf s 0) (bytesOf s 1) (numbersOf s 2) (numbersOf s 3)
+    (bytesOf s 4) (numbersOf s 5) (numbersOf s 6) (numbersOf s 7) (numbersOf s 8)
+    (bytesOf s 9) (numbersOf s 10) (numbersOf s 11)
+    (bytesOf s 12) (numbersOf s 13) (numbersOf s 14) (numbersOf s 15)
+
+-- ---------------------------------------------------------------- the layout
+
+-- a problem, or the first fault in reading order: with it, but for bytes left over, goes the input
+pub data Layout : Type 0 where
+  early : ℕ → Layout
+  tooLarge : ℕ → Layout
+  leftOver : Layout
+  given : Problem → Layout
+
+abbrev pub unless : Bool → Layout → Layout → Layout
+unless true fault rest = rest
+unless false fault rest = fault
+
+-- n inputs from k on, where those before k are there: the count is there, it is within the limit, the elements are there
+unfoldable pub inputsFrom : List ℕ → ℕ → ℕ → Layout
+inputsFrom s k zero = unless (leb (length s) (placeOf s k)) leftOver (given (problemIn s))
+inputsFrom s k (suc n) =
+    unless (leb (placeOf s k + 8) (length s)) (early k)
+    (unless (leb (countOf s k) (inputAt k .limit)) (tooLarge k)
+    (unless (leb (placeOf s (suc k)) (length s)) (early k)
+    (inputsFrom s (suc k) n)))
+
+unfoldable pub layout : List ℕ → Layout
+layout s = inputsFrom s 0 16
