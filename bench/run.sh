@@ -7,6 +7,10 @@ source=$(cd "$1" && pwd)
 shift
 here=$(cd "$(dirname "$0")" && pwd)
 library=${LIBRARY:-$here/../target/staticlib/libecho_c.a}
+if [ ! -f "$library" ]; then
+    echo "$library is not there; make it with: rt staticlib echo_c" >&2
+    exit 2
+fi
 room=$(mktemp -d)
 trap 'rm -rf "$room"' EXIT
 cp "$library" "$room/libecho_c.a"

@@ -6,6 +6,10 @@ set -eu
 source=$(cd "$1" && pwd)
 here=$(cd "$(dirname "$0")" && pwd)
 library=${LIBRARY:-$here/../target/staticlib/libecho_c.a}
+if [ ! -f "$library" ]; then
+    echo "$library is not there; make it with: rt staticlib echo_c" >&2
+    exit 2
+fi
 room=$(mktemp -d)
 trap 'rm -rf "$room"' EXIT
 cp "$library" "$room/libecho_c.a"

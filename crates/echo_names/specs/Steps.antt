@@ -6,7 +6,6 @@ use mathlib.Core.Bool.{Bool, true, false, _||_}
 use native.Mathlib.Numerals.{add-one}
 use lib.ListN.{length, getD, take, drop, drop-of-length-le}
 use lib.Seq.{drop-cons, take-suc}
-use borrow.Author.Tests.{eq-eqb, ne-eqb}
 use Rattle.lists.specs.Tests.{same, inList, every, same→eq, true→T}
 
 pub drop-step : {A : Type 0} (d : A) (xs : List A) (i : ℕ) → i < length xs → drop i xs ≡ getD xs i d ∷ drop (i + 1) xs
@@ -28,19 +27,6 @@ module _ {A : Type 0} (p : A → Bool) (d : A) (xs : List A) (i : ℕ) (whole : 
   every-end h = rw (drop-of-length-le xs h) at e
 
 -- ---------------------------------------------------------------- same
-
-module _ (xs ys : List ℕ) (i : ℕ) (whole : Bool) (e : same (drop i xs) (drop i ys) ≡ whole) where
-  pub same-pass : i < length xs → i < length ys → getD xs i 0 ≡ getD ys i 0 → same (drop (i + 1) xs) (drop (i + 1) ys) ≡ whole
-  unfolding same
-  same-pass h k q = rw (eq-eqb (getD xs i 0) (getD ys i 0) q) at (rw (drop-step 0 xs i h, drop-step 0 ys i k) at e)
-
-  pub same-fail : i < length xs → i < length ys → (getD xs i 0 ≡ getD ys i 0 → ⊥) → false ≡ whole
-  unfolding same
-  same-fail h k q = rw (ne-eqb (getD xs i 0) (getD ys i 0) q) at (rw (drop-step 0 xs i h, drop-step 0 ys i k) at e)
-
-  pub same-end : length xs ≤ i → length ys ≤ i → true ≡ whole
-  unfolding same
-  same-end h k = rw (drop-of-length-le xs h, drop-of-length-le ys k) at e
 
 -- lists that differ are not the same
 pub same-not : (xs ys : List ℕ) → (xs ≡ ys → ⊥) → same xs ys ≡ false

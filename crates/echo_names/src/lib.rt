@@ -3,12 +3,13 @@
 ghost use mathlib.Core.Path.{_≡_};
 ghost use mathlib.Core.List.{_++_};
 ghost use mathlib.Core.Bool.{false};
-ghost use Prim.Native.Nat.{_≤_, _<_};
+ghost use Prim.Native.Nat.{_+_, _≤_, _<_};
 ghost use lib.ListN.{length, take};
 ghost use Rattle.lists.specs.Tests.{same, inList, every};
 ghost use Rattle.echo_spec.specs.Input.{part as «part-of», namesOf};
 ghost use Rattle.echo_spec.specs.Names.{byteOk, firstOk, reserved, table-ok};
 ghost use Rattle.echo_names.specs.Groups.{total, inTable};
+ghost use Rattle.echo_names.specs.Compared.{Compared};
 ghost use Rattle.echo_names.specs.Tables.{Columns, entryAt};
 
 // ---------------------------------------------------------------- parts of an arena
@@ -30,16 +31,36 @@ pub fn part<'a>(arena: &'a [u8], start: u64, len: u64) -> &'a [u8]
     &arena[s..s + l]
 }
 
-// Can the two be the same: their last bytes are, or the first has none. (Most names that differ do so at the end.)
-fn last_alike(a: &[u8], b: &[u8]) -> bool
-    requires { ⌜ length (now a) ≡ length (now b) ⌝ }
-    ensures { λ r. ⌜ (r ≡ false → now (a .entry) ≡ now (b .entry) → ⊥) ⌝ }
+// Are the sixteen bytes from place i on the same? (All are looked at: a loop that is not left midway is done at once.)
+fn same_block(a: &[u8], b: &[u8], i: usize) -> bool
+    requires { ⌜ (i + 16 ≤ length (now a)) × (i + 16 ≤ length (now b)) ⌝ }
+    ensures { λ r. ⌜ Compared (now (a .entry)) (now (b .entry)) i (i + 16) r ⌝ }
+{
+    let mut ok = true;
+    let mut k = 0;
+    while k < 16 {
+        if a[i + k] != b[i + k] {
+            ok = false;
+        }
+        k += 1;
+    }
+    ok
+}
+
+// Are all bytes from place i on the same?
+fn same_rest(a: &[u8], b: &[u8], i: usize) -> bool
+    requires { ⌜ (length (now a) ≡ length (now b)) × (i ≤ length (now a)) ⌝ }
+    ensures { λ r. ⌜ Compared (now (a .entry)) (now (b .entry)) i (length (now (a .entry))) r ⌝ }
 {
     let n = a.len();
-    if n == 0 {
-        return true;
+    let mut k = i;
+    while k < n {
+        if a[k] != b[k] {
+            return false;
+        }
+        k += 1;
     }
-    a[n - 1] == b[n - 1]
+    true
 }
 
 // Are the two the same bytes?
@@ -51,17 +72,14 @@ pub fn same_bytes(a: &[u8], b: &[u8]) -> bool
     if n != b.len() {
         return false;
     }
-    if !last_alike(a, b) {
-        return false;
-    }
     let mut i = 0;
-    while i < n {
-        if a[i] != b[i] {
+    while n - i >= 16 {
+        if !same_block(a, b, i) {
             return false;
         }
-        i += 1;
+        i += 16;
     }
-    true
+    same_rest(a, b, i)
 }
 
 // ---------------------------------------------------------------- bytes of a name
@@ -199,6 +217,31 @@ pub fn is_reserved(name: &[u8]) -> bool
 
 // ---------------------------------------------------------------- name tables
 
+// Can the two be the same: their last bytes are, or the first has none. (Most names that differ do so at the end.)
+fn last_alike(a: &[u8], b: &[u8]) -> bool
+    requires { ⌜ length (now a) ≡ length (now b) ⌝ }
+    ensures { λ r. ⌜ (r ≡ false → now (a .entry) ≡ now (b .entry) → ⊥) ⌝ }
+{
+    let n = a.len();
+    if n == 0 {
+        return true;
+    }
+    a[n - 1] == b[n - 1]
+}
+
+// Are two names the same? What tells most names apart is looked at first, and by itself: most comparisons end there.
+fn same_name(a: &[u8], b: &[u8]) -> bool
+    ensures { λ r. ⌜ r ≡ same (now (a .entry)) (now (b .entry)) ⌝ }
+{
+    if a.len() != b.len() {
+        return false;
+    }
+    if !last_alike(a, b) {
+        return false;
+    }
+    same_bytes(a, b)
+}
+
 // Is the name one of the first `upto` names of the table?
 fn table_has(arena: &[u8], starts: &[u64], lens: &[u64], upto: usize, name: &[u8]) -> bool
     requires { ⌜ (length (now starts) ≡ length (now lens)) × (upto ≤ length (now starts)) ⌝ }
@@ -206,7 +249,7 @@ fn table_has(arena: &[u8], starts: &[u64], lens: &[u64], upto: usize, name: &[u8
 {
     let mut j = 0;
     while j < upto {
-        if same_bytes(name, part(arena, starts[j], lens[j])) {
+        if same_name(name, part(arena, starts[j], lens[j])) {
             return true;
         }
         j += 1;

@@ -16,7 +16,7 @@ abbrev μ-loop : tie.MeasureT-loop
 μ-loop text numbers roots out₀ q₀ k₀ out q k = length roots - k
 
 loop-holds : tie.Need-loop-holds Inv-loop μ-loop
-loop-holds c = no-roots _ _ _ (omega arith) (c .before .before .pre .1)
+loop-holds c = no-roots _ _ _ (omega arith) (search needs)
 
 root-at-requires : tie.Need-root-at-requires Inv-loop μ-loop
 root-at-requires c κs = omega (arith, c .loop-test .taken)
@@ -31,7 +31,7 @@ part-echo-root-end : tie.Need-part-echo-root-end Inv-loop μ-loop
 part-echo-root-end c = omega (arith, c .before .before .loop .inv .inside)
 
 echo-root-requires : tie.Need-echo-root-requires Inv-loop μ-loop
-echo-root-requires c κs = c .before .before .before .before .before .before .pre .0
+echo-root-requires c κs = search needs
 
 enum-known-e : tie.Need-enum-known-e Inv-loop μ-loop
 enum-known-e c = search needs
@@ -46,7 +46,7 @@ enum-known-r : tie.Need-enum-known-r Inv-loop μ-loop
 enum-known-r c = search needs
 
 place-after-requires : tie.Need-place-after-requires Inv-loop μ-loop
-place-after-requires c κs = omega (arith, roots-size (c .before .before .before .before .before .before .before .before .before .loop .inv), c .before .before .before .before .before .before .before .before .before .before .before .before .good, root-inside (c .before .before .before .before .before .before .before .before .before .loop .inv) (c .before .before .before .before .before .before .before .before .loop-test .taken) (c .before .before .before .before .before .before .before .root-at .ensures) (c .before .before .before .before .before .echo-root .ensures) (c .before .r .given .1))
+place-after-requires c κs = omega (arith, roots-size (c .before .before .before .before .before .before .before .before .before .loop .inv), root-inside (c .before .before .before .before .before .before .before .before .before .loop .inv) (c .before .before .before .before .before .before .before .before .loop-test .taken) (c .before .before .before .before .before .before .before .root-at .ensures) (c .before .before .before .before .before .echo-root .ensures) (c .before .r .given .1))
 
 add-k : tie.Need-add-k Inv-loop μ-loop
 add-k c = omega arith

@@ -34,17 +34,17 @@ shared-slice-read-part-2 c = search needs
 part-requires : tie.Need-part-requires Inv-loop μ-loop
 part-requires c κs = search needs
 
-same-bytes-requires : tie.Need-same-bytes-requires Inv-loop μ-loop
-same-bytes-requires c κs = search needs
+same-name-requires : tie.Need-same-name-requires Inv-loop μ-loop
+same-name-requires c κs = search needs
 
 returns : tie.Need-returns Inv-loop μ-loop
 returns c =
     let if1 = c .if1 in
-    let same-bytes = c .before .same-bytes in
+    let same-name = c .before .same-name in
     let part = c .before .before .part in
     let loop = c .before .before .before .before .before .before .loop in
     let start = c .before .before .before .before .before .before .before .before .before .before .before in
-    has-found _ _ _ _ _ _ (start .pre .1) (loop .inv .1) (omega arith) (part .ensures) (same-bytes .ensures) (if1 .taken)
+    has-found _ _ _ _ _ _ (start .pre .1) (loop .inv .1) (omega arith) (part .ensures) (same-name .ensures) (if1 .taken)
 
 add-j : tie.Need-add-j Inv-loop μ-loop
 add-j c = search needs
@@ -55,11 +55,11 @@ loop-less c = search needs
 loop-again : tie.Need-loop-again Inv-loop μ-loop
 loop-again c =
     let if1 = c .if1 in
-    let same-bytes = c .before .same-bytes in
+    let same-name = c .before .same-name in
     let part = c .before .before .part in
     let loop = c .before .before .before .before .before .before .loop in
     let start = c .before .before .before .before .before .before .before .before .before .before .before in
-    (omega arith, has-next _ _ _ _ _ _ (start .pre .1) (loop .inv .1) (omega arith) (part .ensures) (same-bytes .ensures) (if1 .left))
+    (omega arith, has-next _ _ _ _ _ _ (start .pre .1) (loop .inv .1) (omega arith) (part .ensures) (same-name .ensures) (if1 .left))
 
 returns-2 : tie.Need-returns-2 Inv-loop μ-loop
 returns-2 c =
@@ -79,7 +79,7 @@ table-has-spec =
     mul-part-2
     shared-slice-read-part-2
     part-requires
-    same-bytes-requires
+    same-name-requires
     returns
     add-j
     loop-less
