@@ -25,10 +25,10 @@ fn wide(x: u8) -> u64
     x as u64
 }
 
-// 32 bits from place i on, least significant byte first.
-fn word32(s: &[u8], i: usize) -> u64
+// 32 bits from place i on, least significant byte first. Ruled out: the most significant byte first; the byte after place i as the lowest.
+pub fn word32(s: &[u8], i: usize) -> u64
     requires { ⌜ i + 4 ≤ length (now s) ⌝ }
-    ensures { λ r. ⌜ r ≡ input.word32 (now (s .entry)) i ⌝ }
+    ensures { λ r. ⌜ (r ≡ input.word32 (now (s .entry)) i) × (r < 4294967296) ⌝ }
 {
     wide(s[i]) + 256 * wide(s[i + 1]) + 65536 * wide(s[i + 2]) + 16777216 * wide(s[i + 3])
 }

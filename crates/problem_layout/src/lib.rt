@@ -6,7 +6,6 @@ use echo_kernel::EchoError;
 ghost use mathlib.Core.Path.{_≡_};
 ghost use Prim.Native.Nat.{_+_, _*_, _≤_, _<_};
 ghost use lib.ListN.{length};
-ghost use Rattle.echo_spec.specs.Input as input;
 ghost use Rattle.echo_spec.specs.Answers.{echo-ext-answer};
 ghost use Rattle.echo_kernel.specs.Outcomes.{answered, errorNumber};
 ghost use Rattle.echo_bytes.specs.Page.{page, written};
@@ -17,26 +16,12 @@ ghost use Rattle.problem_layout.specs.Telling.{Answers, Known, Shown, Te
 
 // ---------------------------------------------------------------- numbers
 
-fn wide(x: u8) -> u64
-    ensures { λ r. ⌜ (r ≡ x) × (r < 256) ⌝ }
-{
-    x as u64
-}
-
-// 32 bits from place i on, least significant byte first.
-fn word32(s: &[u8], i: usize) -> u64
-    requires { ⌜ i + 4 ≤ length (now s) ⌝ }
-    ensures { λ r. ⌜ (r ≡ input.word32 (now (s .entry)) i) × (r < 4294967296) ⌝ }
-{
-    wide(s[i]) + 256 * wide(s[i + 1]) + 65536 * wide(s[i + 2]) + 16777216 * wide(s[i + 3])
-}
-
-// 64 bits likewise.
+// 64 bits from place i on, least significant byte first.
 fn word64(s: &[u8], i: usize) -> u64
     requires { ⌜ i + 8 ≤ length (now s) ⌝ }
     ensures { λ r. ⌜ r ≡ layout.word64 (now (s .entry)) i ⌝ }
 {
-    word32(s, i) + 4294967296 * word32(s, i + 4)
+    blast_kernel::word32(s, i) + 4294967296 * blast_kernel::word32(s, i + 4)
 }
 
 // ---------------------------------------------------------------- the inputs

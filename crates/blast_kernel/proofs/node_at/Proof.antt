@@ -37,7 +37,7 @@ word32-requires-4 c κs = search needs
 returns : tie.Need-returns
 unfolding nodeAt
 returns c =
-    simp (c .before .before .before .word32 .ensures, c .before .before .word322 .ensures, c .before .word323 .ensures, c .word324 .ensures)
+    simp (c .before .before .before .word32 .ensures .0, c .before .before .word322 .ensures .0, c .before .word323 .ensures .0, c .word324 .ensures .0)
 
 pub node-at-spec : {M : Type 1} → statement M
 node-at-spec =

@@ -58,7 +58,7 @@ add-result-3 c = search needs
 
 returns : tie.Need-returns
 unfolding input.word32
-returns c = omega arith
+returns c = (omega arith, omega arith)
 
 pub word32-spec : {M : Type 1} → statement M
 word32-spec =
