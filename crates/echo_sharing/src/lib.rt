@@ -194,8 +194,8 @@ fn no_shared(uses: &[u8], nodes: &[u8]) -> bool
 }
 
 // Is every operator node used once at most, over all nodes, side entries and roots?
-// Ruled out: Eq(a,a) counted as one use; roots, a call's side entries or stored values left out; a constant used twice refused; a second use
-// that is not counted.
+// Ruled out: Eq(a,a) counted as one use; roots, a call's side entries, stored values or a rotation's amount left out; a constant used
+// twice refused; a second use that is not counted.
 pub fn unshared(nodes: &[u8], side: &[u64], roots: &[u64]) -> bool
     requires { ⌜ length (now nodes) ≤ 34816 ⌝ }
     ensures { λ r. ⌜ r ≡ «unshared-of» (nodesOf (now (nodes .entry))) (now (side .entry)) (now (roots .entry)) ⌝ }

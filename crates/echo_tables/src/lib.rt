@@ -9,7 +9,7 @@ use blast_kernel::node_at;
 use blast_kernel::node_count;
 use blast_kernel::shape;
 ghost use mathlib.Core.Path.{_≡_};
-ghost use Prim.Native.Nat.{ℕ, _≤_, _<_, _%_};
+ghost use Prim.Native.Nat.{ℕ, _≤_, _<_, _%_, _+_, _*_};
 ghost use lib.ListN.{length, getD};
 ghost use Rattle.lists.specs.Tests.{same};
 ghost use Rattle.echo_spec.specs.Input.{Dag, nodesOf, no-node};
@@ -207,6 +207,14 @@ fn wide(x: u8) -> u64
     x as u64
 }
 
+// A number with one bit more at its end, modulo w.
+fn doubled(k: u64, b: u64, w: u64) -> u64
+    requires { ⌜ (k < 65536) × (b < 256) × (0 < w) ⌝ }
+    ensures { λ r. ⌜ r ≡ (2 * k + b) % w ⌝ }
+{
+    (2 * k + b) % w
+}
+
 // The number that the bits stand for, the lowest first, modulo w: from the highest bit down, so that one number is kept and it stays
 // below w. Ruled out: the number not reduced; the highest bit taken for the first.
 pub fn rot_amount(bits: &[u8], w: u64) -> u64
@@ -217,7 +225,7 @@ pub fn rot_amount(bits: &[u8], w: u64) -> u64
     let mut j = bits.len();
     while j > 0 {
         j -= 1;
-        k = (2 * k + wide(bits[j])) % w;
+        k = doubled(k, wide(bits[j]), w);
     }
     k
 }

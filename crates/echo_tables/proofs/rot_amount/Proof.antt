@@ -24,32 +24,26 @@ loop-holds c =
 sub-j : tie.Need-sub-j Inv-loop μ-loop
 sub-j c = search needs
 
-mul-k : tie.Need-mul-k Inv-loop μ-loop
-mul-k c = search needs
-
 shared-slice-read-wide : tie.Need-shared-slice-read-wide Inv-loop μ-loop
 shared-slice-read-wide c = search needs
 
 wide-requires : tie.Need-wide-requires Inv-loop μ-loop
 wide-requires c κs = search needs
 
-add-k : tie.Need-add-k Inv-loop μ-loop
-add-k c = search needs
-
-rem-k : tie.Need-rem-k Inv-loop μ-loop
-rem-k c = search needs
+doubled-requires : tie.Need-doubled-requires Inv-loop μ-loop
+doubled-requires c κs = (omega arith, c .wide .ensures .1, omega arith)
 
 loop-less : tie.Need-loop-less Inv-loop μ-loop
 loop-less c = search needs
 
 loop-again : tie.Need-loop-again Inv-loop μ-loop
 loop-again c =
-    let loop-test = c .before .before .loop-test in
-    let loop = c .before .before .before .loop in
-    let args = c .before .before .before .before .before .args in (
+    let loop-test = c .before .before .before .loop-test in
+    let loop = c .before .before .before .before .loop in
+    let args = c .before .before .before .before .before .before .args in (
       omega arith,
-      mod-lt _ (omega arith),
-      amount-more (args .bits .now) (args .w) (loop .j) (loop-test .taken) (loop .inv .0) (loop .inv .2) (c .wide .ensures .0),
+      rw (c .doubled .ensures) (mod-lt _ (omega arith)),
+      c .doubled .ensures ∙ amount-more (args .bits .now) (args .w) (loop .j) (loop-test .taken) (loop .inv .0) (loop .inv .2) (c .before .wide .ensures .0),
     )
 
 returns : tie.Need-returns Inv-loop μ-loop
@@ -66,11 +60,9 @@ rot-amount-spec =
     μ-loop
     loop-holds
     sub-j
-    mul-k
     shared-slice-read-wide
     wide-requires
-    add-k
-    rem-k
+    doubled-requires
     loop-less
     loop-again
     returns)
