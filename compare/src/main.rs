@@ -1,6 +1,7 @@
 //! Makes the recorded lists: `record widths OUT` and `record printer OUT`. The problems follow from a seed; the answers are the
 //! Rust's (oracle.rs), with the three numbers that document 01 adds around it (added.rs).
 mod added;
+mod both;
 mod list;
 mod oracle;
 mod printer;

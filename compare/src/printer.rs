@@ -1,5 +1,6 @@
 //! Problems for the printer. As for the width pass, each has a label and the number that it was made for: the recorder stops where the
 //! Rust answers another. A label begins with that number, or with + for an acceptance.
+use crate::both;
 use crate::problem::{Problem, Rng, is_bool, is_rotation, is_same_width, kind, operand_count};
 use crate::trees::{accepted, kinds};
 use crate::widths::{Context, EXTREMES, ways};
@@ -34,43 +35,43 @@ fn fresh(p: &Problem) -> Vec<u8> {
     format!("~{}", p.name_start.len() + p.aname_start.len() + p.fname_start.len()).into_bytes()
 }
 
-fn var(p: &mut Problem, w: u32) -> u32 {
+pub fn var(p: &mut Problem, w: u32) -> u32 {
     let i = p.node(kind::VAR, &[w]);
     let name = fresh(p);
     p.var_entry(&name, i as u64, w as u64);
     i
 }
 
-fn constant(p: &mut Problem, w: u32) -> u32 {
+pub fn constant(p: &mut Problem, w: u32) -> u32 {
     let s = p.bits.len() as u32;
     p.bits.extend((0..w).map(|i| (i % 5 == 1) as u8));
     p.node(kind::CONST, &[s, w])
 }
 
-fn array(p: &mut Problem) -> u32 {
+pub fn array(p: &mut Problem) -> u32 {
     let name = fresh(p);
     p.array_entry(&name);
     p.aname_start.len() as u32 - 1
 }
 
-fn func(p: &mut Problem, w: u64) -> u32 {
+pub fn func(p: &mut Problem, w: u64) -> u32 {
     let name = fresh(p);
     p.func_entry(&name, w);
     p.fname_start.len() as u32 - 1
 }
 
-fn call(p: &mut Problem, f: u32, w: u32, args: &[u32]) -> u32 {
+pub fn call(p: &mut Problem, f: u32, w: u32, args: &[u32]) -> u32 {
     let s = p.side.len() as u32;
     p.side.extend(args.iter().map(|a| *a as u64));
     p.node(kind::CALL, &[f, w, s, args.len() as u32])
 }
 
-fn formula(p: &mut Problem) -> u32 {
+pub fn formula(p: &mut Problem) -> u32 {
     let a = var(p, 8);
     p.node(kind::EQ, &[a, a])
 }
 
-fn root(p: &mut Problem, i: u32) {
+pub fn root(p: &mut Problem, i: u32) {
     p.roots.push(i as u64);
 }
 
@@ -136,7 +137,7 @@ fn reach(p: &mut Problem, i: u32, k: u8) {
 }
 
 /// An entry with this name in one of the three tables; a function gets a call.
-fn named(p: &mut Problem, table: usize, name: &[u8]) {
+pub fn named(p: &mut Problem, table: usize, name: &[u8]) {
     match table {
         0 => p.var_entry(name, u64::MAX, 8),
         1 => p.array_entry(name),
@@ -1595,6 +1596,7 @@ pub fn all() -> Vec<Case> {
         }
         add("  grown, numbers changed", p, [Room::Exact, Room::Longer(9), Room::OneShort][(turn % 3) as usize], None);
     }
+    out.extend(both::of_printer());
     out
 }
 

@@ -1,5 +1,6 @@
 //! Problems for the width pass. Each is made for a purpose, which is its label, with the number that the purpose calls for: the
 //! recorder stops where the Rust answers another.
+use crate::both;
 use crate::problem::{Problem, Rng, is_same_width, kind, operand_count};
 
 pub const SEED: u64 = 20_260_901;
@@ -646,6 +647,7 @@ pub fn all() -> Vec<Case> {
         let room = rooms(&mut rng, n, turn);
         add("grown, bytes changed", p, room, None);
     }
+    out.extend(both::of_widths());
     out
 }
 

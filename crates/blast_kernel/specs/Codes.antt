@@ -84,6 +84,24 @@ coded-back select = refl
 coded-back call = refl
 coded-back unknown = refl
 
+pub code-small : (s : Shape) → codeOf s ≤ 14
+unfolding codeOf
+code-small var = lit≤ tt
+code-small const = lit≤ tt
+code-small binary = lit≤ tt
+code-small rotation = lit≤ tt
+code-small extraction = lit≤ tt
+code-small concat = lit≤ tt
+code-small extension = lit≤ tt
+code-small ite = lit≤ tt
+code-small comparison = lit≤ tt
+code-small negation = lit≤ tt
+code-small connective = lit≤ tt
+code-small unary = lit≤ tt
+code-small select = lit≤ tt
+code-small call = lit≤ tt
+code-small unknown = lit≤ tt
+
 -- in the arm k of a match on a shape's code
 pub in-arm : {r k : ℕ} (s : Shape) → r ≡ codeOf s → r ≡ k → s ≡ shapeCoded k
 in-arm s e f = sym (coded-back s) ∙ ap shapeCoded (sym e ∙ f)

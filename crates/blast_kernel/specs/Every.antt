@@ -6,7 +6,7 @@ use mathlib.Core.Bool.{Bool, true, false, _&&_}
 use native.Mathlib.Numerals.{add-one}
 use lib.ListN.{length, drop, getD, drop-of-length-le}
 use lib.Seq.{drop-cons}
-use Rattle.lists.specs.Tests.{every}
+use Rattle.lists.specs.Tests.{every, and-true}
 
 -- the loop's invariant at place i
 pub record Left {A : Type 0} (p : A → Bool) (s : List A) (i : ℕ) : Type 0 where
@@ -37,10 +37,6 @@ seen-start p s = record { rest = refl }
 and-false : (b : Bool) → (b && false) ≡ false
 and-false true = refl
 and-false false = refl
-
-pub and-true : (b : Bool) → (b && true) ≡ b
-and-true true = refl
-and-true false = refl
 
 module _ {A : Type 0} (p : A → Bool) {s : List A} {ok : Bool} {i : ℕ} (d : A) (h : Seen p s ok i) where
   pub seen-pass : i < length s → p (getD s i d) ≡ true → Seen p s ok (i + 1)

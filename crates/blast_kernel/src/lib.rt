@@ -1,5 +1,12 @@
-// Node records: 17 bytes taken apart, the shape of a kind, and the two checks that need no widths (8 and the nodes' part of 9).
+// The shape of a kind, and the two checks that need no widths: 8, and the nodes' part of 9.
 // Under "Ruled out" stand wrong programs that a public function's contract refuses.
+use lent::Node;
+use lent::node_at;
+use lent::node_count;
+use refusals::MAX_BITS;
+use refusals::MAX_NODE_BYTES;
+use refusals::MAX_SIDE;
+use refusals::RECORD;
 ghost use mathlib.Core.Path.{_≡_};
 ghost use Prim.Native.Nat.{_+_, _*_, _≤_, _<_};
 ghost use mathlib.Core.List.{[], _∷_};
@@ -7,53 +14,9 @@ ghost use lib.ListN.{length};
 ghost use Rattle.lists.specs.Tests.{every};
 ghost use Rattle.echo_spec.specs.Shapes.{shapeOf, operandCount};
 ghost use Rattle.echo_spec.specs.Input as input;
-ghost use Rattle.blast_kernel.specs.Records.{nodeOf, unused, bit};
+ghost use Rattle.lent.specs.Records.{nodeOf};
+ghost use Rattle.blast_kernel.specs.Records.{unused, bit};
 ghost use Rattle.blast_kernel.specs.Codes.{codeOf, shapeCoded};
-
-// A record: its kind and its four operands, as wide as the widths and side entries that they are compared with.
-pub struct Node {
-    pub kind: u8,
-    pub a: u64,
-    pub b: u64,
-    pub c: u64,
-    pub d: u64,
-}
-
-fn wide(x: u8) -> u64
-    ensures { λ r. ⌜ (r ≡ x) × (r < 256) ⌝ }
-{
-    x as u64
-}
-
-// 32 bits from place i on, least significant byte first. Ruled out: the most significant byte first; the byte after place i as the lowest.
-pub fn word32(s: &[u8], i: usize) -> u64
-    requires { ⌜ i + 4 ≤ length (now s) ⌝ }
-    ensures { λ r. ⌜ (r ≡ input.word32 (now (s .entry)) i) × (r < 4294967296) ⌝ }
-{
-    wide(s[i]) + 256 * wide(s[i + 1]) + 65536 * wide(s[i + 2]) + 16777216 * wide(s[i + 3])
-}
-
-// How many whole records there are. Ruled out: the count of bytes; one record more where bytes are left over.
-pub fn node_count(nodes: &[u8]) -> usize
-    ensures { λ r. ⌜ r ≡ length (input.nodesOf (now (nodes .entry))) ⌝ }
-{
-    nodes.len() / 17
-}
-
-// Record i. Ruled out: the highest byte of an operand first; the record before it.
-pub fn node_at(nodes: &[u8], i: usize) -> Node
-    requires { ⌜ 17 * i + 17 ≤ length (now nodes) ⌝ }
-    ensures { λ r. ⌜ nodeOf r ≡ input.nodeAt (now (nodes .entry)) i ⌝ }
-{
-    let at = 17 * i;
-    Node {
-        kind: nodes[at],
-        a: word32(nodes, at + 1),
-        b: word32(nodes, at + 5),
-        c: word32(nodes, at + 9),
-        d: word32(nodes, at + 13),
-    }
-}
 
 // The codes of the shapes, in the order of the definition `Shape`.
 pub const VAR: u8 = 0;
@@ -227,7 +190,7 @@ fn bits_encoded(bits: &[u8]) -> bool
 pub fn encoded(nodes: &[u8], bits: &[u8]) -> bool
     ensures { λ r. ⌜ r ≡ input.encoded (now (nodes .entry)) (now (bits .entry)) ⌝ }
 {
-    if nodes.len() % 17 != 0 {
+    if nodes.len() % RECORD != 0 {
         return false;
     }
     nodes_encoded(nodes) && bits_encoded(bits)
@@ -237,11 +200,11 @@ pub fn encoded(nodes: &[u8], bits: &[u8]) -> bool
 pub fn nodes_within(nodes: &[u8], bits: &[u8], side: &[u64]) -> bool
     ensures { λ r. ⌜ r ≡ input.nodesWithin (now (nodes .entry)) (now (bits .entry)) (now (side .entry)) ⌝ }
 {
-    if nodes.len() > 34816 {
+    if nodes.len() > MAX_NODE_BYTES {
         return false;
     }
-    if bits.len() > 131072 {
+    if bits.len() > MAX_BITS {
         return false;
     }
-    side.len() <= 8192
+    side.len() <= MAX_SIDE
 }

@@ -1,37 +1,45 @@
 -- What the project promises of the printer's answers. A reader who believes the definitions (crate `echo_spec`: what is
 -- printed and what is refused; crate `smtlib`: what bytes mean by the standard) can stop at this page.
 use Prim.Native.Nat.{ℕ, suc, _-_, _≤_, _<_}
+use denote.Ref.{now}
 use mathlib.Core.Path.{_≡_, refl, sym, ap, _∙_}
 use mathlib.Core.List.{List, [], _∷_, _++_}
 use mathlib.Core.Logic.{_↔_}
 use lib.Dec.{T}
-use lib.ListN.{length, drop, replicate}
+use mathlib.Core.Bool.{false}
+use lib.ListN.{length, getD, take, drop, replicate}
+use lib.Seq.{take-append-seam}
+use Rattle.lists.specs.Tests.{among}
 use Rattle.reading.specs.Trees.{Name, Reading, Declarations, Trees}
 use Rattle.smtlib.specs.Lexicon.{Token, Lex}
 use Rattle.smtlib.specs.Grammar.{Script, scriptTokens}
 use Rattle.smtlib.specs.LexUnique.{lex-unique}
 use Rattle.smtlib.specs.Readings.{operators, Reads}
 use Rattle.smtlib.specs.Sorts.{WellSorted}
-use Rattle.echo_spec.specs.Input.{Problem, nodesOf}
-use Rattle.echo_spec.specs.Widths.{ext-wf}
+use Rattle.echo_spec.specs.Input.{Problem, nodesOf, no-node}
+use Rattle.echo_spec.specs.Widths.{node-wf, ext-wf}
 use Rattle.echo_spec.specs.Render.{symbolOf}
-use Rattle.echo_spec.specs.Answers.{Answer, ext-wf-answer, echo-ext-answer}
+use Rattle.echo_spec.specs.Answers.{Answer, ext-wf-answer, reading, echo-ext-answer}
 use Rattle.sliver_kernel.specs.declared.Outcome.{Outcome}
-use Rattle.sliver_kernel.specs.declared.Outcome.the-variants.{Accepted}
+use Rattle.sliver_kernel.specs.declared.Outcome.the-variants.{Accepted, Refused as NodeRefused}
+use Rattle.sliver_kernel.proofs.ext_wf.Reads as ext-wf-code
 use Rattle.sliver_kernel.specs.Outcomes as widths
-use Rattle.echo_kernel.specs.declared.EchoError.{EchoError}
+use Rattle.refusals.specs.declared.EchoError.{EchoError}
+use Rattle.refusals.specs.Numbers.{errorNumber, error-number}
 use Rattle.echo_kernel.specs.declared.Echo.{Echo}
 use Rattle.echo_kernel.specs.declared.Echo.the-variants.{Printed, Refused}
-use Rattle.echo_kernel.specs.Outcomes.{errorNumber, error-number, answered}
+use Rattle.echo_kernel.specs.Outcomes.{answered}
+use Rattle.echo_kernel.proofs.echo_ext.Reads as echo-ext-code
+use Rattle.lent.specs.Lent.{problemOf}
 use Rattle.theorems.specs.Scripts.{scriptOf}
-use Rattle.theorems.specs.Printed.{reading}
-use Rattle.theorems.specs.Tables as Tables
+use Rattle.theorems.specs.SymbolTables as SymbolTables
 use Rattle.theorems.specs.Answered.{
   Whole,
-  scriptText,
+  printed,
   acceptance,
   refused,
   number-bound,
+  accepted-exactly,
   accepted-whole,
   room-refusal,
   script-lexed,
@@ -43,6 +51,7 @@ use Rattle.theorems.specs.Answered.{
   width-accepted,
   width-refused,
 }
+use Rattle.claims.specs.WidthAnswers.{width-listed, width-count, width-refused-node}
 
 -- The printer accepts the problem with this lent buffer.
 abbrev pub Accepts : Problem → List ℕ → Type 0
@@ -61,11 +70,15 @@ refusal-zeroes = refused
 
 -- An acceptance has the script at the front of the output, its length beside it, and the rest of the output as it was.
 pub acceptance-prints : (p : Problem) (lent : List ℕ) → Accepts p lent
-    → echo-ext-answer p lent ≡ record { number = 0; count = length (scriptText p); output = scriptText p ++ drop (length (scriptText p)) lent }
+    → echo-ext-answer p lent ≡ record { number = 0; count = length (printed p); output = printed p ++ drop (length (printed p)) lent }
 acceptance-prints = acceptance
 
+-- It is an acceptance exactly where every check passes and the script fits.
+pub accepts-exactly : (p : Problem) (lent : List ℕ) → Accepts p lent ↔ (Whole p × (length (printed p) ≤ length lent))
+accepts-exactly = accepted-exactly
+
 -- 10 is answered only, and always, where every other check passes and the script is longer than the buffer.
-pub room-only : (p : Problem) (lent : List ℕ) → (echo-ext-answer p lent .number ≡ 10) ↔ (Whole p × (length lent < length (scriptText p)))
+pub room-only : (p : Problem) (lent : List ℕ) → (echo-ext-answer p lent .number ≡ 10) ↔ (Whole p × (length lent < length (printed p)))
 room-only = room-refusal
 
 -- ---------------------------------------------------------------- each script is well sorted
@@ -73,20 +86,20 @@ room-only = room-refusal
 -- An accepted problem's script holds the tokens of a script, of one alone, that is well sorted by the standard and declares
 -- its symbols first.
 pub well-sorted : (p : Problem) (lent : List ℕ) → Accepts p lent
-    → (s : Script) × Lex (scriptText p) (scriptTokens s) × WellSorted s × ((s′ : Script) → Lex (scriptText p) (scriptTokens s′) → s′ ≡ s)
+    → (s : Script) × Lex (printed p) (scriptTokens s) × WellSorted s × ((s′ : Script) → Lex (printed p) (scriptTokens s′) → s′ ≡ s)
 well-sorted p lent a =
     let w = accepted-whole p lent a .0 in
     (scriptOf (reading p), script-lexed p w, script-sorted p w, script-only p w)
 
 -- Its bytes hold one list of tokens.
-pub one-lexing : (p : Problem) (lent : List ℕ) → Accepts p lent → (ts : List Token) → Lex (scriptText p) ts ↔ (ts ≡ scriptTokens (scriptOf (reading p)))
+pub one-lexing : (p : Problem) (lent : List ℕ) → Accepts p lent → (ts : List Token) → Lex (printed p) ts ↔ (ts ≡ scriptTokens (scriptOf (reading p)))
 one-lexing p lent a ts =
     let l = script-lexed p (accepted-whole p lent a .0) in
-    (λ h. lex-unique (scriptText p) ts (scriptTokens (scriptOf (reading p))) h l, λ e. rw e l)
+    (λ h. lex-unique (printed p) ts (scriptTokens (scriptOf (reading p))) h l, λ e. rw e l)
 
 -- ---------------------------------------------------------------- each script has one reading: its problem's
 
-pub one-reading : (p : Problem) (lent : List ℕ) → Accepts p lent → (r : Reading) → Reads (scriptText p) r ↔ (r ≡ reading p)
+pub one-reading : (p : Problem) (lent : List ℕ) → Accepts p lent → (r : Reading) → Reads (printed p) r ↔ (r ≡ reading p)
 one-reading p lent a r =
     let w = accepted-whole p lent a .0 in
     (script-reads-only p w r, λ e. rw e (script-reads p w))
@@ -94,23 +107,33 @@ one-reading p lent a r =
 -- Two accepted problems, whatever buffer each had, have equal scripts exactly when their declarations and their trees are
 -- equal, each in order. (A rotation's amount is in its tree modulo the width.)
 pub equal-scripts : (p p′ : Problem) (lent lent′ : List ℕ) → Accepts p lent → Accepts p′ lent′
-    → (scriptText p ≡ scriptText p′) ↔ ((reading p .declarations ≡ reading p′ .declarations) × (reading p .assertions ≡ reading p′ .assertions))
+    → (printed p ≡ printed p′) ↔ ((reading p .declarations ≡ reading p′ .declarations) × (reading p .assertions ≡ reading p′ .assertions))
 equal-scripts p p′ lent lent′ a a′ =
     let e = scripts-equal p p′ (accepted-whole p lent a .0) (accepted-whole p′ lent′ a′ .0) in (
       λ q. let r = e .0 q in (ap (λ (r : Reading). r .declarations) r, ap (λ (r : Reading). r .assertions) r),
       λ h. e .1 (λ i. record { declarations = h .0 i; assertions = h .1 i }),
     )
 
--- ---------------------------------------------------------------- the code
+-- ---------------------------------------------------------------- the code of the printer
 
 -- The contract of `echo_ext`: its answer and the buffer afterwards, by the problem and the buffer that were lent. It asks nothing of the caller.
 abbrev pub EchoContract : Echo → Problem → List ℕ → List ℕ → Type 0
 EchoContract r p lent out = answered r out ≡ echo-ext-answer p lent
 
--- What it answers by `Printed` is the script: its length, its bytes at the front of the buffer, and the rest of the buffer as it was; so every
--- claim above on scripts speaks of these bytes.
+-- It is what the function is proved to ensure: x are its arguments as they are passed, y as they are when it returns.
+pub echo-contract : (κs : _) (x : _) (r : _) (y : _) → echo-ext-code.Post κs x r y
+    → EchoContract r
+    (problemOf (now (x .0)) (now (x .1 .0)) (now (x .1 .1 .0)) (now (x .1 .1 .1 .0)) (now (x .1 .1 .1 .1 .0)) (now (x .1 .1 .1 .1 .1 .0))
+    (now (x .1 .1 .1 .1 .1 .1 .0)) (now (x .1 .1 .1 .1 .1 .1 .1 .0)) (now (x .1 .1 .1 .1 .1 .1 .1 .1 .0)) (now (x .1 .1 .1 .1 .1 .1 .1 .1 .1 .0))
+    (now (x .1 .1 .1 .1 .1 .1 .1 .1 .1 .1 .0)) (now (x .1 .1 .1 .1 .1 .1 .1 .1 .1 .1 .1 .0)) (now (x .1 .1 .1 .1 .1 .1 .1 .1 .1 .1 .1 .1 .0))
+    (now (x .1 .1 .1 .1 .1 .1 .1 .1 .1 .1 .1 .1 .1 .0)) (now (x .1 .1 .1 .1 .1 .1 .1 .1 .1 .1 .1 .1 .1 .1 .0))
+    (now (x .1 .1 .1 .1 .1 .1 .1 .1 .1 .1 .1 .1 .1 .1 .1 .0)))
+    (now (x .1 .1 .1 .1 .1 .1 .1 .1 .1 .1 .1 .1 .1 .1 .1 .1 .0)) (now (y .1 .1 .1 .1 .1 .1 .1 .1 .1 .1 .1 .1 .1 .1 .1 .1 .0))
+echo-contract κs x r y h = h
+
+-- What it answers by `Printed` is the script: its length, its bytes at the front of the buffer, and the rest of the buffer as it was.
 pub printer-prints : (p : Problem) (lent out : List ℕ) (n : ℕ) → EchoContract (Printed n) p lent out
-    → Accepts p lent × (n ≡ length (scriptText p)) × (out ≡ scriptText p ++ drop (length (scriptText p)) lent)
+    → Accepts p lent × (n ≡ length (printed p)) × (out ≡ printed p ++ drop (length (printed p)) lent)
 printer-prints p lent out n c =
     let a : Accepts p lent = sym (ap (λ (x : Answer). x .number) c) in
     let e = c ∙ acceptance-prints p lent a in
@@ -123,9 +146,40 @@ printer-refuses p lent out e c =
     let n : echo-ext-answer p lent .number ≡ errorNumber e = sym (ap (λ (x : Answer). x .number) c) in
     (n, ap (λ (x : Answer). x .output) (c ∙ refusal-zeroes p lent (errorNumber e - 1) (n ∙ error-number e)))
 
--- The contract of `ext_wf`, the width pass.
+-- The bytes that it printed are the script of the problem that was lent.
+pub printed-bytes : (p : Problem) (lent out : List ℕ) (n : ℕ) → EchoContract (Printed n) p lent out → take n out ≡ printed p
+printed-bytes p lent out n c = let h = printer-prints p lent out n c in rw (h .1, h .2) (take-append-seam (printed p) (drop (length (printed p)) lent))
+
+-- They hold the tokens of one script alone, and it is well sorted and declares its symbols first.
+pub bytes-well-sorted : (p : Problem) (lent out : List ℕ) (n : ℕ) → EchoContract (Printed n) p lent out
+    → (s : Script) × Lex (take n out) (scriptTokens s) × WellSorted s × ((s′ : Script) → Lex (take n out) (scriptTokens s′) → s′ ≡ s)
+bytes-well-sorted p lent out n c = rw (printed-bytes p lent out n c) (well-sorted p lent (printer-prints p lent out n c .0))
+
+-- They have one reading: the problem's.
+pub bytes-read : (p : Problem) (lent out : List ℕ) (n : ℕ) → EchoContract (Printed n) p lent out → (r : Reading) → Reads (take n out) r ↔ (r ≡ reading p)
+bytes-read p lent out n c r = rw (printed-bytes p lent out n c) (one-reading p lent (printer-prints p lent out n c .0) r)
+
+-- Of two calls that print, the bytes are equal exactly when the problems' declarations and trees are.
+pub bytes-equal : (p p′ : Problem) (lent lent′ out out′ : List ℕ) (n n′ : ℕ) → EchoContract (Printed n) p lent out → EchoContract (Printed n′) p′ lent′ out′
+    → (take n out ≡ take n′ out′) ↔ ((reading p .declarations ≡ reading p′ .declarations) × (reading p .assertions ≡ reading p′ .assertions))
+bytes-equal p p′ lent lent′ out out′ n n′ c c′ =
+    rw (printed-bytes p lent out n c, printed-bytes p′ lent′ out′ n′ c′)
+    (equal-scripts p p′ lent lent′ (printer-prints p lent out n c .0) (printer-prints p′ lent′ out′ n′ c′ .0))
+
+-- ---------------------------------------------------------------- the width pass
+
+-- Its answer is acceptance or 1, 8, 9 or 10.
+pub widths-listed : (nodes bits side lent : List ℕ) → T (among (0 ∷ 1 ∷ 8 ∷ 9 ∷ 10 ∷ []) (ext-wf-answer nodes bits side lent .number))
+widths-listed = width-listed
+
+-- The contract of `ext_wf`.
 abbrev pub WidthContract : Outcome → List ℕ → List ℕ → List ℕ → List ℕ → List ℕ → Type 0
 WidthContract r nodes bits side lent out = widths.answered r out ≡ ext-wf-answer nodes bits side lent
+
+-- It is what the function is proved to ensure.
+pub width-contract : (κs : _) (x : _) (r : _) (y : _) → ext-wf-code.Post κs x r y
+    → WidthContract r (now (x .0)) (now (x .1 .0)) (now (x .1 .1 .0)) (now (x .1 .1 .1 .0)) (now (y .1 .1 .1 .0))
+width-contract κs x r y h = h
 
 -- What it accepts has a width for each node, in order, at the front of the slice.
 pub widths-written : (nodes bits side lent out : List ℕ) (n : ℕ) → WidthContract (Accepted n) nodes bits side lent out
@@ -133,6 +187,17 @@ pub widths-written : (nodes bits side lent out : List ℕ) (n : ℕ) → WidthCo
     × (out ≡ ext-wf (length bits) side (nodesOf nodes) ++ drop (length (ext-wf (length bits) side (nodesOf nodes))) lent)
 widths-written nodes bits side lent out n c =
     let e = c ∙ width-accepted nodes bits side lent (sym (ap (λ (x : Answer). x .number) c)) in (ap (λ (x : Answer). x .count) e, ap (λ (x : Answer). x .output) e)
+
+-- The count of an acceptance is the node count, and every node has a width.
+pub widths-count : (nodes bits side lent out : List ℕ) (n : ℕ) → WidthContract (Accepted n) nodes bits side lent out
+    → (n ≡ length (nodesOf nodes)) × (length (ext-wf (length bits) side (nodesOf nodes)) ≡ length (nodesOf nodes))
+widths-count nodes bits side lent out n c = width-count nodes bits side lent (ap (λ (x : Answer). x .number) c) (ap (λ (x : Answer). x .count) c)
+
+-- The node that is told with 1 is there, and it is not well formed after the widths of those before it, which all have one.
+pub widths-node : (nodes bits side lent out : List ℕ) (k : ℕ) → WidthContract (NodeRefused k) nodes bits side lent out
+    → (k < length (nodesOf nodes)) × (k ≡ length (ext-wf (length bits) side (nodesOf nodes)))
+    × (node-wf (length bits) side (ext-wf (length bits) side (nodesOf nodes)) (getD (nodesOf nodes) k no-node) ≡ false)
+widths-node nodes bits side lent out k c = width-refused-node nodes bits side lent (ap (λ (x : Answer). x .number) c) (ap (λ (x : Answer). x .count) c)
 
 -- What it refuses leaves the slice zeroed.
 pub widths-refused : (nodes bits side lent out : List ℕ) (r : Outcome) (k : ℕ) → widths.number r ≡ suc k → WidthContract r nodes bits side lent out
@@ -143,5 +208,5 @@ widths-refused nodes bits side lent out r k h c =
 -- ---------------------------------------------------------------- symbols
 
 -- The printer's table from kind to symbol and the standard's table from symbol to kind are inverse.
-pub inverse-tables : (k : ℕ) → 2 ≤ k → k < 37 → (n : Name) → (symbolOf k ≡ n) ↔ T (Tables.names n k operators)
-inverse-tables = Tables.tables-inverse
+pub inverse-tables : (k : ℕ) → 2 ≤ k → k < 37 → (n : Name) → (symbolOf k ≡ n) ↔ T (SymbolTables.names n k operators)
+inverse-tables = SymbolTables.tables-inverse

@@ -1,19 +1,48 @@
--- An accepted problem with an array, a function with arguments and one without, and a rotation: the claims speak of something.
-use Prim.Native.Nat.{ℕ}
-use mathlib.Core.Path.{_≡_, refl}
+-- The claims at problems: each speaks of something. One problem has an array, a function with arguments and one without, and a rotation.
+use Prim.Native.Nat.{ℕ, _≤_, _<_}
+use mathlib.Core.Path.{_≡_, refl, subst}
 use mathlib.Core.List.{List, [], _∷_, _++_}
+use mathlib.Core.Bool.{false}
+use native.Mathlib.Omega.{arith}
+use lib.Dec.{T}
+use lib.ListN.{length, getD, take, replicate}
 use Rattle.lists.specs.Bytes.{bytes}
-use Rattle.lists.specs.Tests.{same}
-use Rattle.reading.specs.Kinds.{Var, Const, ZeroExt, Eq, Rotl, Select, Call}
-use Rattle.smtlib.specs.Grammar.{Script}
+use Rattle.lists.specs.Tests.{same, same-refl}
+use Rattle.reading.specs.Kinds.{Var, Const, ZeroExt, Eq, Rotl, Not, Select, Call}
+use Rattle.smtlib.specs.Lexicon.{Lex}
+use Rattle.smtlib.specs.Grammar.{Script, scriptTokens}
 use Rattle.smtlib.specs.Sorts.{WellSorted}
 use Rattle.smtlib.specs.Readings.{Reads}
-use Rattle.echo_spec.specs.Input.{Problem}
-use Rattle.echo_spec.specs.Answers.{echo-ext-answer}
+use Rattle.echo_spec.specs.Input.{Problem, nodesOf, no-node}
+use Rattle.echo_spec.specs.Widths.{node-wf, ext-wf}
+use Rattle.echo_spec.specs.Answers.{reading, ext-wf-answer, echo-ext-answer}
 use Rattle.echo_spec.specs.Examples.{node, problem, var, fun, lent, eleven, allMeet}
-use Rattle.theorems.specs.Printed.{reading}
-use Rattle.theorems.specs.Answered.{scriptText}
-use Rattle.claims.specs.Claims.{Accepts, well-sorted, one-reading, equal-scripts, room-only}
+use Rattle.refusals.specs.declared.EchoError.the-variants.{Room}
+use Rattle.echo_kernel.specs.declared.Echo.the-variants.{Printed, Refused}
+use Rattle.sliver_kernel.specs.declared.Outcome.the-variants.{Accepted, Refused as NodeRefused}
+use Rattle.theorems.specs.Scripts.{scriptOf}
+use Rattle.theorems.specs.Answered.{Whole, printed}
+use Rattle.claims.specs.Claims.{
+  Accepts,
+  EchoContract,
+  WidthContract,
+  refusal-zeroes,
+  accepts-exactly,
+  room-only,
+  well-sorted,
+  one-lexing,
+  one-reading,
+  equal-scripts,
+  printer-prints,
+  printer-refuses,
+  bytes-well-sorted,
+  bytes-read,
+  bytes-equal,
+  widths-written,
+  widths-count,
+  widths-node,
+  widths-refused,
+}
 
 -- f(rotate_left(x, amount), m[x extended]) = g, with the amount's eight bits
 example : List ℕ → Problem
@@ -35,31 +64,130 @@ unfolding allMeet example three
 accepted-three = refl
 
 -- the two have the same script, since 11 is 3 modulo 8
-same-script : scriptText (example eleven) ≡ scriptText (example three)
+same-script : printed (example eleven) ≡ printed (example three)
 unfolding allMeet example three
 same-script = refl
 
-printed : scriptText (example eleven)
+its-script : printed (example eleven)
     ≡ bytes
     "(set-logic QF_AUFBV)\n(declare-const |x| (_ BitVec 8))\n(declare-const |m| (Array (_ BitVec 32) (_ BitVec 8)))\n(declare-fun |f| ((_ BitVec 8) (_ BitVec 8)) (_ BitVec 8))\n(declare-fun |g| () (_ BitVec 8))\n(assert (= (|f| ((_ rotate_left 3) |x|) (select |m| ((_ zero_extend 24) |x|))) |g|))\n(check-sat)\n"
 unfolding allMeet example
-printed = refl
+its-script = refl
 
--- ---------------------------------------------------------------- the claims at it
+-- the bits of another amount
+two : List ℕ
+two = 0 ∷ 1 ∷ 0 ∷ 0 ∷ 0 ∷ 0 ∷ 0 ∷ 0 ∷ []
+
+accepted-two : Accepts (example two) (lent 300)
+unfolding allMeet example two
+accepted-two = refl
+
+-- its script is another
+other-script : printed (example eleven) ≡ printed (example two) → ⊥
+unfolding allMeet example two
+other-script e = subst (λ (l : List ℕ). T (same (printed (example eleven)) l)) e (same-refl (printed (example eleven)))
+
+-- ---------------------------------------------------------------- answers
+
+whole : Whole (example eleven)
+whole = accepts-exactly (example eleven) (lent 300) .0 accepted-eleven .0
+
+-- it fits a buffer of its length, and none that is shorter
+fits : Accepts (example eleven) (lent 299)
+unfolding allMeet example
+fits = refl
+
+too-short : echo-ext-answer (example eleven) (lent 298) .number ≡ 10
+unfolding allMeet example
+too-short = refl
+
+longer : 298 < length (printed (example eleven))
+longer = room-only (example eleven) (lent 298) .0 too-short .1
+
+cleared : echo-ext-answer (example eleven) (lent 298) ≡ record { number = 10; count = 0; output = replicate 298 0 }
+cleared = refusal-zeroes (example eleven) (lent 298) 9 too-short
+
+-- ---------------------------------------------------------------- scripts
 
 sorted : (s : Script) × WellSorted s
 sorted =
     let w = well-sorted (example eleven) (lent 300) accepted-eleven in
     (w .0, w .2)
 
-read : Reads (scriptText (example eleven)) (reading (example eleven))
+lexed : Lex (printed (example eleven)) (scriptTokens (scriptOf (reading (example eleven))))
+lexed = one-lexing (example eleven) (lent 300) accepted-eleven (scriptTokens (scriptOf (reading (example eleven)))) .1 refl
+
+read : Reads (printed (example eleven)) (reading (example eleven))
 read = one-reading (example eleven) (lent 300) accepted-eleven (reading (example eleven)) .1 refl
 
 equal : (reading (example eleven) .declarations ≡ reading (example three) .declarations)
     × (reading (example eleven) .assertions ≡ reading (example three) .assertions)
 equal = equal-scripts (example eleven) (example three) (lent 300) (lent 400) accepted-eleven accepted-three .0 same-script
 
--- one byte short of the script
-too-short : echo-ext-answer (example eleven) (lent 298) .number ≡ 10
-unfolding allMeet example
-too-short = refl
+-- so its assertions are others too, or its declarations
+unequal : ((reading (example eleven) .declarations ≡ reading (example two) .declarations)
+    × (reading (example eleven) .assertions ≡ reading (example two) .assertions)) → ⊥
+unequal h = other-script (equal-scripts (example eleven) (example two) (lent 300) (lent 300) accepted-eleven accepted-two .1 h)
+
+-- ---------------------------------------------------------------- calls of the printer
+
+-- what a call leaves in the buffer
+after : Problem → ℕ → List ℕ
+after p room = echo-ext-answer p (lent room) .output
+
+called : EchoContract (Printed 299) (example eleven) (lent 300) (after (example eleven) 300)
+unfolding allMeet example after
+called = refl
+
+called-three : EchoContract (Printed 299) (example three) (lent 400) (after (example three) 400)
+unfolding allMeet example three after
+called-three = refl
+
+refused-call : EchoContract (Refused Room) (example eleven) (lent 298) (after (example eleven) 298)
+unfolding allMeet example after
+refused-call = refl
+
+length-told : 299 ≡ length (printed (example eleven))
+length-told = printer-prints (example eleven) (lent 300) (after (example eleven) 300) 299 called .1
+
+zeroed-buffer : after (example eleven) 298 ≡ replicate 298 0
+zeroed-buffer = printer-refuses (example eleven) (lent 298) (after (example eleven) 298) Room refused-call .1
+
+sorted-bytes : (s : Script) × Lex (take 299 (after (example eleven) 300)) (scriptTokens s) × WellSorted s
+sorted-bytes = let w = bytes-well-sorted (example eleven) (lent 300) (after (example eleven) 300) 299 called in (w .0, w .1, w .2)
+
+read-bytes : Reads (take 299 (after (example eleven) 300)) (reading (example eleven))
+read-bytes = bytes-read (example eleven) (lent 300) (after (example eleven) 300) 299 called (reading (example eleven)) .1 refl
+
+equal-bytes : take 299 (after (example eleven) 300) ≡ take 299 (after (example three) 400)
+equal-bytes =
+    bytes-equal (example eleven) (example three) (lent 300) (lent 400) (after (example eleven) 300) (after (example three) 400) 299 299 called called-three .1 equal
+
+-- ---------------------------------------------------------------- calls of the width pass
+
+-- two variables of width 8 and their equation; a variable of width 8 and its negation, which wants a width of 1
+good : List ℕ
+good = node Var 8 0 0 0 ++ (node Var 8 0 0 0 ++ node Eq 0 1 0 0)
+
+bad : List ℕ
+bad = node Var 8 0 0 0 ++ node Not 0 0 0 0
+
+passed : WidthContract (Accepted 3) good [] [] (lent 4) (8 ∷ 8 ∷ 1 ∷ 170 ∷ [])
+unfolding allMeet good
+passed = refl
+
+stopped : WidthContract (NodeRefused 1) bad [] [] (lent 2) (0 ∷ 0 ∷ [])
+unfolding allMeet bad
+stopped = refl
+
+every-width : 3 ≡ length (nodesOf good)
+every-width = widths-count good [] [] (lent 4) (8 ∷ 8 ∷ 1 ∷ 170 ∷ []) 3 passed .0
+
+widths-are : 3 ≡ length (ext-wf 0 [] (nodesOf good))
+widths-are = widths-written good [] [] (lent 4) (8 ∷ 8 ∷ 1 ∷ 170 ∷ []) 3 passed .0
+
+ill-formed : node-wf 0 [] (ext-wf 0 [] (nodesOf bad)) (getD (nodesOf bad) 1 no-node) ≡ false
+ill-formed = widths-node bad [] [] (lent 2) (0 ∷ 0 ∷ []) 1 stopped .2
+
+zeroed-widths : _≡_ {A = List ℕ} (0 ∷ 0 ∷ []) (replicate 2 0)
+zeroed-widths = widths-refused bad [] [] (lent 2) (0 ∷ 0 ∷ []) (NodeRefused 1) 0 refl stopped

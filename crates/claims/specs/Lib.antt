@@ -1,2 +1,3 @@
+pub mod WidthAnswers
 pub mod Claims
 pub mod Instances

@@ -1,11 +1,14 @@
 // The two entry points for C, and for Rust over C: `echo_ext` and `ext_wf` under their plain names, as in include/echo.h. A slice is a
 // pointer and a `size_t`; the answer is a struct of two numbers.
 use echo_kernel::Echo;
-use echo_kernel::EchoError;
+use refusals::ENCODING;
+use refusals::LIMIT;
+use refusals::MALFORMED;
+use refusals::ROOM;
 use sliver_kernel::Outcome;
 ghost use mathlib.Core.Path.{_≡_};
 ghost use Rattle.echo_spec.specs.Answers.{echo-ext-answer, ext-wf-answer};
-ghost use Rattle.echo_checks.specs.Given.{problemOf};
+ghost use Rattle.lent.specs.Lent.{problemOf};
 ghost use Rattle.echo_kernel.specs.Outcomes as echo;
 ghost use Rattle.sliver_kernel.specs.Outcomes as widths;
 ghost use Rattle.echo_c.specs.Answered.{printed, passed};
@@ -25,23 +28,6 @@ pub struct WidthAnswer {
     pub count: u64,
 }
 
-fn number(e: EchoError) -> u64
-    ensures { λ r. ⌜ r ≡ echo.errorNumber e ⌝ }
-{
-    match e {
-        EchoError::Malformed => 1,
-        EchoError::Name => 2,
-        EchoError::Sort => 3,
-        EchoError::Var => 4,
-        EchoError::Rotate => 5,
-        EchoError::Shared => 6,
-        EchoError::Signature => 7,
-        EchoError::Encoding => 8,
-        EchoError::Limit => 9,
-        EchoError::Room => 10,
-    }
-}
-
 fn echo_answer(r: Echo) -> EchoAnswer
     ensures { λ a. ⌜ (a .number ≡ echo.number r) × (a .length ≡ echo.count r) ⌝ }
 {
@@ -51,7 +37,7 @@ fn echo_answer(r: Echo) -> EchoAnswer
             length: n as u64,
         },
         Echo::Refused(e) => EchoAnswer {
-            number: number(e),
+            number: refusals::number_of(e),
             length: 0,
         },
     }
@@ -66,19 +52,19 @@ fn width_answer(r: Outcome) -> WidthAnswer
             count: n as u64,
         },
         Outcome::Refused(n) => WidthAnswer {
-            number: 1,
+            number: MALFORMED,
             count: n as u64,
         },
         Outcome::Encoding => WidthAnswer {
-            number: 8,
+            number: ENCODING,
             count: 0,
         },
         Outcome::Limit => WidthAnswer {
-            number: 9,
+            number: LIMIT,
             count: 0,
         },
         Outcome::Room => WidthAnswer {
-            number: 10,
+            number: ROOM,
             count: 0,
         },
     }

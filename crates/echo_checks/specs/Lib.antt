@@ -1,5 +1,5 @@
-pub mod Given
-pub mod Aligned
+pub mod Answered
 pub mod Limits
+pub mod Aligned
 pub mod Named
 pub mod Declared

@@ -1,3 +1,3 @@
-pub mod Lines
-pub mod Tables
-pub mod Calls
+pub mod NumberedLines
+pub mod DeclaredLines
+pub mod Declarable

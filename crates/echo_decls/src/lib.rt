@@ -1,72 +1,84 @@
-// The declarations: a loop over each table, one line an entry, at a place in the lent buffer.
+// The lines before the roots: the logic, and a loop over each table, one declaration an entry, at a place in the lent buffer.
 //
-// The caller has made the tests that the Rust makes here: the columns of a table are of one length, no width is 0, and each function has a first
-// call whose arguments lie inside the side entries. So no function here refuses.
-ghost use mathlib.Core.Path.{_≡_};
-ghost use Prim.Native.Nat.{_≤_, _<_};
-ghost use lib.ListN.{length};
-ghost use Rattle.echo_spec.specs.Input.{nodesOf};
-ghost use Rattle.blast_kernel.specs.Records.{nodeOf};
-ghost use Rattle.echo_bytes.specs.Page.{page, written};
-ghost use Rattle.echo_spec.specs.Tables.{find-call};
-ghost use Rattle.echo_tables.specs.Found.{Calls, orZero};
-ghost use Rattle.echo_decls.specs.Calls.{firstCall, Called};
-ghost use Rattle.echo_decls.specs.Tables.{variableLine, variableLines, arrayLine, arrayLines, functionLine, functionLines};
-use blast_kernel::Node;
+// The caller has made the tests that the Rust makes here: no width is 0, and each function has a first call whose arguments lie inside the
+// side entries. So no function here refuses. Under "Ruled out" stand wrong programs that a public function's contract refuses.
 use echo_bytes::Place;
+use echo_bytes::start;
 use echo_lines::decl_array;
 use echo_lines::decl_func;
 use echo_lines::decl_var;
+use echo_lines::push_logic;
 use echo_names::part;
-use echo_tables::node_of;
+use echo_tables::Found;
+use echo_tables::looked_up;
+use lent::ANAME_LEN;
+use lent::ANAME_START;
+use lent::ANAMES;
+use lent::BYTES;
+use lent::FNAME_LEN;
+use lent::FNAME_START;
+use lent::FNAMES;
+use lent::FUNC_WIDTH;
+use lent::NAME_LEN;
+use lent::NAME_START;
+use lent::NAMES;
+use lent::NODES;
+use lent::NUMBERS;
+use lent::SIDE;
+use lent::VAR_WIDTH;
+use lent::count;
+use lent::get;
+use lent::node_of;
+use refusals::MAX_ENTRIES;
 use sliver_kernel::index_width;
 use sliver_kernel::value_width;
+ghost use mathlib.Core.Path.{_≡_};
+ghost use mathlib.Core.List.{[]};
+ghost use Prim.Native.Nat.{_<_};
+ghost use lib.ListN.{length, getD};
+ghost use Rattle.echo_spec.specs.Input.{namesOf};
+ghost use Rattle.echo_spec.specs.Tables.{variablesOf, arraysOf, functionsOf, declarationsOf};
+ghost use Rattle.echo_spec.specs.Render.{texts, variableText, arrayText, functionText};
+ghost use Rattle.lent.specs.Lent.{problemAt, dagAt};
+ghost use Rattle.echo_bytes.specs.Page.{page, start, written};
+ghost use Rattle.echo_decls.specs.Declarable.{Declarable};
+ghost use Rattle.echo_decls.specs.DeclaredLines.{variableLine, arrayLine, functionLine, opening};
+
+// The name of entry k of a table.
+fn entry_name<'a>(arena: &'a [u8], starts: &[u64], lens: &[u64], k: u64) -> &'a [u8]
+    requires { ⌜ k < length (now starts) ⌝ }
+    ensures { λ r. ⌜ now r ≡ getD (namesOf (now (arena .entry)) (now (starts .entry)) (now (lens .entry))) k [] ⌝ }
+{
+    part(arena, get(starts, k), get(lens, k))
+}
 
 // ---------------------------------------------------------------- variables
 
 // The line of variable k.
 fn push_var(
-    names: &[u8],
-    name_start: &[u64],
-    name_len: &[u64],
-    var_width: &[u64],
-    k: usize,
+    bytes: &[&[u8]; BYTES],
+    numbers: &[&[u64]; NUMBERS],
+    k: u64,
     p: Place,
     out: &mut [u8],
 ) -> Place
-    requires { ⌜ k < length (now «name_start») ⌝ }
-    requires { ⌜ (length (now «name_len») ≡ length (now «name_start»)) × (length (now «var_width») ≡ length (now «name_start»)) ⌝ }
-    ensures { λ r.
-        ⌜ page r (now (out .exit))
-        ≡ written (page p (now (out .entry)))
-        (variableLine (now (names .entry)) (now («name_start» .entry)) (now («name_len» .entry)) (now («var_width» .entry)) k)
-        ⌝ }
+    requires { ⌜ k < length (problemAt (now bytes) (now numbers) .name-start) ⌝ }
+    ensures { λ r. ⌜ page r (now (out .exit)) ≡ written (page p (now (out .entry))) (variableLine (dagAt (now (bytes .entry)) (now (numbers .entry))) k) ⌝ }
 {
-    let name = part(names, name_start[k], name_len[k]);
-    decl_var(name, var_width[k], p, out)
+    let name = entry_name(bytes[NAMES], numbers[NAME_START], numbers[NAME_LEN], k);
+    decl_var(name, get(numbers[VAR_WIDTH], k), p, out)
 }
 
-// The variables, in table order. Ruled out: the last variable left out; a variable with the width of the one before it.
-pub fn decl_vars(
-    names: &[u8],
-    name_start: &[u64],
-    name_len: &[u64],
-    var_width: &[u64],
-    p: Place,
-    out: &mut [u8],
-) -> Place
-    requires { ⌜ (length (now «name_len») ≡ length (now «name_start»)) × (length (now «var_width») ≡ length (now «name_start»)) ⌝ }
-    ensures { λ r.
-        ⌜ page r (now (out .exit))
-        ≡ written (page p (now (out .entry)))
-        (variableLines (now (names .entry)) (now («name_start» .entry)) (now («name_len» .entry)) (now («var_width» .entry)))
-        ⌝ }
+// The variables, in table order.
+fn decl_vars(bytes: &[&[u8]; BYTES], numbers: &[&[u64]; NUMBERS], p: Place, out: &mut [u8]) -> Place
+    ensures { λ r. ⌜ page r (now (out .exit))
+        ≡ written (page p (now (out .entry))) (texts variableText (variablesOf (dagAt (now (bytes .entry)) (now (numbers .entry))))) ⌝ }
 {
-    let n = name_start.len();
+    let n = count(numbers[NAME_START]);
     let mut q = p;
     let mut k = 0;
     while k < n {
-        q = push_var(names, name_start, name_len, var_width, k, q, out);
+        q = push_var(bytes, numbers, k, q, out);
         k += 1;
     }
     q
@@ -76,46 +88,36 @@ pub fn decl_vars(
 
 // The line of array k.
 fn push_array(
-    anames: &[u8],
-    aname_start: &[u64],
-    aname_len: &[u64],
-    k: usize,
+    bytes: &[&[u8]; BYTES],
+    numbers: &[&[u64]; NUMBERS],
+    k: u64,
     p: Place,
     out: &mut [u8],
 ) -> Place
-    requires { ⌜ k < length (now «aname_start») ⌝ }
-    requires { ⌜ length (now «aname_len») ≡ length (now «aname_start») ⌝ }
-    ensures { λ r.
-        ⌜ page r (now (out .exit))
-        ≡ written (page p (now (out .entry))) (arrayLine (now (anames .entry)) (now («aname_start» .entry)) (now («aname_len» .entry)) k)
-        ⌝ }
+    requires { ⌜ k < length (problemAt (now bytes) (now numbers) .aname-start) ⌝ }
+    ensures { λ r. ⌜ page r (now (out .exit)) ≡ written (page p (now (out .entry))) (arrayLine (dagAt (now (bytes .entry)) (now (numbers .entry))) k) ⌝ }
 {
-    let name = part(anames, aname_start[k], aname_len[k]);
-    let array = k as u64;
-    let index = index_width(array);
-    let value = value_width(array);
+    let name = entry_name(bytes[ANAMES], numbers[ANAME_START], numbers[ANAME_LEN], k);
+    let index = index_width(k);
+    let value = value_width(k);
     decl_array(name, index, value, p, out)
 }
 
-// The arrays, in table order. Ruled out: the arrays from the last to the first; an index as wide as a value.
-pub fn decl_arrays(
-    anames: &[u8],
-    aname_start: &[u64],
-    aname_len: &[u64],
+// The arrays, in table order.
+fn decl_arrays(
+    bytes: &[&[u8]; BYTES],
+    numbers: &[&[u64]; NUMBERS],
     p: Place,
     out: &mut [u8],
 ) -> Place
-    requires { ⌜ length (now «aname_len») ≡ length (now «aname_start») ⌝ }
-    ensures { λ r.
-        ⌜ page r (now (out .exit))
-        ≡ written (page p (now (out .entry))) (arrayLines (now (anames .entry)) (now («aname_start» .entry)) (now («aname_len» .entry)))
-        ⌝ }
+    ensures { λ r. ⌜ page r (now (out .exit))
+        ≡ written (page p (now (out .entry))) (texts arrayText (arraysOf (dagAt (now (bytes .entry)) (now (numbers .entry))))) ⌝ }
 {
-    let n = aname_start.len();
+    let n = count(numbers[ANAME_START]);
     let mut q = p;
     let mut k = 0;
     while k < n {
-        q = push_array(anames, aname_start, aname_len, k, q, out);
+        q = push_array(bytes, numbers, k, q, out);
         k += 1;
     }
     q
@@ -123,89 +125,81 @@ pub fn decl_arrays(
 
 // ---------------------------------------------------------------- functions
 
-// The first call of function g, which has one among the nodes.
-fn first_call(nodes: &[u8], first: &[u64; 512], g: usize) -> Node
-    requires { ⌜ g < 512 ⌝ }
-    requires { ⌜ Calls (nodesOf (now nodes)) (now first) ⌝ }
-    requires { ⌜ 0 < orZero (find-call (nodesOf (now nodes)) g) ⌝ }
-    ensures { λ r. ⌜ nodeOf r ≡ firstCall (nodesOf (now (nodes .entry))) g ⌝ }
-{
-    node_of(nodes, first[g] - 1)
-}
-
 // The line of function g, with the signature of its first call.
 fn push_func(
-    nodes: &[u8],
-    side: &[u64],
+    bytes: &[&[u8]; BYTES],
+    numbers: &[&[u64]; NUMBERS],
     ws: &[u64],
-    fnames: &[u8],
-    fname_start: &[u64],
-    fname_len: &[u64],
-    func_width: &[u64],
-    first: &[u64; 512],
-    g: usize,
+    first: &[u64; MAX_ENTRIES],
+    g: u64,
     p: Place,
     out: &mut [u8],
 ) -> Place
-    requires { ⌜ (g < length (now «fname_start»)) × (length (now «fname_start») ≤ 512) ⌝ }
-    requires { ⌜ (length (now «fname_len») ≡ length (now «fname_start»)) × (length (now «func_width») ≡ length (now «fname_start»)) ⌝ }
-    requires { ⌜ Calls (nodesOf (now nodes)) (now first) ⌝ }
-    requires { ⌜ Called (nodesOf (now nodes)) (now side) (length (now «fname_start»)) ⌝ }
-    ensures { λ r.
-        ⌜ page r (now (out .exit))
-        ≡ written (page p (now (out .entry)))
-        (functionLine (now (nodes .entry)) (now (side .entry)) (now (ws .entry)) (now (fnames .entry)) (now («fname_start» .entry))
-        (now («fname_len» .entry)) (now («func_width» .entry)) g)
-        ⌝ }
+    requires { ⌜ (g < length (problemAt (now bytes) (now numbers) .fname-start)) × Declarable (now bytes) (now numbers) (now first) ⌝ }
+    ensures { λ r. ⌜ page r (now (out .exit))
+        ≡ written (page p (now (out .entry))) (functionLine (dagAt (now (bytes .entry)) (now (numbers .entry))) (now (ws .entry)) g) ⌝ }
 {
-    let name = part(fnames, fname_start[g], fname_len[g]);
-    let n = first_call(nodes, first, g);
-    decl_func(name, ws, side, n.c, n.d, func_width[g], p, out)
+    // (Each function has a first call.)
+    let Found::At(c) = looked_up(first, g) else {
+        return p;
+    };
+    let call = node_of(bytes[NODES], c as u64);
+    let name = entry_name(bytes[FNAMES], numbers[FNAME_START], numbers[FNAME_LEN], g);
+    decl_func(
+        name,
+        ws,
+        numbers[SIDE],
+        call.c,
+        call.d,
+        get(numbers[FUNC_WIDTH], g),
+        p,
+        out,
+    )
 }
 
-// The functions, in table order, each with the signature of its first call. Ruled out: the signature of another function's call; a function that is
-// declared twice.
-pub fn decl_funcs(
-    nodes: &[u8],
-    side: &[u64],
+// The functions, in table order, each with the signature of its first call.
+fn decl_funcs(
+    bytes: &[&[u8]; BYTES],
+    numbers: &[&[u64]; NUMBERS],
     ws: &[u64],
-    fnames: &[u8],
-    fname_start: &[u64],
-    fname_len: &[u64],
-    func_width: &[u64],
-    first: &[u64; 512],
+    first: &[u64; MAX_ENTRIES],
     p: Place,
     out: &mut [u8],
 ) -> Place
-    requires { ⌜ length (now «fname_start») ≤ 512 ⌝ }
-    requires { ⌜ (length (now «fname_len») ≡ length (now «fname_start»)) × (length (now «func_width») ≡ length (now «fname_start»)) ⌝ }
-    requires { ⌜ Calls (nodesOf (now nodes)) (now first) ⌝ }
-    requires { ⌜ Called (nodesOf (now nodes)) (now side) (length (now «fname_start»)) ⌝ }
-    ensures { λ r.
-        ⌜ page r (now (out .exit))
+    requires { ⌜ Declarable (now bytes) (now numbers) (now first) ⌝ }
+    ensures { λ r. ⌜ page r (now (out .exit))
         ≡ written (page p (now (out .entry)))
-        (functionLines (now (nodes .entry)) (now (side .entry)) (now (ws .entry)) (now (fnames .entry)) (now («fname_start» .entry))
-        (now («fname_len» .entry)) (now («func_width» .entry)))
-        ⌝ }
+        (texts functionText (functionsOf (dagAt (now (bytes .entry)) (now (numbers .entry))) (now (ws .entry)))) ⌝ }
 {
-    let n = fname_start.len();
+    let n = count(numbers[FNAME_START]);
     let mut q = p;
     let mut g = 0;
     while g < n {
-        q = push_func(
-            nodes,
-            side,
-            ws,
-            fnames,
-            fname_start,
-            fname_len,
-            func_width,
-            first,
-            g,
-            q,
-            out,
-        );
+        q = push_func(bytes, numbers, ws, first, g, q, out);
         g += 1;
     }
     q
+}
+
+// ---------------------------------------------------------------- all declarations
+
+// The lines before the roots, from the start of the buffer on: the logic, the variables, the arrays, the functions.
+// Ruled out: the last variable left out; a function with the signature of another function's call.
+pub fn declare(
+    bytes: &[&[u8]; BYTES],
+    numbers: &[&[u64]; NUMBERS],
+    ws: &[u64],
+    first: &[u64; MAX_ENTRIES],
+    out: &mut [u8],
+) -> Place
+    requires { ⌜ Declarable (now bytes) (now numbers) (now first) ⌝ }
+    ensures { λ r. ⌜ page r (now (out .exit))
+        ≡ written (page start (now (out .entry))) (opening (declarationsOf (dagAt (now (bytes .entry)) (now (numbers .entry))) (now (ws .entry)))) ⌝ }
+{
+    let arrays = count(numbers[ANAME_START]) as usize;
+    let functions = count(numbers[FNAME_START]) as usize;
+    let logic = push_logic(arrays, functions, start(), out);
+    let vars_declared = decl_vars(bytes, numbers, logic, out);
+    let arrays_declared = decl_arrays(bytes, numbers, vars_declared, out);
+    decl_funcs(bytes, numbers, ws, first, arrays_declared, out)
 }

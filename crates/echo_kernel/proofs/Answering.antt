@@ -1,4 +1,4 @@
--- What each way out of `echo_ext` answers. Assumes nothing.
+-- What each way out of an entry point answers, of any text with its number with endless room. Assumes nothing.
 use Prim.Native.Nat.{ℕ, zero, suc, _+_, _^_, _≤_, _<_}
 use mathlib.Core.Path.{_≡_, refl, sym, ap, _∙_}
 use mathlib.Core.List.{List, _++_}
@@ -9,54 +9,36 @@ use lib.Dec.{leb}
 use lib.ListN.{length, drop, replicate}
 use Rattle.echo_spec.specs.Refusals.{unless, _orElse_}
 use Rattle.echo_spec.specs.Input.{Problem, withinLimits, encoded, dagOf, queryOf}
-use Rattle.echo_spec.specs.Walk.{refusal}
 use Rattle.echo_spec.specs.Widths.{ext-wf}
-use Rattle.echo_spec.specs.Answers.{zeroed, script, echoRefusal, echoAnswer, echo-ext-answer}
+use Rattle.echo_spec.specs.Walk.{refusal}
+use Rattle.echo_spec.specs.Answers.{zeroed, script, endlessWith, endlessRefusal, textRefusal, echoAnswer, textAnswer, echo-ext-answer}
 use Rattle.echo_spec.specs.Accepted.{refusal-bound, orElse-either, unless-bound}
 use Rattle.echo_bytes.specs.declared.Place.{Place}
 use Rattle.echo_bytes.specs.Page.{Page, page, start, written}
 use Rattle.echo_bytes.specs.Laws.{need-exact, written-fits}
-use Rattle.echo_walk.specs.declared.Out.{Out}
-use Rattle.echo_walk.specs.declared.Out.the-variants as out
-use Rattle.echo_walk.specs.Texts.{outcome}
-use Rattle.echo_walk.specs.Lent.{Wrote}
-use Rattle.echo_kernel.specs.declared.EchoError.{EchoError}
-use Rattle.echo_kernel.specs.declared.EchoError.the-variants.{Room}
+use Rattle.refusals.specs.declared.EchoError.{EchoError}
+use Rattle.refusals.specs.declared.EchoError.the-variants.{Room}
+use Rattle.refusals.specs.Numbers.{errorNumber}
+use Rattle.echo_kernel.specs.declared.Out.{Out}
+use Rattle.echo_kernel.specs.declared.Out.the-variants as out
 use Rattle.echo_kernel.specs.declared.Echo.the-variants.{Printed, Refused}
-use Rattle.echo_kernel.specs.Scripts.{checks, checkedText}
-use Rattle.echo_kernel.specs.Outcomes.{errorNumber, answered}
+use Rattle.echo_kernel.specs.Outcomes.{Wrote, answered}
 
 -- ---------------------------------------------------------------- the numbers
 
-orElse-assoc : (a b c : ℕ) → (a orElse b) orElse c ≡ a orElse (b orElse c)
-orElse-assoc zero b c = refl
-orElse-assoc (suc a) b c = refl
-
--- the want of room comes last
-room-last : (p : Problem) (room : ℕ) → echoRefusal p room ≡ (checks p orElse unless (leb (length (script (queryOf p))) room) 10)
-unfolding echoRefusal checks
-room-last p room =
-    let A : ℕ = unless (withinLimits p) 9 in
-    let B : ℕ = unless (encoded (p .nodes) (p .bits)) 8 in
-    let C : ℕ = refusal (dagOf p) (length (p .bits)) (p .roots) in
-    let D : ℕ = unless (leb (length (script (queryOf p))) room) 10 in
-    sym (orElse-assoc A (B orElse C) D ∙ ap (λ (x : ℕ). A orElse x) (orElse-assoc B C D))
-
-checks-bound : (p : Problem) → checks p ≤ 9
-unfolding checks
-checks-bound p =
-    let ws : List ℕ = ext-wf (length (p .bits)) (dagOf p .side) (dagOf p .nodes) in
+endless-bound : (p : Problem) → endlessRefusal p ≤ 9
+unfolding endlessRefusal endlessWith
+endless-bound p =
     orElse-either (unless (withinLimits p) 9) (unless (encoded (p .nodes) (p .bits)) 8 orElse refusal (dagOf p) (length (p .bits)) (p .roots)) 9
     (unless-bound (withinLimits p) 9 9 (omega arith))
     (orElse-either (unless (encoded (p .nodes) (p .bits)) 8) (refusal (dagOf p) (length (p .bits)) (p .roots)) 9
     (unless-bound (encoded (p .nodes) (p .bits)) 8 9 (omega arith))
-    (omega (arith, refusal-bound (dagOf p) ws (p .roots))))
+    (omega (arith, refusal-bound (dagOf p) (ext-wf (length (p .bits)) (dagOf p .side) (dagOf p .nodes)) (p .roots))))
 
 -- ---------------------------------------------------------------- what was written
 
 module _ {pg : Page} {o : Out} {l : List ℕ} where
-  outcome-refused : (n : ℕ) (t : List ℕ) {e : ℕ} → Wrote (outcome n t) pg o l → o ≡ out.Refused e → (n ≡ e) × (0 < e)
-  unfolding outcome
+  outcome-refused : (n : ℕ) (t : List ℕ) {e : ℕ} → Wrote n t pg o l → o ≡ out.Refused e → (n ≡ e) × (0 < e)
   outcome-refused zero t {e} w f =
       let h : o ≡ out.Done (written pg t .place) = w .told .0 in let z : _≡_ {A = ℕ} 0 1 = cc in absurd (omega arith)
   outcome-refused (suc n) t {e} w f =
@@ -64,8 +46,7 @@ module _ {pg : Page} {o : Out} {l : List ℕ} where
       let a : suc n ≡ e = cc in
       (a, omega arith)
 
-  outcome-done : (n : ℕ) (t : List ℕ) {q : Place} → Wrote (outcome n t) pg o l → o ≡ out.Done q → (n ≡ 0) × (page q l ≡ written pg t)
-  unfolding outcome
+  outcome-done : (n : ℕ) (t : List ℕ) {q : Place} → Wrote n t pg o l → o ≡ out.Done q → (n ≡ 0) × (page q l ≡ written pg t)
   outcome-done zero t {q} w f =
       let h : o ≡ out.Done (written pg t .place) = w .told .0 in
       let a : q ≡ written pg t .place = cc in
@@ -80,47 +61,41 @@ refused-answer (suc n) result lent h = refl
 
 -- ---------------------------------------------------------------- the ways out
 
-module _ (p : Problem) {lent l : List ℕ} {o : Out} (w : Wrote (checkedText p) (page start lent) o l) where
-  abbrev text : List ℕ
-  text = script (queryOf p)
-
-  told : {x : ℕ} → o ≡ out.Refused x → (checks p ≡ x) × (0 < x)
-  unfolding checkedText
-  told f = outcome-refused (checks p) text w f
-
-  pub listed : {x : ℕ} → o ≡ out.Refused x → (0 < x) × (x ≤ 10)
-  listed f = let t = told f in (t .1, omega (arith, t .0, checks-bound p))
+module _ (number : ℕ) (text : List ℕ) {lent l : List ℕ} {o : Out} (w : Wrote number text (page start lent) o l) where
+  told : {x : ℕ} → o ≡ out.Refused x → (number ≡ x) × (0 < x)
+  told f = outcome-refused number text w f
 
   -- by the number that a cleared buffer goes with
-  cleared : {n : ℕ} (e : EchoError) {end : List ℕ} → echoRefusal p (length lent) ≡ n → 0 < n → errorNumber e ≡ n → end ≡ zeroed l → length l ≡ length lent
-      → answered (Refused e) end ≡ echo-ext-answer p lent
-  unfolding echo-ext-answer
+  cleared : {n : ℕ} (e : EchoError) {end : List ℕ} → textRefusal number text (length lent) ≡ n → 0 < n → errorNumber e ≡ n → end ≡ zeroed l
+      → length l ≡ length lent → answered (Refused e) end ≡ textAnswer number text lent
+  unfolding textAnswer
   cleared {n} e {end} f h k z s =
       (λ i. record { number = k i; count = 0; output = (z ∙ ap (λ (m : ℕ). replicate m 0) s) i })
       ∙ sym (refused-answer n text lent h) ∙ ap (λ (m : ℕ). echoAnswer m text lent) (sym f)
 
   pub answer-refused : {x : ℕ} (e : EchoError) {end : List ℕ} → o ≡ out.Refused x → errorNumber e ≡ x → end ≡ zeroed l → length l ≡ length lent
-      → answered (Refused e) end ≡ echo-ext-answer p lent
+      → answered (Refused e) end ≡ textAnswer number text lent
+  unfolding textRefusal
   answer-refused {x} e f k z s =
       let t = told f in
-      cleared e (room-last p (length lent) ∙ ap (λ (n : ℕ). n orElse unless (leb (length text) (length lent)) 10) (t .0) ∙ first x (t .1)) (t .1) k z s
+      cleared e (ap (λ (n : ℕ). n orElse unless (leb (length text) (length lent)) 10) (t .0) ∙ first x (t .1)) (t .1) k z s
     where
       first : (x : ℕ) → 0 < x → (x orElse unless (leb (length text) (length lent)) 10) ≡ x
       first zero h = absurd (omega arith)
       first (suc x) h = refl
 
   module _ {q : Place} (f : o ≡ out.Done q) (small : length lent < 2 ^ 63) where
-    done : (checks p ≡ 0) × (page q l ≡ written (page start lent) text)
-    unfolding checkedText
-    done = outcome-done (checks p) text w f
+    done : (number ≡ 0) × (page q l ≡ written (page start lent) text)
+    done = outcome-done number text w f
 
     needed : q .need ≡ written (page start lent) text .place .need
     needed = ap (λ (z : Page). z .place .need) (done .1)
 
-    number-done : echoRefusal p (length lent) ≡ unless (leb (length text) (length lent)) 10
-    number-done = room-last p (length lent) ∙ ap (λ (n : ℕ). n orElse unless (leb (length text) (length lent)) 10) (done .0)
+    number-done : textRefusal number text (length lent) ≡ unless (leb (length text) (length lent)) 10
+    unfolding textRefusal
+    number-done = ap (λ (n : ℕ). n orElse unless (leb (length text) (length lent)) 10) (done .0)
 
-    pub answer-room : {end : List ℕ} → length l < q .need → end ≡ zeroed l → length l ≡ length lent → answered (Refused Room) end ≡ echo-ext-answer p lent
+    pub answer-room : {end : List ℕ} → length l < q .need → end ≡ zeroed l → length l ≡ length lent → answered (Refused Room) end ≡ textAnswer number text lent
     answer-room m z s =
         let long : length lent < length text = longer in
         cleared Room (number-done ∙ ap (λ b. unless b 10) (lt-leb (length text) (length lent) long)) (omega arith) refl z s
@@ -135,10 +110,15 @@ module _ (p : Problem) {lent l : List ℕ} {o : Out} (w : Wrote (checkedText p) 
             go (yes h) = absurd (fits h)
             go (no h) = omega arith
 
-    pub answer-printed : q .need ≤ length l → length l ≡ length lent → answered (Printed (q .need)) l ≡ echo-ext-answer p lent
-    unfolding echo-ext-answer echoAnswer
+    pub answer-printed : q .need ≤ length l → length l ≡ length lent → answered (Printed (q .need)) l ≡ textAnswer number text lent
+    unfolding textAnswer echoAnswer
     answer-printed m s =
         let h : length text ≤ length lent = need-exact lent text small .0 (omega (arith, needed, m, s)) in
         let e : page q l ≡ page (record { at = length text; need = length text }) (text ++ drop (length text) lent) = done .1 ∙ written-fits lent text small h in
-        let n : echoRefusal p (length lent) ≡ 0 = number-done ∙ ap (λ b. unless b 10) (le-leb (length text) (length lent) h) in
+        let n : textRefusal number text (length lent) ≡ 0 = number-done ∙ ap (λ b. unless b 10) (le-leb (length text) (length lent) h) in
         (λ i. record { number = 0; count = e i .place .need; output = e i .bytes }) ∙ ap (λ (k : ℕ). echoAnswer k text lent) (sym n)
+
+-- the plain script's number is listed
+pub listed : (p : Problem) {text lent l : List ℕ} {o : Out} → Wrote (endlessRefusal p) text (page start lent) o l → {x : ℕ} → o ≡ out.Refused x
+    → (0 < x) × (x ≤ 10)
+listed p {text} w f = let t = told (endlessRefusal p) text w f in (t .1, omega (arith, t .0, endless-bound p))

@@ -1,17 +1,42 @@
 // The script, and the printer's entry point `echo_ext` (ordeal's "THE SCRIPT").
+//
+// An entry point takes the inputs as plain slices and makes the two arrays of the lent problem; everything inside takes the arrays.
 use echo_bytes::Place;
-use echo_walk::Out;
+use echo_walk::SYMBOLS;
+use echo_walk::TABLES;
+use lent::BITS;
+use lent::BYTES;
+use lent::NODES;
+use lent::NUMBERS;
+use lent::ROOTS;
+use lent::SIDE;
+use lent::VAR_NODE;
+use lent::clear_bytes;
+use lent::node_count;
+use lent::size;
+use refusals::ENCODING;
+use refusals::EchoError;
+use refusals::LIMIT;
+use refusals::MALFORMED;
+use refusals::MAX_ENTRIES;
+use refusals::MAX_NODES;
+use refusals::NAME;
+use refusals::SHARED;
+use refusals::SIGNATURE;
+use refusals::VAR;
 ghost use mathlib.Core.Path.{_≡_};
 ghost use Prim.Native.Nat.{ℕ, _+_, _≤_, _<_};
 ghost use lib.ListN.{length, getD};
-ghost use mathlib.Core.List.{[]};
+ghost use Rattle.lent.specs.Lent.{problemAt, dagAt, problemOf};
 ghost use Rattle.echo_bytes.specs.Page.{page, start, after, written};
-ghost use Rattle.echo_walk.specs.Lent.{textAt, Ready, Wrote};
-ghost use Rattle.echo_spec.specs.Answers.{zeroed, echo-ext-answer};
-ghost use Rattle.echo_checks.specs.Given.{problemOf};
-ghost use Rattle.echo_kernel.specs.Scripts.{rootText, rootsText, printText, tablesText, checkedText};
-ghost use Rattle.echo_kernel.specs.Outcomes.{errorNumber, answered};
-ghost use Rattle.echo_kernel.specs.Prepared.{Prepared, Formed, Declarable, opening};
+ghost use Rattle.echo_walk.specs.Ready.{textAt, Ready, Fine};
+ghost use Rattle.echo_spec.specs.Input.{queryOf};
+ghost use Rattle.echo_spec.specs.Answers.{script, endlessRefusal, echo-ext-answer};
+ghost use Rattle.echo_kernel.specs.Scripts.{rootText, rootsText, AllFine, plainScript, tablesRefusal};
+ghost use Rattle.echo_kernel.specs.Outcomes.{Wrote, answered};
+ghost use Rattle.echo_kernel.specs.Prepared.{Prepared, WellFormed};
+
+// ---------------------------------------------------------------- roots
 
 // A place in the rest of the buffer from p on, as a place in the whole.
 fn place_after(p: Place, q: Place) -> Place
@@ -26,16 +51,21 @@ fn place_after(p: Place, q: Place) -> Place
 }
 
 // One root as an assertion, at the start of what is lent.
-fn echo_root(text: &[&[u8]; 6], numbers: &[&[u64]; 13], root: u64, out: &mut [u8]) -> Out
-    requires { ⌜ Ready (now text) (now numbers) ⌝ }
-    ensures { λ r. ⌜ Wrote (rootText (textAt (now (text .entry)) (now (numbers .entry))) root) (page start (now (out .entry))) r (now (out .exit)) ⌝ }
+fn echo_root(
+    bytes: &[&[u8]; BYTES],
+    numbers: &[&[u64]; NUMBERS],
+    tables: &[&[u64]; TABLES],
+    symbols: &[u8; SYMBOLS],
+    root: u64,
+    out: &mut [u8],
+) -> Place
+    requires { ⌜ Ready (now bytes) (now numbers) (now tables) (now symbols) × Fine (now bytes) (now numbers) (now tables) root ⌝ }
+    ensures { λ r. ⌜ page r (now (out .exit)) ≡ written (page start (now (out .entry))) (rootText (textAt (now (bytes .entry)) (now (numbers .entry)) (now (tables .entry))) root) ⌝ }
 {
     let p = echo_bytes::start();
-    let q = echo_lines::open_assert(p, out);
-    match echo_walk::echo_node(text, numbers, root, true, q, out) {
-        Out::Refused(e) => Out::Refused(e),
-        Out::Done(r) => Out::Done(echo_lines::close_line(r, out)),
-    }
+    let q = p.word(out, b"(assert");
+    let r = echo_walk::echo_node(bytes, numbers, tables, symbols, root, q, out);
+    echo_lines::close_line(r, out)
 }
 
 // Root k.
@@ -46,346 +76,119 @@ fn root_at(roots: &[u64], k: usize) -> u64
     roots[k]
 }
 
-// The roots in order, each written into the rest of the buffer. The first refusal ends it; a full buffer does not.
+// The roots in order, each written into the rest of the buffer. A full buffer stops nothing.
 fn echo_roots(
-    text: &[&[u8]; 6],
-    numbers: &[&[u64]; 13],
+    bytes: &[&[u8]; BYTES],
+    numbers: &[&[u64]; NUMBERS],
+    tables: &[&[u64]; TABLES],
+    symbols: &[u8; SYMBOLS],
     roots: &[u64],
     p: Place,
     out: &mut [u8],
-) -> Out
-    requires { ⌜ Ready (now text) (now numbers) × (p .at ≤ length (now out)) ⌝ }
-    ensures { λ r. ⌜ Wrote (rootsText (textAt (now (text .entry)) (now (numbers .entry))) (now (roots .entry))) (page p (now (out .entry))) r (now (out .exit)) ⌝ }
+) -> Place
+    requires { ⌜ Ready (now bytes) (now numbers) (now tables) (now symbols) × AllFine (now bytes) (now numbers) (now tables) (now roots) × (p .at ≤ length (now out)) ⌝ }
+    ensures { λ r. ⌜ page r (now (out .exit)) ≡ written (page p (now (out .entry))) (rootsText (textAt (now (bytes .entry)) (now (numbers .entry)) (now (tables .entry))) (now (roots .entry))) ⌝ }
 {
     let mut q = p;
     let mut k = 0;
     while k < roots.len() {
         let at = q.at;
-        match echo_root(text, numbers, root_at(roots, k), &mut out[at..]) {
-            Out::Refused(e) => return Out::Refused(e),
-            Out::Done(r) => {
-                q = place_after(q, r);
-            }
-        }
+        let r = echo_root(
+            bytes,
+            numbers,
+            tables,
+            symbols,
+            root_at(roots, k),
+            &mut out[at..],
+        );
+        q = place_after(q, r);
         k += 1;
     }
-    Out::Done(q)
+    q
 }
 
 // ---------------------------------------------------------------- the script
 
-// The lines before the roots.
-fn declare(
-    nodes: &[u8],
-    side: &[u64],
-    ws: &[u64],
-    names: &[u8],
-    name_start: &[u64],
-    name_len: &[u64],
-    var_width: &[u64],
-    anames: &[u8],
-    aname_start: &[u64],
-    aname_len: &[u64],
-    fnames: &[u8],
-    fname_start: &[u64],
-    fname_len: &[u64],
-    func_width: &[u64],
-    first: &[u64; 512],
+// The script of a problem that passed every check but the one for room, with the tables that were filled.
+fn print<'a>(
+    bytes: &[&[u8]; BYTES],
+    numbers: &[&[u64]; NUMBERS],
+    ws: &'a [u64],
+    entries: &'a [u64; MAX_NODES],
+    codes: &'a [u64; MAX_NODES],
+    first: &[u64; MAX_ENTRIES],
     out: &mut [u8],
 ) -> Place
-    requires { ⌜ Declarable (now nodes) (now side) (now «name_start») (now «name_len») (now «var_width») (now «aname_start») (now «aname_len») (now «fname_start») (now «fname_len») (now «func_width») (now first) ⌝ }
-    ensures { λ r. ⌜ page r (now (out .exit)) ≡ written (page start (now (out .entry))) (opening (problemOf (now (nodes .entry)) [] (now (side .entry)) [] (now (names .entry)) (now («name_start» .entry)) (now («name_len» .entry)) [] (now («var_width» .entry)) (now (anames .entry)) (now («aname_start» .entry)) (now («aname_len» .entry)) (now (fnames .entry)) (now («fname_start» .entry)) (now («fname_len» .entry)) (now («func_width» .entry))) (now (ws .entry))) ⌝ }
+    requires { ⌜ Prepared (now bytes) (now numbers) (now ws) (now entries) (now codes) (now first) ⌝ }
+    ensures { λ r. ⌜ page r (now (out .exit)) ≡ written (page start (now (out .entry))) (plainScript (problemAt (now (bytes .entry)) (now (numbers .entry))) (now (ws .entry))) ⌝ }
 {
-    let p = echo_bytes::start();
-    let logic = echo_lines::push_logic(aname_start.len(), fname_start.len(), p, out);
-    let variables = echo_decls::decl_vars(names, name_start, name_len, var_width, logic, out);
-    let arrays = echo_decls::decl_arrays(anames, aname_start, aname_len, variables, out);
-    echo_decls::decl_funcs(
-        nodes,
-        side,
-        ws,
-        fnames,
-        fname_start,
-        fname_len,
-        func_width,
-        first,
-        arrays,
-        out,
-    )
+    let symbols = echo_lines::symbol_table();
+    let p = echo_decls::declare(bytes, numbers, ws, first, out);
+    let tables = [ws, entries, codes];
+    let q = echo_roots(bytes, numbers, &tables, &symbols, numbers[ROOTS], p, out);
+    echo_lines::check_sat(q, out)
 }
 
-// The script of a problem that passed the checks before the walk. The walk's two arrays are made here, where its tables have the slices' lifetime.
-fn print<'a>(
-    nodes: &'a [u8],
-    bits: &'a [u8],
-    side: &'a [u64],
-    roots: &'a [u64],
-    names: &'a [u8],
-    name_start: &'a [u64],
-    name_len: &'a [u64],
-    var_node: &'a [u64],
-    var_width: &'a [u64],
-    anames: &'a [u8],
-    aname_start: &'a [u64],
-    aname_len: &'a [u64],
-    fnames: &'a [u8],
-    fname_start: &'a [u64],
-    fname_len: &'a [u64],
-    func_width: &'a [u64],
-    ws: &'a [u64],
-    entry: &'a [u64; 2048],
-    asked: &'a [u64; 2048],
-    symbols: &'a [u8; 481],
-    first: &[u64; 512],
-    out: &mut [u8],
-) -> Out
-    requires { ⌜ Prepared (problemOf (now nodes) (now bits) (now side) (now roots) (now names) (now «name_start») (now «name_len») (now «var_node») (now «var_width») (now anames) (now «aname_start») (now «aname_len») (now fnames) (now «fname_start») (now «fname_len») (now «func_width»)) (now ws) (now entry) (now asked) (now symbols) (now first) ⌝ }
-    ensures { λ r. ⌜ Wrote (printText (problemOf (now (nodes .entry)) (now (bits .entry)) (now (side .entry)) (now (roots .entry)) (now (names .entry)) (now («name_start» .entry)) (now («name_len» .entry)) (now («var_node» .entry)) (now («var_width» .entry)) (now (anames .entry)) (now («aname_start» .entry)) (now («aname_len» .entry)) (now (fnames .entry)) (now («fname_start» .entry)) (now («fname_len» .entry)) (now («func_width» .entry))) (now (ws .entry))) (page start (now (out .entry))) r (now (out .exit)) ⌝ }
-{
-    let p = declare(
-        nodes,
-        side,
-        ws,
-        names,
-        name_start,
-        name_len,
-        var_width,
-        anames,
-        aname_start,
-        aname_len,
-        fnames,
-        fname_start,
-        fname_len,
-        func_width,
-        first,
-        out,
-    );
-    let text = [nodes, bits, names, anames, fnames, symbols];
-    let numbers = [
-        side,
-        ws,
-        name_start,
-        name_len,
-        var_node,
-        var_width,
-        aname_start,
-        aname_len,
-        fname_start,
-        fname_len,
-        func_width,
-        entry,
-        asked,
-    ];
-    match echo_roots(&text, &numbers, roots, p, out) {
-        Out::Refused(e) => Out::Refused(e),
-        Out::Done(q) => Out::Done(echo_lines::check_sat(q, out)),
-    }
-}
+// ---------------------------------------------------------------- the checks
 
-// ---------------------------------------------------------------- the checks before the walk
+// What was written, or the number of a refusal.
+enum Out {
+    Done(Place),
+    Refused(u64),
+}
 
 // From the columns on: the nodes are well formed and have these widths.
-fn tables<'a>(
-    nodes: &'a [u8],
-    bits: &'a [u8],
-    side: &'a [u64],
-    roots: &'a [u64],
-    names: &'a [u8],
-    name_start: &'a [u64],
-    name_len: &'a [u64],
-    var_node: &'a [u64],
-    var_width: &'a [u64],
-    anames: &'a [u8],
-    aname_start: &'a [u64],
-    aname_len: &'a [u64],
-    fnames: &'a [u8],
-    fname_start: &'a [u64],
-    fname_len: &'a [u64],
-    func_width: &'a [u64],
-    ws: &'a [u64],
-    out: &mut [u8],
-) -> Out
-    requires { ⌜ Formed (problemOf (now nodes) (now bits) (now side) (now roots) (now names) (now «name_start») (now «name_len») (now «var_node») (now «var_width») (now anames) (now «aname_start») (now «aname_len») (now fnames) (now «fname_start») (now «fname_len») (now «func_width»)) (now ws) ⌝ }
-    ensures { λ r. ⌜ Wrote (tablesText (problemOf (now (nodes .entry)) (now (bits .entry)) (now (side .entry)) (now (roots .entry)) (now (names .entry)) (now («name_start» .entry)) (now («name_len» .entry)) (now («var_node» .entry)) (now («var_width» .entry)) (now (anames .entry)) (now («aname_start» .entry)) (now («aname_len» .entry)) (now (fnames .entry)) (now («fname_start» .entry)) (now («fname_len» .entry)) (now («func_width» .entry))) (now (ws .entry))) (page start (now (out .entry))) r (now (out .exit)) ⌝ }
+fn tables(bytes: &[&[u8]; BYTES], numbers: &[&[u64]; NUMBERS], ws: &[u64], out: &mut [u8]) -> Out
+    requires { ⌜ WellFormed (problemAt (now bytes) (now numbers)) (now ws) ⌝ }
+    ensures { λ r. ⌜ Wrote (tablesRefusal (problemAt (now (bytes .entry)) (now (numbers .entry))) (now (ws .entry))) (plainScript (problemAt (now (bytes .entry)) (now (numbers .entry))) (now (ws .entry))) (page start (now (out .entry))) r (now (out .exit)) ⌝ }
 {
-    if !echo_checks::columns_ok(
-        name_start,
-        name_len,
-        var_node,
-        var_width,
-        aname_start,
-        aname_len,
-        fname_start,
-        fname_len,
-        func_width,
-    ) {
-        return Out::Refused(1);
+    if !echo_checks::columns_ok(bytes, numbers) {
+        return Out::Refused(MALFORMED);
     }
-    if !echo_checks::names_ok(
-        names,
-        name_start,
-        name_len,
-        anames,
-        aname_start,
-        aname_len,
-        fnames,
-        fname_start,
-        fname_len,
-    ) {
-        return Out::Refused(2);
+    if !echo_checks::names_ok(bytes, numbers) {
+        return Out::Refused(NAME);
     }
-    if !echo_sharing::unshared(nodes, side, roots) {
-        return Out::Refused(6);
+    if !echo_sharing::unshared(bytes[NODES], numbers[SIDE], numbers[ROOTS]) {
+        return Out::Refused(SHARED);
     }
-    if !echo_checks::decl_vars_ok(var_width) {
-        return Out::Refused(4);
+    if !echo_checks::decl_vars_ok(bytes, numbers) {
+        return Out::Refused(VAR);
     }
-    let na = aname_start.len();
-    let nf = fname_start.len();
-    let mut first = [0u64; 512];
-    echo_tables::first_calls(nodes, &mut first);
-    if !echo_checks::decl_funcs_ok(nodes, side, ws, func_width, nf, &first) {
-        return Out::Refused(7);
+    let mut first = [0u64; MAX_ENTRIES];
+    echo_tables::first_calls(bytes[NODES], &mut first);
+    if !echo_checks::decl_funcs_ok(bytes, numbers, ws, &first) {
+        return Out::Refused(SIGNATURE);
     }
-    let mut entry = [0u64; 2048];
-    echo_tables::entries(var_node, &mut entry);
-    let mut asked = [0u64; 2048];
-    echo_tables::mark(
-        nodes,
-        side,
-        ws,
-        var_width,
-        na,
-        nf,
-        func_width,
-        &entry,
-        &first,
-        &mut asked,
-    );
-    let symbols = echo_lines::symbol_table();
-    print(
-        nodes,
-        bits,
-        side,
-        roots,
-        names,
-        name_start,
-        name_len,
-        var_node,
-        var_width,
-        anames,
-        aname_start,
-        aname_len,
-        fnames,
-        fname_start,
-        fname_len,
-        func_width,
-        ws,
-        &entry,
-        &asked,
-        &symbols,
-        &first,
-        out,
-    )
+    let mut entries = [0u64; MAX_NODES];
+    echo_tables::entries(numbers[VAR_NODE], &mut entries);
+    let mut codes = [0u64; MAX_NODES];
+    echo_tables::mark(bytes, numbers, ws, &entries, &first, &mut codes);
+    let e = echo_tables::roots_refused(bytes, numbers, ws, &codes, numbers[ROOTS]);
+    if e > 0 {
+        return Out::Refused(e);
+    }
+    Out::Done(print(bytes, numbers, ws, &entries, &codes, &first, out))
 }
 
-// Every check but the one for room, in order, and the script as far as it fits; the place has the length that is needed.
-fn checked<'a>(
-    nodes: &'a [u8],
-    bits: &'a [u8],
-    side: &'a [u64],
-    roots: &'a [u64],
-    names: &'a [u8],
-    name_start: &'a [u64],
-    name_len: &'a [u64],
-    var_node: &'a [u64],
-    var_width: &'a [u64],
-    anames: &'a [u8],
-    aname_start: &'a [u64],
-    aname_len: &'a [u64],
-    fnames: &'a [u8],
-    fname_start: &'a [u64],
-    fname_len: &'a [u64],
-    func_width: &'a [u64],
-    out: &mut [u8],
-) -> Out
-    ensures { λ r. ⌜ Wrote (checkedText (problemOf (now (nodes .entry)) (now (bits .entry)) (now (side .entry)) (now (roots .entry)) (now (names .entry)) (now («name_start» .entry)) (now («name_len» .entry)) (now («var_node» .entry)) (now («var_width» .entry)) (now (anames .entry)) (now («aname_start» .entry)) (now («aname_len» .entry)) (now (fnames .entry)) (now («fname_start» .entry)) (now («fname_len» .entry)) (now («func_width» .entry)))) (page start (now (out .entry))) r (now (out .exit)) ⌝ }
+// Every check but the one for room, in order, and then the script as far as it fits; the place has the length that is needed.
+fn checked(bytes: &[&[u8]; BYTES], numbers: &[&[u64]; NUMBERS], out: &mut [u8]) -> Out
+    ensures { λ r. ⌜ Wrote (endlessRefusal (problemAt (now (bytes .entry)) (now (numbers .entry)))) (script (queryOf (problemAt (now (bytes .entry)) (now (numbers .entry))))) (page start (now (out .entry))) r (now (out .exit)) ⌝ }
 {
-    if !echo_checks::within_limits(
-        nodes,
-        bits,
-        side,
-        roots,
-        names,
-        name_start,
-        name_len,
-        var_node,
-        var_width,
-        anames,
-        aname_start,
-        aname_len,
-        fnames,
-        fname_start,
-        fname_len,
-        func_width,
-    ) {
-        return Out::Refused(9);
+    if !echo_checks::within_limits(bytes, numbers) {
+        return Out::Refused(LIMIT);
     }
-    if !blast_kernel::encoded(nodes, bits) {
-        return Out::Refused(8);
+    if !blast_kernel::encoded(bytes[NODES], bytes[BITS]) {
+        return Out::Refused(ENCODING);
     }
-    let mut ws = [0u64; 2048];
-    let n = sliver_kernel::widths(nodes, bits.len(), side, &mut ws);
-    if n < blast_kernel::node_count(nodes) {
-        return Out::Refused(1);
+    let mut ws = [0u64; MAX_NODES];
+    let n = sliver_kernel::widths(bytes[NODES], size(bytes[BITS]), numbers[SIDE], &mut ws);
+    if n < node_count(bytes[NODES]) {
+        return Out::Refused(MALFORMED);
     }
-    tables(
-        nodes,
-        bits,
-        side,
-        roots,
-        names,
-        name_start,
-        name_len,
-        var_node,
-        var_width,
-        anames,
-        aname_start,
-        aname_len,
-        fnames,
-        fname_start,
-        fname_len,
-        func_width,
-        &ws[..n],
-        out,
-    )
+    tables(bytes, numbers, &ws[..n], out)
 }
 
 // ---------------------------------------------------------------- the entry point
-
-// Why a problem is refused: the Rust's seven, and three more.
-pub enum EchoError {
-    // A node is not well formed, columns of a table differ in length, a root is not a node, or a select or call is of none in the tables.
-    Malformed,
-    // A name is empty, has a byte that no quoted symbol has, is reserved, or is given twice.
-    Name,
-    // A Bool where a bit-vector is wanted, or the other way about.
-    Sort,
-    // A variable without an entry of its width, or an entry of width 0.
-    Var,
-    // A rotation by what is not a constant, or of a width over 65,536.
-    Rotate,
-    // An operator node is used more than once.
-    Shared,
-    // A function is not called, or is called in another way than by its first call.
-    Signature,
-    // The nodes or bits are encoded wrongly.
-    Encoding,
-    // An input is over its limit.
-    Limit,
-    // The script is longer than the lent buffer.
-    Room,
-}
 
 // What the printer answers: its number and length are `answered`'s.
 pub enum Echo {
@@ -394,32 +197,22 @@ pub enum Echo {
     Refused(EchoError),
 }
 
-fn error(e: u64) -> EchoError
-    requires { ⌜ (0 < e) × (e ≤ 10) ⌝ }
-    ensures { λ r. ⌜ errorNumber r ≡ e ⌝ }
+// The plain script of a lent problem.
+fn echo_plain(bytes: &[&[u8]; BYTES], numbers: &[&[u64]; NUMBERS], out: &mut [u8]) -> Echo
+    ensures { λ r. ⌜ answered r (now (out .exit)) ≡ echo-ext-answer (problemAt (now (bytes .entry)) (now (numbers .entry))) (now (out .entry)) ⌝ }
 {
-    match e {
-        1 => EchoError::Malformed,
-        2 => EchoError::Name,
-        3 => EchoError::Sort,
-        4 => EchoError::Var,
-        5 => EchoError::Rotate,
-        6 => EchoError::Shared,
-        7 => EchoError::Signature,
-        8 => EchoError::Encoding,
-        9 => EchoError::Limit,
-        _ => EchoError::Room,
-    }
-}
-
-// All of what was lent becomes 0.
-fn clear(out: &mut [u8])
-    ensures { λ _. ⌜ now (out .exit) ≡ zeroed (now (out .entry)) ⌝ }
-{
-    let mut i = 0;
-    while i < out.len() {
-        out[i] = 0;
-        i += 1;
+    match checked(bytes, numbers, out) {
+        Out::Refused(e) => {
+            clear_bytes(out);
+            Echo::Refused(refusals::error_of(e))
+        }
+        Out::Done(p) => {
+            if p.need > out.len() {
+                clear_bytes(out);
+                return Echo::Refused(EchoError::Room);
+            }
+            Echo::Printed(p.need)
+        }
     }
 }
 
@@ -446,35 +239,19 @@ pub fn echo_ext<'a>(
 ) -> Echo
     ensures { λ r. ⌜ answered r (now (out .exit)) ≡ echo-ext-answer (problemOf (now (nodes .entry)) (now (bits .entry)) (now (side .entry)) (now (roots .entry)) (now (names .entry)) (now («name_start» .entry)) (now («name_len» .entry)) (now («var_node» .entry)) (now («var_width» .entry)) (now (anames .entry)) (now («aname_start» .entry)) (now («aname_len» .entry)) (now (fnames .entry)) (now («fname_start» .entry)) (now («fname_len» .entry)) (now («func_width» .entry))) (now (out .entry)) ⌝ }
 {
-    match checked(
-        nodes,
-        bits,
+    let bytes = [nodes, bits, names, anames, fnames];
+    let numbers = [
         side,
         roots,
-        names,
         name_start,
         name_len,
         var_node,
         var_width,
-        anames,
         aname_start,
         aname_len,
-        fnames,
         fname_start,
         fname_len,
         func_width,
-        out,
-    ) {
-        Out::Refused(e) => {
-            clear(out);
-            Echo::Refused(error(e))
-        }
-        Out::Done(p) => {
-            if p.need > out.len() {
-                clear(out);
-                return Echo::Refused(EchoError::Room);
-            }
-            Echo::Printed(p.need)
-        }
-    }
+    ];
+    echo_plain(&bytes, &numbers, out)
 }

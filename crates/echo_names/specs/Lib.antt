@@ -1,4 +1,4 @@
 pub mod Steps
 pub mod Groups
-pub mod Tables
+pub mod NameTables
 pub mod Compared

@@ -10,7 +10,7 @@ ghost use Rattle.echo_spec.specs.Input.{part as «part-of», namesOf};
 ghost use Rattle.echo_spec.specs.Names.{byteOk, firstOk, reserved, table-ok};
 ghost use Rattle.echo_names.specs.Groups.{total, inTable};
 ghost use Rattle.echo_names.specs.Compared.{Compared};
-ghost use Rattle.echo_names.specs.Tables.{Columns, entryAt};
+ghost use Rattle.echo_names.specs.NameTables.{NameColumns, entryAt};
 
 // ---------------------------------------------------------------- parts of an arena
 
@@ -271,7 +271,7 @@ fn entry_ok(
     l2: &[u64],
     k: usize,
 ) -> bool
-    requires { ⌜ Columns (now starts) (now lens) (now s1) (now l1) (now s2) (now l2) ⌝ }
+    requires { ⌜ NameColumns (now starts) (now lens) (now s1) (now l1) (now s2) (now l2) ⌝ }
     requires { ⌜ k < length (now starts) ⌝ }
     ensures { λ r.
         ⌜ r
@@ -315,7 +315,7 @@ pub fn table_ok(
     s2: &[u64],
     l2: &[u64],
 ) -> bool
-    requires { ⌜ Columns (now starts) (now lens) (now s1) (now l1) (now s2) (now l2) ⌝ }
+    requires { ⌜ NameColumns (now starts) (now lens) (now s1) (now l1) (now s2) (now l2) ⌝ }
     ensures { λ r.
         ⌜ r
         ≡ table-ok

@@ -14,7 +14,7 @@ use Rattle.lists.specs.Tests.{everyFrom}
 use Rattle.echo_spec.specs.Shapes.{isLeaf}
 use Rattle.echo_spec.specs.Input.{Node, shape, no-node, nodeAt, nodesOf}
 use Rattle.echo_spec.specs.Sharing.{usesAs, usesOfAll, count, usedOnce, unshared}
-use Rattle.blast_kernel.specs.Records.{nodes-length, nodes-at}
+use Rattle.lent.specs.Records.{nodes-length, nodes-at}
 
 -- ---------------------------------------------------------------- definitions
 

@@ -12,11 +12,12 @@ use blast_kernel::EXTENSION;
 use blast_kernel::EXTRACTION;
 use blast_kernel::ITE;
 use blast_kernel::NEGATION;
-use blast_kernel::Node;
 use blast_kernel::ROTATION;
 use blast_kernel::SELECT;
 use blast_kernel::UNARY;
 use blast_kernel::VAR;
+use lent::Node;
+use refusals::MAX_NODES;
 ghost use mathlib.Core.Path.{_≡_};
 ghost use mathlib.Core.Bool.{_||_};
 ghost use mathlib.Core.List.{[], _∷_};
@@ -27,7 +28,7 @@ ghost use Rattle.lists.specs.Tests.{everyFrom};
 ghost use Rattle.echo_spec.specs.Shapes.{shapeOf, isLeaf};
 ghost use Rattle.echo_spec.specs.Input.{shape, nodesOf};
 ghost use Rattle.echo_spec.specs.Sharing.{usesAs, usesOfAll, unshared as «unshared-of»};
-ghost use Rattle.blast_kernel.specs.Records.{nodeOf};
+ghost use Rattle.lent.specs.Records.{nodeOf};
 ghost use Rattle.echo_sharing.specs.Counts.{bumped, counted, onceIn};
 
 // ---------------------------------------------------------------- counting
@@ -138,10 +139,10 @@ fn bump_node(uses: &mut [u8], side: &[u64], node: Node)
 fn count_operands(uses: &mut [u8], nodes: &[u8], side: &[u64])
     ensures { λ r. ⌜ now (uses .exit) ≡ counted (now (uses .entry)) (usesOfAll (now (side .entry)) (nodesOf (now (nodes .entry)))) ⌝ }
 {
-    let n = blast_kernel::node_count(nodes);
+    let n = lent::node_count(nodes);
     let mut i = 0;
     while i < n {
-        bump_node(uses, side, blast_kernel::node_at(nodes, i));
+        bump_node(uses, side, lent::node_at(nodes, i));
         i += 1;
     }
 }
@@ -181,10 +182,10 @@ fn no_shared(uses: &[u8], nodes: &[u8]) -> bool
     ensures { λ r.
         ⌜ r ≡ everyFrom (onceIn (now (uses .entry)) (nodesOf (now (nodes .entry)))) 0 (length (nodesOf (now (nodes .entry)))) ⌝ }
 {
-    let n = blast_kernel::node_count(nodes);
+    let n = lent::node_count(nodes);
     let mut i = 0;
     while i < n {
-        let node = blast_kernel::node_at(nodes, i);
+        let node = lent::node_at(nodes, i);
         if !used_once(node.kind, uses[i]) {
             return false;
         }
@@ -200,7 +201,7 @@ pub fn unshared(nodes: &[u8], side: &[u64], roots: &[u64]) -> bool
     requires { ⌜ length (now nodes) ≤ 34816 ⌝ }
     ensures { λ r. ⌜ r ≡ «unshared-of» (nodesOf (now (nodes .entry))) (now (side .entry)) (now (roots .entry)) ⌝ }
 {
-    let mut uses = [0u8; 2048];
+    let mut uses = [0u8; MAX_NODES];
     count_operands(&mut uses, nodes, side);
     count_roots(&mut uses, roots);
     no_shared(&uses, nodes)

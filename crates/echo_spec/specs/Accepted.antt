@@ -1,13 +1,13 @@
 -- Laws: what a query has passed that is not refused, and which numbers a refusal can have.
 use Prim.Native.Nat.{ℕ, zero, suc, _≤_, _<_}
-use mathlib.Core.Path.{_≡_, refl, sym, _∙_, subst}
+use mathlib.Core.Path.{_≡_, refl}
 use mathlib.Core.List.{List, [], _∷_, map}
-use mathlib.Core.Bool.{Bool, true, false, _&&_}
+use mathlib.Core.Bool.{Bool, true, false}
 use native.Mathlib.Omega.{arith}
-use lib.Dec.{T, leb, ltb, eqb, eqb→eq}
+use Rattle.lists.specs.Tests.{among, among-every, every, by-test}
+use Rattle.lists.specs.Build.{upto-all}
+use lib.Dec.{leb, leb→le, T, ltb, eqb, eqb→eq}
 use lib.ListN.{length, getD}
-use Rattle.lists.specs.Tests.{every, everyFrom, and-0, and-1}
-use Rattle.lists.specs.Build.{upto}
 use Rattle.echo_spec.specs.Refusals.{unless, _orElse_}
 use Rattle.echo_spec.specs.Shapes.{
   Shape,
@@ -28,7 +28,7 @@ use Rattle.echo_spec.specs.Shapes.{
   unknown,
   isBool,
 }
-use Rattle.echo_spec.specs.Input.{Node, shape, no-node, Dag}
+use Rattle.echo_spec.specs.Input.{Node, shape, no-node, Dag, anameTable, fnameTable}
 use Rattle.echo_spec.specs.Names.{namesOk}
 use Rattle.echo_spec.specs.Sharing.{unshared}
 use Rattle.echo_spec.specs.Tables.{columnsOk, decl-vars-ok, decl-funcs-ok}
@@ -47,6 +47,7 @@ use Rattle.echo_spec.specs.Walk.{
   walksBelow,
   walk,
   walkRoots,
+  checks,
   refusalWith,
 }
 
@@ -70,33 +71,44 @@ unless-bound false n k h = h
 
 -- ---------------------------------------------------------------- what an accepted query has passed
 
-pub record Accepted (d : Dag) (ws roots : List ℕ) : Type 0 where
+-- whatever way it is printed
+pub record Checked (d : Dag) (ws : List ℕ) : Type 0 where
   pub widths : length ws ≡ length (d .nodes)
   pub columns : T (columnsOk d)
   pub names : T (namesOk d)
-  pub sharing : T (unshared (d .nodes) (d .side) roots)
   pub variables : T (decl-vars-ok d)
   pub functions : T (decl-funcs-ok d ws)
+
+pub checks-passed : (d : Dag) (ws : List ℕ) (sharing walked : ℕ) → checks d ws sharing walked ≡ 0 → Checked d ws × (sharing ≡ 0) × (walked ≡ 0)
+checks-passed d ws sharing walked e =
+    let e₁ = orElse-passed (unless (eqb (length ws) (length (d .nodes))) 1) _ e in
+    let e₂ = orElse-passed (unless (columnsOk d) 1) _ (e₁ .1) in
+    let e₃ = orElse-passed (unless (namesOk d) 2) _ (e₂ .1) in
+    let e₄ = orElse-passed sharing _ (e₃ .1) in
+    let e₅ = orElse-passed (unless (decl-vars-ok d) 4) _ (e₄ .1) in
+    let e₆ = orElse-passed (unless (decl-funcs-ok d ws) 7) _ (e₅ .1) in (
+      record {
+        widths = eqb→eq (length ws) (length (d .nodes)) (unless-passed (eqb (length ws) (length (d .nodes))) 0 (e₁ .0));
+        columns = unless-passed (columnsOk d) 0 (e₂ .0);
+        names = unless-passed (namesOk d) 1 (e₃ .0);
+        variables = unless-passed (decl-vars-ok d) 3 (e₅ .0);
+        functions = unless-passed (decl-funcs-ok d ws) 6 (e₆ .0);
+      },
+      e₄ .0,
+      e₆ .1,
+    )
+
+-- and what the plain way to print asks besides
+pub record Accepted (d : Dag) (ws roots : List ℕ) : Type 0 where
+  pub checked : Checked d ws
+  pub sharing : T (unshared (d .nodes) (d .side) roots)
   pub walked : walkRoots d ws roots ≡ 0
 
 pub accepted : (d : Dag) (ws roots : List ℕ) → refusalWith d ws roots ≡ 0 → Accepted d ws roots
 unfolding refusalWith
 accepted d ws roots e =
-    let e₁ = orElse-passed (unless (eqb (length ws) (length (d .nodes))) 1) _ e in
-    let e₂ = orElse-passed (unless (columnsOk d) 1) _ (e₁ .1) in
-    let e₃ = orElse-passed (unless (namesOk d) 2) _ (e₂ .1) in
-    let e₄ = orElse-passed (unless (unshared (d .nodes) (d .side) roots) 6) _ (e₃ .1) in
-    let e₅ = orElse-passed (unless (decl-vars-ok d) 4) _ (e₄ .1) in
-    let e₆ = orElse-passed (unless (decl-funcs-ok d ws) 7) _ (e₅ .1) in
-    record {
-      widths = eqb→eq (length ws) (length (d .nodes)) (unless-passed (eqb (length ws) (length (d .nodes))) 0 (e₁ .0));
-      columns = unless-passed (columnsOk d) 0 (e₂ .0);
-      names = unless-passed (namesOk d) 1 (e₃ .0);
-      sharing = unless-passed (unshared (d .nodes) (d .side) roots) 5 (e₄ .0);
-      variables = unless-passed (decl-vars-ok d) 3 (e₅ .0);
-      functions = unless-passed (decl-funcs-ok d ws) 6 (e₆ .0);
-      walked = e₆ .1;
-    }
+    let (ok, once, walked) = checks-passed d ws (unless (unshared (d .nodes) (d .side) roots) 6) (walkRoots d ws roots) e in
+    record { checked = ok; sharing = unless-passed (unshared (d .nodes) (d .side) roots) 5 once; walked = walked }
 
 -- what a node has passed where it is not refused
 pub record Walked (d : Dag) (ws : List ℕ) (below : ℕ → Bool → ℕ) (i : ℕ) (wanted : Bool) : Type 0 where
@@ -118,57 +130,84 @@ walk-passed d ws below i wanted e =
       operands = e₃ .1;
     }
 
--- ---------------------------------------------------------------- a query's refusals are 1 to 7
+-- ---------------------------------------------------------------- which numbers there are
 
-asked-bound : (d : Dag) (ws : List ℕ) (i : ℕ) (n : Node) (s : Shape) → askedAs d ws i n s ≤ 7
-unfolding askedAs
-asked-bound d ws i n var = unless-bound (variableOk d i n) 4 7 (omega arith)
-asked-bound d ws i n const = omega arith
-asked-bound d ws i n binary = omega arith
-asked-bound d ws i n rotation = unless-bound (rotationOk d ws i n) 5 7 (omega arith)
-asked-bound d ws i n extraction = omega arith
-asked-bound d ws i n concat = omega arith
-asked-bound d ws i n extension = omega arith
-asked-bound d ws i n ite = omega arith
-asked-bound d ws i n comparison = omega arith
-asked-bound d ws i n negation = omega arith
-asked-bound d ws i n connective = omega arith
-asked-bound d ws i n unary = omega arith
-asked-bound d ws i n select = unless-bound (ltb (n .a) (length (d .anames))) 1 7 (omega arith)
-asked-bound d ws i n call =
-    orElse-either (unless (ltb (n .a) (length (d .fnames))) 1) (unless (callOk d ws n) 7) 7 (unless-bound (ltb (n .a) (length (d .fnames))) 1 7 (omega arith))
-    (unless-bound (callOk d ws n) 7 7 (omega arith))
-asked-bound d ws i n unknown = omega arith
+-- what holds of each number holds of the first that is not 0
+pub in-orElse : (t : ℕ → Bool) (m n : ℕ) → T (t m) → T (t n) → T (t (m orElse n))
+in-orElse t zero n a b = b
+in-orElse t (suc m) n a b = a
 
-all-bound : (below : ℕ → Bool → ℕ) → ((j : ℕ) (b : Bool) → below j b ≤ 7) → (os : List Operand) → walkAll below os ≤ 7
-unfolding walkAll
-all-bound below h [] = omega arith
-all-bound below h (o ∷ os) = orElse-either (below (o .node) (o .bool)) (walkAll below os) 7 (h (o .node) (o .bool)) (all-bound below h os)
+pub in-unless : (t : ℕ → Bool) (b : Bool) (n : ℕ) → T (t 0) → T (t n) → T (t (unless b n))
+in-unless t true n a b = a
+in-unless t false n a b = b
 
-step-bound : (d : Dag) (ws : List ℕ) (below : ℕ → Bool → ℕ) → ((j : ℕ) (b : Bool) → below j b ≤ 7) → (i : ℕ) (w : Bool) → walkStep d ws below i w ≤ 7
-unfolding walkStep asked
-step-bound d ws below h i w =
+-- the numbers that a walk can tell
+unfoldable pub walkNumber : ℕ → Bool
+walkNumber n = among (0 ∷ 1 ∷ 3 ∷ 4 ∷ 5 ∷ 7 ∷ []) n
+
+-- of each operand and either sort
+abbrev pub WalkNumbers : (ℕ → Bool → ℕ) → Type 0
+WalkNumbers below = (j : ℕ) (b : Bool) → T (walkNumber (below j b))
+
+pub asked-number : (d : Dag) (ws : List ℕ) (i : ℕ) (n : Node) (s : Shape) → T (walkNumber (askedAs d ws i n s))
+unfolding askedAs walkNumber
+asked-number d ws i n var = in-unless walkNumber (variableOk d i n) 4 tt tt
+asked-number d ws i n const = tt
+asked-number d ws i n binary = tt
+asked-number d ws i n rotation = in-unless walkNumber (rotationOk d ws i n) 5 tt tt
+asked-number d ws i n extraction = tt
+asked-number d ws i n concat = tt
+asked-number d ws i n extension = tt
+asked-number d ws i n ite = tt
+asked-number d ws i n comparison = tt
+asked-number d ws i n negation = tt
+asked-number d ws i n connective = tt
+asked-number d ws i n unary = tt
+asked-number d ws i n select = in-unless walkNumber (ltb (n .a) (length (anameTable d))) 1 tt tt
+asked-number d ws i n call =
+    in-orElse walkNumber (unless (ltb (n .a) (length (fnameTable d))) 1) (unless (callOk d ws n) 7) (in-unless walkNumber (ltb (n .a) (length (fnameTable d))) 1 tt tt)
+    (in-unless walkNumber (callOk d ws n) 7 tt tt)
+asked-number d ws i n unknown = tt
+
+pub asked-bound : (d : Dag) (ws : List ℕ) (i : ℕ) (n : Node) (s : Shape) → askedAs d ws i n s ≤ 7
+unfolding walkNumber
+asked-bound d ws i n s = leb→le (askedAs d ws i n s) 7 (among-every (λ n. leb n 7) (0 ∷ 1 ∷ 3 ∷ 4 ∷ 5 ∷ 7 ∷ []) tt (askedAs d ws i n s) (asked-number d ws i n s))
+
+pub all-number : (below : ℕ → Bool → ℕ) → WalkNumbers below → (os : List Operand) → T (walkNumber (walkAll below os))
+unfolding walkAll walkNumber
+all-number below h [] = tt
+all-number below h (o ∷ os) = in-orElse walkNumber (below (o .node) (o .bool)) (walkAll below os) (h (o .node) (o .bool)) (all-number below h os)
+
+pub step-number : (d : Dag) (ws : List ℕ) (below : ℕ → Bool → ℕ) → WalkNumbers below → WalkNumbers (walkStep d ws below)
+unfolding walkStep asked walkNumber
+step-number d ws below h i w =
     let n : Node = getD (d .nodes) i no-node in
-    orElse-either (unless (ltb i (length (d .nodes))) 1) _ 7 (unless-bound (ltb i (length (d .nodes))) 1 7 (omega arith))
-    (orElse-either (unless (sortOk w (isBool (shape n))) 3) _ 7 (unless-bound (sortOk w (isBool (shape n))) 3 7 (omega arith))
-    (orElse-either (askedAs d ws i n (shape n)) _ 7 (asked-bound d ws i n (shape n)) (all-bound below h (operandsAs (d .side) n (shape n)))))
+    in-orElse walkNumber (unless (ltb i (length (d .nodes))) 1) _ (in-unless walkNumber (ltb i (length (d .nodes))) 1 tt tt)
+    (in-orElse walkNumber (unless (sortOk w (isBool (shape n))) 3) _ (in-unless walkNumber (sortOk w (isBool (shape n))) 3 tt tt)
+    (in-orElse walkNumber (askedAs d ws i n (shape n)) _ (asked-number d ws i n (shape n)) (all-number below h (operandsAs (d .side) n (shape n)))))
 
-below-bound : (d : Dag) (ws : List ℕ) (n j : ℕ) (b : Bool) → walksBelow d ws n j b ≤ 7
-unfolding upto
-below-bound d ws zero j b = omega arith
-below-bound d ws (suc n) j b = by-place (eqb j n) refl (below-bound d ws n j b) (step-bound d ws (walksBelow d ws n) (λ k c. below-bound d ws n k c) n b)
-  where
-    by-place : (t : Bool) → eqb j n ≡ t → walksBelow d ws n j b ≤ 7 → walkStep d ws (walksBelow d ws n) n b ≤ 7 → walksBelow d ws (suc n) j b ≤ 7
-    by-place true e p q = rw (e, upto) q
-    by-place false e p q = rw (e, upto) p
+walk-number : (d : Dag) (ws : List ℕ) → WalkNumbers (walk d ws)
+unfolding walk walkNumber
+walk-number d ws i =
+    step-number d ws (walksBelow d ws i)
+    (upto-all (λ (f : Bool → ℕ). (b : Bool) → T (walkNumber (f b))) (walkStep d ws) (λ _. 1) (λ b. tt) (λ below h k. step-number d ws below h k) i) i
 
+-- the checks that every way to print has tell 1, 2, 4 and 7, besides what its own two tell
+pub checks-number : (t : ℕ → Bool) (d : Dag) (ws : List ℕ) (sharing walked : ℕ) → T (every t (0 ∷ 1 ∷ 2 ∷ 4 ∷ 7 ∷ [])) → T (t sharing) → T (t walked) → T (t (checks d ws sharing walked))
+checks-number t d ws sharing walked h s w =
+    let (t₀, (t₁, (t₂, (t₄, (t₇, end))))) = by-test t (0 ∷ 1 ∷ 2 ∷ 4 ∷ 7 ∷ []) h in
+    in-orElse t (unless (eqb (length ws) (length (d .nodes))) 1) _ (in-unless t (eqb (length ws) (length (d .nodes))) 1 t₀ t₁)
+    (in-orElse t (unless (columnsOk d) 1) _ (in-unless t (columnsOk d) 1 t₀ t₁)
+    (in-orElse t (unless (namesOk d) 2) _ (in-unless t (namesOk d) 2 t₀ t₂)
+    (in-orElse t sharing _ s
+    (in-orElse t (unless (decl-vars-ok d) 4) _ (in-unless t (decl-vars-ok d) 4 t₀ t₄)
+    (in-orElse t (unless (decl-funcs-ok d ws) 7) walked (in-unless t (decl-funcs-ok d ws) 7 t₀ t₇) w)))))
+
+-- a query's refusals are 1 to 7
 pub refusal-bound : (d : Dag) (ws roots : List ℕ) → refusalWith d ws roots ≤ 7
-unfolding refusalWith walkRoots walk
+unfolding refusalWith walkRoots walkNumber
 refusal-bound d ws roots =
-    orElse-either (unless (eqb (length ws) (length (d .nodes))) 1) _ 7 (unless-bound (eqb (length ws) (length (d .nodes))) 1 7 (omega arith))
-    (orElse-either (unless (columnsOk d) 1) _ 7 (unless-bound (columnsOk d) 1 7 (omega arith))
-    (orElse-either (unless (namesOk d) 2) _ 7 (unless-bound (namesOk d) 2 7 (omega arith))
-    (orElse-either (unless (unshared (d .nodes) (d .side) roots) 6) _ 7 (unless-bound (unshared (d .nodes) (d .side) roots) 6 7 (omega arith))
-    (orElse-either (unless (decl-vars-ok d) 4) _ 7 (unless-bound (decl-vars-ok d) 4 7 (omega arith))
-    (orElse-either (unless (decl-funcs-ok d ws) 7) _ 7 (unless-bound (decl-funcs-ok d ws) 7 7 (omega arith))
-    (all-bound (walk d ws) (λ j b. step-bound d ws (walksBelow d ws j) (λ k c. below-bound d ws j k c) j b) (map formula roots)))))))
+    let small : (ℕ → Bool) = λ n. leb n 7 in
+    leb→le (refusalWith d ws roots) 7
+    (checks-number small d ws (unless (unshared (d .nodes) (d .side) roots) 6) (walkRoots d ws roots) tt (in-unless small (unshared (d .nodes) (d .side) roots) 6 tt tt)
+    (among-every small (0 ∷ 1 ∷ 3 ∷ 4 ∷ 5 ∷ 7 ∷ []) tt (walkRoots d ws roots) (all-number (walk d ws) (walk-number d ws) (map formula roots))))

@@ -5,7 +5,8 @@ use mathlib.Core.Bool.{Bool, true, false}
 use lib.Dec.{leb, eqb}
 use lib.ListN.{length, drop, replicate}
 use Rattle.echo_spec.specs.Refusals.{unless, _orElse_}
-use Rattle.echo_spec.specs.Input.{Problem, nodesWithin, withinLimits, nodesOf, encoded, Query, queryOf}
+use Rattle.reading.specs.Trees.{Reading}
+use Rattle.echo_spec.specs.Input.{Problem, nodesWithin, withinLimits, nodesOf, encoded, dagOf, Query, queryOf}
 use Rattle.echo_spec.specs.Widths.{ext-wf}
 use Rattle.echo_spec.specs.Trees.{readingOf}
 use Rattle.echo_spec.specs.Walk.{refusal}
@@ -18,8 +19,8 @@ pub record Answer : Type 0 where
   pub output : List ℕ
 
 -- the result at the front of what was lent, the rest of it unchanged
-abbrev pub written : List ℕ → List ℕ → List ℕ
-written result lent = result ++ drop (length result) lent
+abbrev pub atFront : List ℕ → List ℕ → List ℕ
+atFront result lent = result ++ drop (length result) lent
 
 abbrev pub zeroed : List ℕ → List ℕ
 zeroed lent = replicate (length lent) 0
@@ -36,7 +37,7 @@ widthRefusal nodes bits side ws room =
 
 -- with 1 goes the number of the node refused
 unfoldable pub widthAnswer : ℕ → List ℕ → List ℕ → Answer
-widthAnswer zero ws lent = record { number = 0; count = length ws; output = written ws lent }
+widthAnswer zero ws lent = record { number = 0; count = length ws; output = atFront ws lent }
 widthAnswer (suc zero) ws lent = record { number = 1; count = length ws; output = zeroed lent }
 widthAnswer (suc (suc n)) ws lent = record { number = suc (suc n); count = 0; output = zeroed lent }
 
@@ -45,22 +46,33 @@ ext-wf-answer nodes bits side lent =
     let ws : List ℕ = ext-wf (length bits) side (nodesOf nodes) in
     widthAnswer (widthRefusal nodes bits side ws (length lent)) ws lent
 
--- ---------------------------------------------------------------- the printer
+-- ---------------------------------------------------------------- a printer
+
+-- the reading of a problem
+abbrev pub reading : Problem → Reading
+reading p = readingOf (queryOf p)
 
 unfoldable pub script : Query → List ℕ
-script q = render (readingOf q (ext-wf (length (q .bits)) (q .dag .side) (q .dag .nodes)))
+script q = render (readingOf q)
 
--- ("room" is document 01's term: the length of the lent buffer)
-unfoldable pub echoRefusal : Problem → ℕ → ℕ
-echoRefusal p room =
-    unless (withinLimits p) 9
-    orElse unless (encoded (p .nodes) (p .bits)) 8
-    orElse refusal (queryOf p .dag) (length (p .bits)) (p .roots)
-    orElse unless (leb (length (script (queryOf p))) room) 10
+-- The number with endless room: every check but the one for room. `asked` is the refusal of the query, by the way in which it is printed.
+unfoldable pub endlessWith : Problem → ℕ → ℕ
+endlessWith p asked = unless (withinLimits p) 9 orElse unless (encoded (p .nodes) (p .bits)) 8 orElse asked
+
+unfoldable pub endlessRefusal : Problem → ℕ
+endlessRefusal p = endlessWith p (refusal (dagOf p) (length (p .bits)) (p .roots))
+
+-- what a text is refused with that has this number with endless room ("room" is document 01's term: the length of the lent buffer)
+unfoldable pub textRefusal : ℕ → List ℕ → ℕ → ℕ
+textRefusal number text room = number orElse unless (leb (length text) room) 10
 
 unfoldable pub echoAnswer : ℕ → List ℕ → List ℕ → Answer
-echoAnswer zero result lent = record { number = 0; count = length result; output = written result lent }
+echoAnswer zero result lent = record { number = 0; count = length result; output = atFront result lent }
 echoAnswer (suc n) result lent = record { number = suc n; count = 0; output = zeroed lent }
 
+-- a text printed whole into what is lent, or refused
+unfoldable pub textAnswer : ℕ → List ℕ → List ℕ → Answer
+textAnswer number text lent = echoAnswer (textRefusal number text (length lent)) text lent
+
 unfoldable pub echo-ext-answer : Problem → List ℕ → Answer
-echo-ext-answer p lent = echoAnswer (echoRefusal p (length lent)) (script (queryOf p)) lent
+echo-ext-answer p lent = textAnswer (endlessRefusal p) (script (queryOf p)) lent

@@ -1,14 +1,12 @@
--- Computed examples: document 01's ten marked cases, a table of cases where a wrong printer slips, and the reserved words.
--- The texts of the second table are what the Rust printed.
-use Prim.Native.Nat.{ℕ, zero, suc, _+_, _-_, _*_, _/_, _%_}
+-- Computed examples: document 01's ten marked cases and a table of cases where a wrong printer slips. The files of examples beside
+-- this one go through the rules one by one, and use what stands here. The texts of the second table are what the Rust printed.
+use Prim.Native.Nat.{ℕ, _+_, _-_, _/_, _%_}
 use Prim.Native.String.{String}
 use mathlib.Core.Path.{_≡_, refl}
 use mathlib.Core.List.{List, [], _∷_, _++_, map}
-use mathlib.Core.Bool.{Bool, true, false, _&&_, not}
-use lib.Dec.{T, eqb}
 use lib.ListN.{length, replicate}
 use Rattle.lists.specs.Bytes.{bytes}
-use Rattle.lists.specs.Tests.{same, every, distinct}
+use Rattle.lists.specs.Tests.{same}
 use Rattle.lists.specs.Build.{findFrom, upto}
 use Rattle.reading.specs.Kinds.{
   Var,
@@ -54,6 +52,8 @@ use Rattle.reading.specs.Kinds.{
 use Rattle.echo_spec.specs.Shapes.{shapes, operandCount, isBool, isLeaf}
 use Rattle.echo_spec.specs.Input.{
   Problem,
+  Node,
+  Query,
   nodesWithin,
   columnWithin,
   arenaWithin,
@@ -86,6 +86,7 @@ use Rattle.echo_spec.specs.Widths.{
 use Rattle.echo_spec.specs.Names.{byteOk, firstOk, reservedWords, reserved, entry-ok, table-ok, namesOk}
 use Rattle.echo_spec.specs.Sharing.{usesAs, usesOfAll, count, usedOnce, unshared}
 use Rattle.echo_spec.specs.Tables.{
+  oneLength,
   columnsOk,
   find-node,
   find-call,
@@ -96,7 +97,7 @@ use Rattle.echo_spec.specs.Tables.{
   decl-funcs-ok,
   declarationsOf,
 }
-use Rattle.echo_spec.specs.Trees.{constantBits, bitsValue, variableName, treesOver, storesOver, treeAs, treeStep, treeOf, readingOf}
+use Rattle.echo_spec.specs.Trees.{constantBits, bitsValue, amountOf, variableName, treesOver, storesOver, treeAs, treeStep, treeOf, readingOf}
 use Rattle.echo_spec.specs.Walk.{
   variableOk,
   rotationOk,
@@ -111,6 +112,7 @@ use Rattle.echo_spec.specs.Walk.{
   walk,
   walkRoots,
   refusalWith,
+  refusal,
 }
 use Rattle.echo_spec.specs.Render.{
   symbols,
@@ -135,7 +137,7 @@ use Rattle.echo_spec.specs.Render.{
   declarationsText,
   render,
 }
-use Rattle.echo_spec.specs.Answers.{Answer, widthRefusal, widthAnswer, ext-wf-answer, script, echoRefusal, echoAnswer, echo-ext-answer}
+use Rattle.echo_spec.specs.Answers.{Answer, widthRefusal, widthAnswer, ext-wf-answer, script, endlessWith, endlessRefusal, textRefusal, echoAnswer, textAnswer, echo-ext-answer}
 
 -- ---------------------------------------------------------------- problems, written shortly
 
@@ -188,51 +190,99 @@ problem nodes bits side roots vars arrays funs = record {
   func-width = map (λ (f : Named). f .width) funs;
 }
 
--- ---------------------------------------------------------------- cases: an answer, and the answer wanted
+-- a node as it is decoded
+abbrev pub decoded : ℕ → ℕ → ℕ → ℕ → ℕ → Node
+decoded k a b c d = record { kind = k; a = a; b = b; c = c; d = d }
 
-pub record Case : Type 0 where
-  pub given : Answer
-  pub wanted : Answer
+-- the query of such a problem, its nodes given decoded
+abbrev pub query : List Node → List ℕ → List ℕ → List ℕ → List Named → List String → List Named → Query
+query nodes bits side roots vars arrays funs =
+    let p : Problem = problem [] bits side roots vars arrays funs in
+    record {
+      dag = record {
+        nodes = nodes;
+        side = side;
+        names = p .names;
+        name-start = p .name-start;
+        name-len = p .name-len;
+        var-node = p .var-node;
+        var-width = p .var-width;
+        anames = p .anames;
+        aname-start = p .aname-start;
+        aname-len = p .aname-len;
+        fnames = p .fnames;
+        fname-start = p .fname-start;
+        fname-len = p .fname-len;
+        func-width = p .func-width;
+      };
+      bits = bits;
+      roots = roots;
+    }
+
+-- ---------------------------------------------------------------- examples: what a definition gives, and what is wanted
+
+pub record Example (A : Type 0) : Type 0 where
+  -- the example's name, or the rule that it is for
+  pub label : String
+  pub given : A
+  pub wanted : A
+
+abbrev pub given : {A : Type 0} → List (Example A) → List A
+given es = map (λ e. e .given) es
+
+abbrev pub wanted : {A : Type 0} → List (Example A) → List A
+wanted es = map (λ e. e .wanted) es
 
 -- so many lent elements, each 170
 abbrev pub lent : ℕ → List ℕ
 lent room = replicate room 170
 
-abbrev refused : ℕ → ℕ → Answer
+abbrev pub refused : ℕ → ℕ → Answer
 refused n room = record { number = n; count = 0; output = replicate room 0 }
 
 -- of so many bytes, these; the rest of what was lent as it was
-abbrev accepted : ℕ → String → ℕ → Answer
+abbrev pub accepted : ℕ → String → ℕ → Answer
 accepted n text room = record { number = 0; count = n; output = bytes text ++ lent (room - n) }
 
 -- p into a buffer of so many bytes
-abbrev prints : Problem → ℕ → (ℕ → Answer) → Case
-prints p room wanted = record { given = echo-ext-answer p (lent room); wanted = wanted room }
+abbrev pub prints : String → Problem → ℕ → (ℕ → Answer) → Example Answer
+prints label p room wanted = record { label = label; given = echo-ext-answer p (lent room); wanted = wanted room }
 
-abbrev meets : Case → Bool
-meets c =
-    eqb (c .given .number) (c .wanted .number) && (eqb (c .given .count) (c .wanted .count) && same (c .given .output) (c .wanted .output))
+-- p is refused with n: the buffer has no room for any script, so 10 says that every other check passes
+abbrev pub refuses : String → ℕ → Problem → Example Answer
+refuses label n p = prints label p 3 (refused n)
+
+abbrev pub passes : String → Problem → Example Answer
+passes label p = refuses label 10 p
+
+-- the width pass, into a slice of so many numbers
+abbrev pub widens : String → List (List ℕ) → List ℕ → List ℕ → ℕ → Answer → Example Answer
+widens label nodes bits side room wanted = record { label = label; given = ext-wf-answer (joined nodes) bits side (lent room); wanted = wanted }
+
+-- the refusal of a query, 1 to 7, or 0: what the printer answers too, computed without the bytes of records
+abbrev pub asks : String → ℕ → Query → Example ℕ
+asks label n q = record { label = label; given = refusal (q .dag) (length (q .bits)) (q .roots); wanted = n }
 
 -- ---------------------------------------------------------------- the ten marked cases
 
-abbrev five : List ℕ
+abbrev pub five : List ℕ
 five = 1 ∷ 0 ∷ 1 ∷ 0 ∷ 0 ∷ 0 ∷ 0 ∷ 0 ∷ []
 
 abbrev pub eleven : List ℕ
 eleven = 1 ∷ 1 ∷ 0 ∷ 1 ∷ 0 ∷ 0 ∷ 0 ∷ 0 ∷ []
 
-abbrev m1 : Problem
+abbrev pub m1 : Problem
 m1 = problem [] [] [] [] [] [] []
 
 -- M2 with other bits, another node 2, another node 3, another root and another name
-abbrev m2With : List ℕ → List ℕ → List ℕ → ℕ → String → Problem
+abbrev pub m2With : List ℕ → List ℕ → List ℕ → ℕ → String → Problem
 m2With bits node2 node3 root x =
     problem (node Var 8 0 0 0 ∷ node Const 0 8 0 0 ∷ node2 ∷ node3 ∷ []) bits [] (root ∷ []) (var x 0 8 ∷ []) [] []
 
-abbrev sum : List ℕ
+abbrev pub sum : List ℕ
 sum = node Add 0 1 0 0
 
-abbrev m2 : Problem
+abbrev pub m2 : Problem
 m2 = m2With five sum (node Eq 2 0 0 0) 3 "x"
 
 abbrev m9 : Problem
@@ -241,19 +291,19 @@ m9 = problem [] [] [] [] [] [] (fun "f" 8 ∷ [])
 abbrev m10 : Problem
 m10 = problem (node Const 0 32 0 0 ∷ node Select 9 0 0 0 ∷ []) (replicate 32 0) [] [] [] [] []
 
-pub markedCases : List Case
+pub markedCases : List (Example Answer)
 markedCases =
-    prints m1 200 (accepted 30 "(set-logic QF_BV)\n(check-sat)\n")
-    ∷ prints m2 200 (accepted 103 "(set-logic QF_BV)\n(declare-const |x| (_ BitVec 8))\n(assert (= (bvadd |x| #b00000101) |x|))\n(check-sat)\n")
-    ∷ prints m2 102 (refused 10)
-    ∷ prints (m2With five sum (node Eq 2 2 0 0) 3 "x") 200 (refused 6)
-    ∷ prints (m2With five sum (node Eq 2 0 0 0) 0 "x") 200 (refused 3)
-    ∷ prints (m2With five sum (node Eq 2 0 0 0) 3 "bvadd") 200 (refused 2)
-    ∷ prints (m2With five sum (node Eq 2 0 0 0) 4 "x") 200 (refused 1)
-    ∷ prints (m2With eleven (node Rotl 0 1 0 0) (node Eq 2 0 0 0) 3 "x") 200
+    prints "M1" m1 200 (accepted 30 "(set-logic QF_BV)\n(check-sat)\n")
+    ∷ prints "M2" m2 200 (accepted 103 "(set-logic QF_BV)\n(declare-const |x| (_ BitVec 8))\n(assert (= (bvadd |x| #b00000101) |x|))\n(check-sat)\n")
+    ∷ prints "M3" m2 102 (refused 10)
+    ∷ prints "M4" (m2With five sum (node Eq 2 2 0 0) 3 "x") 200 (refused 6)
+    ∷ prints "M5" (m2With five sum (node Eq 2 0 0 0) 0 "x") 200 (refused 3)
+    ∷ prints "M6" (m2With five sum (node Eq 2 0 0 0) 3 "bvadd") 200 (refused 2)
+    ∷ prints "M7" (m2With five sum (node Eq 2 0 0 0) 4 "x") 200 (refused 1)
+    ∷ prints "M8" (m2With eleven (node Rotl 0 1 0 0) (node Eq 2 0 0 0) 3 "x") 200
     (accepted 104 "(set-logic QF_BV)\n(declare-const |x| (_ BitVec 8))\n(assert (= ((_ rotate_left 3) |x|) |x|))\n(check-sat)\n")
-    ∷ prints m9 200 (refused 7)
-    ∷ prints m10 200 (accepted 30 "(set-logic QF_BV)\n(check-sat)\n")
+    ∷ prints "M9" m9 200 (refused 7)
+    ∷ prints "M10" m10 200 (accepted 30 "(set-logic QF_BV)\n(check-sat)\n")
     ∷ []
 
 -- ---------------------------------------------------------------- where a wrong printer slips
@@ -313,54 +363,47 @@ amount = node Const 0 32 0 0
 abbrev entryOfNode4 : List Named
 entryOfNode4 = var "j" 4 32 ∷ []
 
-pub furtherCases : List Case
+pub furtherCases : List (Example Answer)
 furtherCases =
-    prints sharedUnreached 200 (refused 6)
-    ∷ prints sharedCall 200 (refused 6)
-    ∷ prints firstCallUnreached 200 (refused 7)
-    ∷ prints laterRoot 20 (refused 3)
-    -- the last pair is walked first, the index of the select last
-    ∷ prints (twoStores (node Call 0 8 0 0) (node Rotr 0 0 0 0) []) 300 (refused 4)
-    ∷ prints (twoStores (node Call 0 8 0 0) (node Rotr 0 0 0 0) entryOfNode4) 300 (refused 1)
-    ∷ prints (twoStores (node Const 0 8 0 0) (node Rotr 0 0 0 0) entryOfNode4) 300 (refused 5)
-    ∷ prints (twoStores (node Const 0 8 0 0) amount entryOfNode4) 291
+    prints "uses count over nodes that are not reached" sharedUnreached 200 (refused 6)
+    ∷ prints "a call without arguments is no leaf" sharedCall 200 (refused 6)
+    ∷ prints "the first call is the first in node order" firstCallUnreached 200 (refused 7)
+    ∷ prints "a later root's refusal comes before 10" laterRoot 20 (refused 3)
+    ∷ prints "the last pair is walked first" (twoStores (node Call 0 8 0 0) (node Rotr 0 0 0 0) []) 300 (refused 4)
+    ∷ prints "pairs are walked before the index" (twoStores (node Call 0 8 0 0) (node Rotr 0 0 0 0) entryOfNode4) 300 (refused 1)
+    ∷ prints "the index is walked" (twoStores (node Const 0 8 0 0) (node Rotr 0 0 0 0) entryOfNode4) 300 (refused 5)
+    ∷ prints "pair 0 is the outermost store" (twoStores (node Const 0 8 0 0) amount entryOfNode4) 291
     (accepted 291
     "(set-logic QF_ABV)\n(declare-const |i| (_ BitVec 32))\n(declare-const |v| (_ BitVec 8))\n(declare-const |j| (_ BitVec 32))\n(declare-const |m| (Array (_ BitVec 32) (_ BitVec 8)))\n(assert (= (select (store (store |m| |j| |v|) |i| #b00000101) #b00000000000000000000000000000101) |v|))\n(check-sat)\n")
-    ∷ prints boolArgument 236
+    ∷ prints "argument sorts come from the widths" boolArgument 236
     (accepted 236
     "(set-logic QF_AUFBV)\n(declare-const |x| (_ BitVec 8))\n(declare-const |m| (Array (_ BitVec 32) (_ BitVec 8)))\n(declare-fun |f| ((_ BitVec 1) (_ BitVec 8)) (_ BitVec 16))\n(declare-fun |g| () (_ BitVec 8))\n(assert (= |g| |x|))\n(check-sat)\n")
-    ∷ prints startPast 200 (refused 7)
-    ∷ prints everyKind 679
+    ∷ prints "no arguments past the side entries" startPast 200 (refused 7)
+    ∷ prints "every operator" everyKind 679
     (accepted 679
     "(set-logic QF_BV)\n(declare-const |x| (_ BitVec 8))\n(assert (= (ite (or (and (not (bvult |x| #b00001011)) (bvule |x| #b00001011)) (bvugt |x| #b00001011)) ((_ extract 9 2) ((_ sign_extend 16) ((_ zero_extend 8) (concat (bvneg (bvnot ((_ rotate_left 3) ((_ rotate_right 3) (bvsrem (bvsdiv (bvashr (bvlshr (bvshl (bvxor (bvor (bvand (bvurem (bvudiv (bvmul (bvsub (bvadd |x| #b00001011) |x|) |x|) |x|) |x|) |x|) |x|) |x|) |x|) |x|) |x|) |x|) |x|))))) |x|)))) |x|) #b00001011))\n(assert (distinct |x| #b00001011))\n(assert (bvuge |x| #b00001011))\n(assert (bvslt |x| #b00001011))\n(assert (bvsle |x| #b00001011))\n(assert (bvsgt |x| #b00001011))\n(assert (bvsge |x| #b00001011))\n(check-sat)\n")
-    -- the width pass: node 1 is refused, and the slice has no room for any width
-    ∷ record { given = ext-wf-answer (node Var 8 0 0 0 ++ node Not 0 0 0 0) [] [] []; wanted = record { number = 1; count = 1; output = [] } }
+    ∷ widens "1 before 10 in the width pass" (node Var 8 0 0 0 ∷ node Not 0 0 0 0 ∷ []) [] [] 0 (record { number = 1; count = 1; output = [] })
     ∷ []
 
 -- ---------------------------------------------------------------- the theorems
 
 -- (whoever unfolds this unfolds the definitions named under it)
-unfoldable pub allMeet : List Case → Bool
+unfoldable pub allMeet : List (Example Answer) → Type 0
 unfolding
     bytes same findFrom upto shapes operandCount isBool isLeaf nodesWithin columnWithin arenaWithin withinLimits word32 nodeAt nodesOf nodeEncoded
     encoded part namesOf dagOf indexWidth valueWidth un-wf bin-wf bool-bin-wf extend-wf chain-wf args-wf wfAs node-wf widthAs node-width ext-wf-from
-    ext-wf byteOk firstOk reservedWords reserved entry-ok table-ok namesOk usesAs usesOfAll count usedOnce unshared columnsOk find-node find-call
-    argumentWidths decl-vars-ok signature decl-func-ok decl-funcs-ok declarationsOf constantBits bitsValue variableName treesOver storesOver treeAs
+    ext-wf byteOk firstOk reservedWords reserved entry-ok table-ok namesOk usesAs usesOfAll count usedOnce unshared oneLength columnsOk find-node find-call
+    argumentWidths decl-vars-ok signature decl-func-ok decl-funcs-ok declarationsOf constantBits bitsValue amountOf variableName treesOver storesOver treeAs
     treeStep treeOf readingOf variableOk rotationOk args-match callOk askedAs asked levels operandsAs walkAll walkStep walk walkRoots refusalWith symbols
     symbolOf decimalDigits decimal binaryDigits quoted numeralsText operatorText callText term sortText sortsText variableText arrayText functionText
-    texts assertionsText logicOf logicText declarationsText render widthRefusal widthAnswer ext-wf-answer script echoRefusal echoAnswer echo-ext-answer
-allMeet cs = every meets cs
+    texts assertionsText logicOf logicText declarationsText render widthRefusal widthAnswer ext-wf-answer script endlessWith endlessRefusal textRefusal echoAnswer textAnswer echo-ext-answer
+allMeet es = given es ≡ wanted es
 
 -- document 01's M1 to M10: number, length and every byte
-pub marked-cases : T (allMeet markedCases)
+pub marked-cases : given markedCases ≡ wanted markedCases
 unfolding allMeet markedCases
-marked-cases = tt
+marked-cases = refl
 
-pub further-cases : T (allMeet furtherCases)
+pub further-cases : given furtherCases ≡ wanted furtherCases
 unfolding allMeet furtherCases
-further-cases = tt
-
--- the reserved words are 112, and no two of them are equal
-pub reserved-words : T (eqb (length reserved) 112 && distinct reserved)
-unfolding bytes same reservedWords reserved
-reserved-words = tt
+further-cases = refl

@@ -32,19 +32,45 @@ pub record Problem : Type 0 where
 
 -- ---------------------------------------------------------------- 9: limits
 
+-- the bytes of a node's record
+abbrev pub recordBytes : ℕ
+recordBytes = 17
+
+-- the most that is taken of each input
+abbrev pub nodeLimit : ℕ
+nodeLimit = 2048
+
+abbrev pub nodeBytesLimit : ℕ
+nodeBytesLimit = recordBytes * nodeLimit
+
+abbrev pub bitLimit : ℕ
+bitLimit = 131072
+
+abbrev pub sideLimit : ℕ
+sideLimit = 8192
+
+abbrev pub rootLimit : ℕ
+rootLimit = 256
+
+abbrev pub columnLimit : ℕ
+columnLimit = 512
+
+abbrev pub arenaLimit : ℕ
+arenaLimit = 16384
+
 unfoldable pub nodesWithin : List ℕ → List ℕ → List ℕ → Bool
-nodesWithin nodes bits side = leb (length nodes) 34816 && (leb (length bits) 131072 && leb (length side) 8192)
+nodesWithin nodes bits side = leb (length nodes) nodeBytesLimit && (leb (length bits) bitLimit && leb (length side) sideLimit)
 
 unfoldable pub columnWithin : List ℕ → Bool
-columnWithin c = leb (length c) 512
+columnWithin c = leb (length c) columnLimit
 
 unfoldable pub arenaWithin : List ℕ → Bool
-arenaWithin a = leb (length a) 16384
+arenaWithin a = leb (length a) arenaLimit
 
 unfoldable pub withinLimits : Problem → Bool
 withinLimits p =
     nodesWithin (p .nodes) (p .bits) (p .side)
-    && (leb (length (p .roots)) 256
+    && (leb (length (p .roots)) rootLimit
     && (every columnWithin (p .name-start ∷ p .name-len ∷ p .var-node ∷ p .var-width ∷ p .aname-start ∷ p .aname-len ∷ p .fname-start ∷ p .fname-len ∷ p .func-width ∷ [])
     && every arenaWithin (p .names ∷ p .anames ∷ p .fnames ∷ [])))
 
@@ -68,18 +94,18 @@ no-node = record { kind = 255; a = 0; b = 0; c = 0; d = 0 }
 unfoldable pub word32 : List ℕ → ℕ → ℕ
 word32 s i = getD s i 0 + 256 * getD s (i + 1) 0 + 65536 * getD s (i + 2) 0 + 16777216 * getD s (i + 3) 0
 
--- record i, of 17 bytes
+-- record i
 unfoldable pub nodeAt : List ℕ → ℕ → Node
 nodeAt s i = record {
-  kind = getD s (17 * i) 0;
-  a = word32 s (17 * i + 1);
-  b = word32 s (17 * i + 5);
-  c = word32 s (17 * i + 9);
-  d = word32 s (17 * i + 13);
+  kind = getD s (recordBytes * i) 0;
+  a = word32 s (recordBytes * i + 1);
+  b = word32 s (recordBytes * i + 5);
+  c = word32 s (recordBytes * i + 9);
+  d = word32 s (recordBytes * i + 13);
 }
 
 unfoldable pub nodesOf : List ℕ → List Node
-nodesOf s = tabulate (length s / 17) (nodeAt s)
+nodesOf s = tabulate (length s / recordBytes) (nodeAt s)
 
 -- ---------------------------------------------------------------- 8: encoding
 
@@ -88,7 +114,7 @@ unfoldable pub nodeEncoded : Node → Bool
 nodeEncoded n = ltb (n .kind) 39 && every (λ x. eqb x 0) (drop (operandCount (shape n)) (n .a ∷ n .b ∷ n .c ∷ n .d ∷ []))
 
 unfoldable pub encoded : List ℕ → List ℕ → Bool
-encoded nodes bits = eqb (length nodes % 17) 0 && (every nodeEncoded (nodesOf nodes) && every (λ b. leb b 1) bits)
+encoded nodes bits = eqb (length nodes % recordBytes) 0 && (every nodeEncoded (nodesOf nodes) && every (λ b. leb b 1) bits)
 
 -- ---------------------------------------------------------------- the query
 
@@ -99,19 +125,25 @@ part arena start len = elim (leb (start + len) (length arena)) [ true ↦ take l
 unfoldable pub namesOf : List ℕ → List ℕ → List ℕ → List Name
 namesOf arena starts lens = tabulate (length starts) (λ k. part arena (getD starts k 0) (getD lens k 0))
 
--- the nodes with the side entries and the three tables; `columns` has the lengths of each table's columns
+-- the nodes decoded, with the side entries and the three tables as they are lent; no limit on anything: not on a length and not on a
+-- number
 pub record Dag : Type 0 where
   pub nodes : List Node
   pub side : List ℕ
-  pub names : List Name
+  pub names : List ℕ
+  pub name-start : List ℕ
+  pub name-len : List ℕ
   pub var-node : List ℕ
   pub var-width : List ℕ
-  pub anames : List Name
-  pub fnames : List Name
+  pub anames : List ℕ
+  pub aname-start : List ℕ
+  pub aname-len : List ℕ
+  pub fnames : List ℕ
+  pub fname-start : List ℕ
+  pub fname-len : List ℕ
   pub func-width : List ℕ
-  pub columns : List (List ℕ)
 
--- no limit on anything: not on a length and not on a number
+-- a problem with its nodes decoded, and nothing else changed
 pub record Query : Type 0 where
   pub dag : Dag
   pub bits : List ℕ
@@ -121,18 +153,44 @@ unfoldable pub dagOf : Problem → Dag
 dagOf p = record {
   nodes = nodesOf (p .nodes);
   side = p .side;
-  names = namesOf (p .names) (p .name-start) (p .name-len);
+  names = p .names;
+  name-start = p .name-start;
+  name-len = p .name-len;
   var-node = p .var-node;
   var-width = p .var-width;
-  anames = namesOf (p .anames) (p .aname-start) (p .aname-len);
-  fnames = namesOf (p .fnames) (p .fname-start) (p .fname-len);
+  anames = p .anames;
+  aname-start = p .aname-start;
+  aname-len = p .aname-len;
+  fnames = p .fnames;
+  fname-start = p .fname-start;
+  fname-len = p .fname-len;
   func-width = p .func-width;
-  columns =
-      (length (p .name-start) ∷ length (p .name-len) ∷ length (p .var-node) ∷ length (p .var-width) ∷ [])
-      ∷ (length (p .aname-start) ∷ length (p .aname-len) ∷ [])
-      ∷ (length (p .fname-start) ∷ length (p .fname-len) ∷ length (p .func-width) ∷ [])
-      ∷ [];
 }
 
 abbrev pub queryOf : Problem → Query
 queryOf p = record { dag = dagOf p; bits = p .bits; roots = p .roots }
+
+-- the names of each table, in table order
+abbrev pub nameTable : Dag → List Name
+nameTable d = namesOf (d .names) (d .name-start) (d .name-len)
+
+abbrev pub anameTable : Dag → List Name
+anameTable d = namesOf (d .anames) (d .aname-start) (d .aname-len)
+
+abbrev pub fnameTable : Dag → List Name
+fnameTable d = namesOf (d .fnames) (d .fname-start) (d .fname-len)
+
+-- ---------------------------------------------------------------- which queries a problem could encode
+
+-- the largest number of 64 bits
+abbrev pub largest : ℕ
+largest = 18446744073709551615
+
+abbrev pub fits64 : ℕ → Bool
+fits64 w = leb w largest
+
+-- The limits of 9 and the 32 bits of operands left aside: each record is encoded, bits are bits, and the widths in the columns have
+-- 64 bits. (Those of the nodes are bounded where they are worked out, in `wfAs`.)
+unfoldable pub encodable : Query → Bool
+encodable q =
+    every nodeEncoded (q .dag .nodes) && (every (λ b. leb b 1) (q .bits) && (every fits64 (q .dag .var-width) && every fits64 (q .dag .func-width)))

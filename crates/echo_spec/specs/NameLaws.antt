@@ -1,14 +1,12 @@
 -- Laws of names: what holds of the names that the tables of an accepted query declare.
-use Prim.Native.Nat.{ℕ, zero, suc, _≤_, _<_}
-use mathlib.Core.Path.{_≡_, refl, ap, sym, _∙_, subst}
+use Prim.Native.Nat.{ℕ, _≤_}
 use mathlib.Core.List.{List, [], _∷_, _++_, append-assoc, append-nil}
-use mathlib.Core.Bool.{Bool, true, false, _&&_, not}
+use mathlib.Core.Bool.{Bool, _&&_, not}
 use mathlib.Core.Logic.{_≢_}
-use native.Mathlib.Omega.{arith}
-use lib.Dec.{T, leb, eqb, leb→le, eqb-refl, T-not, not-T}
-use Rattle.lists.specs.Tests.{every, All, inList, distinct, same, and-0, and-1, and-T, or-l, or-r, or-elim, all-append, same→eq, same-refl}
+use lib.Dec.{T, leb, eqb, leb→le}
+use Rattle.lists.specs.Tests.{every, All, inList, distinct, distinct-snoc, differs, and-0, and-1, and-T, all-append}
 use Rattle.reading.specs.Trees.{Name}
-use Rattle.echo_spec.specs.Input.{Dag}
+use Rattle.echo_spec.specs.Input.{Dag, nameTable, anameTable, fnameTable}
 use Rattle.echo_spec.specs.Names.{byteOk, firstOk, reserved, entry-ok, table-ok, namesOk}
 
 -- a byte of a name may stand between bars
@@ -17,9 +15,6 @@ pub record NameByte (c : ℕ) : Type 0 where
   pub ascii : c ≤ 126
   pub no-bar : c ≢ 124
   pub no-backslash : c ≢ 92
-
-differs : (c x : ℕ) → T (not (eqb c x)) → c ≢ x
-differs c x t e = T-not (eqb c x) t (subst (λ (z : ℕ). T (eqb c z)) e (eqb-refl c))
 
 pub name-byte : (c : ℕ) → T (byteOk c) → NameByte c
 unfolding byteOk
@@ -38,7 +33,7 @@ abbrev pub nameOk : Name → Bool
 nameOk n = every byteOk n && (firstOk n && not (inList n reserved))
 
 abbrev pub allNames : Dag → List Name
-allNames d = d .names ++ (d .anames ++ d .fnames)
+allNames d = nameTable d ++ (anameTable d ++ fnameTable d)
 
 entry-name : (before : List Name) (n : Name) → T (entry-ok before n) → T (nameOk n) × T (not (inList n before))
 unfolding entry-ok
@@ -56,23 +51,6 @@ table-names before [] t = tt
 table-names before (n ∷ ns) t =
     (entry-name before n (and-0 (entry-ok before n) _ t) .0, table-names (before ++ (n ∷ [])) ns (and-1 (entry-ok before n) _ t))
 
-in-append : (n : Name) (a b : List Name) → T (inList n (a ++ b)) → (T (inList n a) → ⊥) → T (inList n b)
-in-append n [] b h k = h
-in-append n (m ∷ a) b h k =
-    or-elim (same n m) (inList n (a ++ b)) h (λ e. absurd (k (or-l (same n m) (inList n a) e)))
-    (λ q. in-append n a b q (λ l. k (or-r (same n m) (inList n a) l)))
-
-distinct-snoc : (before : List Name) (n : Name) → T (distinct before) → T (not (inList n before)) → T (distinct (before ++ (n ∷ [])))
-distinct-snoc [] n d t = tt
-distinct-snoc (m ∷ before) n d t =
-    let fresh : (T (inList m (before ++ (n ∷ []))) → ⊥) = λ q.
-    let last : T (inList m (n ∷ [])) = in-append m before (n ∷ []) q (T-not (inList m before) (and-0 (not (inList m before)) (distinct before) d)) in
-    let e : m ≡ n = or-elim (same m n) false last (same→eq m n) (λ z. absurd z) in
-    T-not (inList n (m ∷ before)) t (or-l (same n m) (inList n before) (rw e (same-refl n))) in
-    let later : (T (inList n before) → ⊥) = λ q. T-not (inList n (m ∷ before)) t (or-r (same n m) (inList n before) q) in
-    and-T (not (inList m (before ++ (n ∷ [])))) (distinct (before ++ (n ∷ []))) (not-T (inList m (before ++ (n ∷ []))) fresh)
-    (distinct-snoc before n (and-1 (not (inList m before)) (distinct before) d) (not-T (inList n before) later))
-
 table-distinct : (before ns : List Name) → T (distinct before) → T (table-ok before ns) → T (distinct (before ++ ns))
 unfolding table-ok
 table-distinct before [] d t = rw append-nil d
@@ -82,27 +60,27 @@ table-distinct before (n ∷ ns) d t =
     rw append-assoc at rest
 
 module _ (d : Dag) (h : T (namesOk d)) where
-  first-table : T (table-ok [] (d .names))
+  first-table : T (table-ok [] (nameTable d))
   unfolding namesOk
-  first-table = and-0 (table-ok [] (d .names)) _ h
+  first-table = and-0 (table-ok [] (nameTable d)) _ h
 
-  second-table : T (table-ok (d .names) (d .anames))
+  second-table : T (table-ok (nameTable d) (anameTable d))
   unfolding namesOk
-  second-table = and-0 (table-ok (d .names) (d .anames)) _ (and-1 (table-ok [] (d .names)) _ h)
+  second-table = and-0 (table-ok (nameTable d) (anameTable d)) _ (and-1 (table-ok [] (nameTable d)) _ h)
 
-  third-table : T (table-ok (d .names ++ d .anames) (d .fnames))
+  third-table : T (table-ok (nameTable d ++ anameTable d) (fnameTable d))
   unfolding namesOk
-  third-table = and-1 (table-ok (d .names) (d .anames)) _ (and-1 (table-ok [] (d .names)) _ h)
+  third-table = and-1 (table-ok (nameTable d) (anameTable d)) _ (and-1 (table-ok [] (nameTable d)) _ h)
 
   -- no name is declared twice, in one table or in two
   pub names-distinct : T (distinct (allNames d))
   names-distinct =
-      let one = table-distinct [] (d .names) tt first-table in
-      let two = table-distinct (d .names) (d .anames) one second-table in
-      rw append-assoc at (table-distinct (d .names ++ d .anames) (d .fnames) two third-table)
+      let one = table-distinct [] (nameTable d) tt first-table in
+      let two = table-distinct (nameTable d) (anameTable d) one second-table in
+      rw append-assoc at (table-distinct (nameTable d ++ anameTable d) (fnameTable d) two third-table)
 
   -- every name is of bytes that may stand between bars, is no word reserved, and has a first byte
   pub names-ok : All nameOk (allNames d)
   names-ok =
-      all-append nameOk (d .names) (d .anames ++ d .fnames) (table-names [] (d .names) first-table)
-      (all-append nameOk (d .anames) (d .fnames) (table-names (d .names) (d .anames) second-table) (table-names (d .names ++ d .anames) (d .fnames) third-table))
+      all-append nameOk (nameTable d) (anameTable d ++ fnameTable d) (table-names [] (nameTable d) first-table)
+      (all-append nameOk (anameTable d) (fnameTable d) (table-names (nameTable d) (anameTable d) second-table) (table-names (nameTable d ++ anameTable d) (fnameTable d) third-table))

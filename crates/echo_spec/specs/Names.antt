@@ -7,7 +7,7 @@ use lib.Dec.{leb, eqb}
 use Rattle.lists.specs.Bytes.{bytes}
 use Rattle.lists.specs.Tests.{every, inList}
 use Rattle.reading.specs.Trees.{Name}
-use Rattle.echo_spec.specs.Input.{Dag}
+use Rattle.echo_spec.specs.Input.{Dag, nameTable, anameTable, fnameTable}
 
 -- `byte_ok`: from 32 to 126, no bar and no backslash
 unfoldable pub byteOk : ℕ → Bool
@@ -48,4 +48,4 @@ table-ok before [] = true
 table-ok before (n ∷ ns) = entry-ok before n && table-ok (before ++ (n ∷ [])) ns
 
 unfoldable pub namesOk : Dag → Bool
-namesOk d = table-ok [] (d .names) && (table-ok (d .names) (d .anames) && table-ok (d .names ++ d .anames) (d .fnames))
+namesOk d = table-ok [] (nameTable d) && (table-ok (nameTable d) (anameTable d) && table-ok (nameTable d ++ anameTable d) (fnameTable d))

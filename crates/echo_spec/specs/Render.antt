@@ -113,5 +113,9 @@ logicText ds = bytes "(set-logic " ++ (logicOf (ds .functions) (ds .arrays) ++ b
 unfoldable pub declarationsText : Declarations → List ℕ
 declarationsText ds = texts variableText (ds .variables) ++ (texts arrayText (ds .arrays) ++ texts functionText (ds .functions))
 
+-- a script, by its declarations and the text of its assertions
+abbrev pub frame : Declarations → List ℕ → List ℕ
+frame ds assertions = logicText ds ++ (declarationsText ds ++ (assertions ++ bytes "(check-sat)\n"))
+
 unfoldable pub render : Reading → List ℕ
-render r = logicText (r .declarations) ++ (declarationsText (r .declarations) ++ (assertionsText (r .assertions) ++ bytes "(check-sat)\n"))
+render r = frame (r .declarations) (assertionsText (r .assertions))

@@ -9,12 +9,18 @@ use Rattle.lists.specs.Tests.{every, everyFrom}
 use Rattle.lists.specs.Build.{tabulate, findFrom}
 use Rattle.reading.specs.Kinds.{Call}
 use Rattle.reading.specs.Trees.{Variable, Array, Function, Declarations}
-use Rattle.echo_spec.specs.Input.{Node, no-node, Dag}
+use Rattle.echo_spec.specs.Input.{Node, no-node, Dag, nameTable, anameTable, fnameTable}
 use Rattle.echo_spec.specs.Widths.{widthAt, indexWidth, valueWidth}
 
--- a table's columns are of one length
+-- are all these lists as long as the first
+unfoldable pub oneLength : List (List ℕ) → Bool
+oneLength columns = every (λ c. eqb (length c) (length (getD columns 0 []))) columns
+
+-- each table's columns are of one length
 unfoldable pub columnsOk : Dag → Bool
-columnsOk d = every (λ lengths. every (λ l. eqb l (getD lengths 0 0)) lengths) (d .columns)
+columnsOk d =
+    oneLength (d .name-start ∷ d .name-len ∷ d .var-node ∷ d .var-width ∷ [])
+    && (oneLength (d .aname-start ∷ d .aname-len ∷ []) && oneLength (d .fname-start ∷ d .fname-len ∷ d .func-width ∷ []))
 
 -- the first entry that has this node
 unfoldable pub find-node : List ℕ → ℕ → Option ℕ
@@ -52,11 +58,18 @@ decl-func-ok d ws g =
     && elim (find-call (d .nodes) g) [ none ↦ false | some c ↦ argumentsInside (d .side) (getD (d .nodes) c no-node) && every (ltb 0) (signature d ws g) ]
 
 unfoldable pub decl-funcs-ok : Dag → List ℕ → Bool
-decl-funcs-ok d ws = everyFrom (decl-func-ok d ws) 0 (length (d .fnames))
+decl-funcs-ok d ws = everyFrom (decl-func-ok d ws) 0 (length (fnameTable d))
+
+-- what each table declares, in table order
+abbrev pub variablesOf : Dag → List Variable
+variablesOf d = tabulate (length (nameTable d)) (λ k. record { name = getD (nameTable d) k []; width = getD (d .var-width) k 0 })
+
+abbrev pub arraysOf : Dag → List Array
+arraysOf d = tabulate (length (anameTable d)) (λ k. record { name = getD (anameTable d) k []; index = indexWidth k; value = valueWidth k })
+
+abbrev pub functionsOf : Dag → List ℕ → List Function
+functionsOf d ws =
+    tabulate (length (fnameTable d)) (λ g. record { name = getD (fnameTable d) g []; arguments = signature d ws g; width = getD (d .func-width) g 0 })
 
 unfoldable pub declarationsOf : Dag → List ℕ → Declarations
-declarationsOf d ws = record {
-  variables = tabulate (length (d .names)) (λ k. record { name = getD (d .names) k []; width = getD (d .var-width) k 0 });
-  arrays = tabulate (length (d .anames)) (λ k. record { name = getD (d .anames) k []; index = indexWidth k; value = valueWidth k });
-  functions = tabulate (length (d .fnames)) (λ g. record { name = getD (d .fnames) g []; arguments = signature d ws g; width = getD (d .func-width) g 0 });
-}
+declarationsOf d ws = record { variables = variablesOf d; arrays = arraysOf d; functions = functionsOf d ws }

@@ -28,7 +28,7 @@ use Rattle.echo_spec.specs.Shapes.{
   unknown,
   isBool,
 }
-use Rattle.echo_spec.specs.Input.{Node, shape, no-node, Dag}
+use Rattle.echo_spec.specs.Input.{Node, shape, no-node, Dag, anameTable, fnameTable}
 use Rattle.echo_spec.specs.Widths.{widthAt, ext-wf}
 use Rattle.echo_spec.specs.Names.{namesOk}
 use Rattle.echo_spec.specs.Sharing.{unshared}
@@ -69,8 +69,8 @@ askedAs d ws i n comparison = 0
 askedAs d ws i n negation = 0
 askedAs d ws i n connective = 0
 askedAs d ws i n unary = 0
-askedAs d ws i n select = unless (ltb (n .a) (length (d .anames))) 1
-askedAs d ws i n call = unless (ltb (n .a) (length (d .fnames))) 1 orElse unless (callOk d ws n) 7
+askedAs d ws i n select = unless (ltb (n .a) (length (anameTable d))) 1
+askedAs d ws i n call = unless (ltb (n .a) (length (fnameTable d))) 1 orElse unless (callOk d ws n) 7
 askedAs d ws i n unknown = 0
 
 -- what node i by itself is refused with, whatever path leads to it
@@ -147,16 +147,22 @@ walkRoots d ws roots = walkAll (walk d ws) (map formula roots)
 
 -- ---------------------------------------------------------------- refusals 1 to 7, in document 01's order
 
--- ws are the widths of the nodes, as far as they are well formed
-unfoldable pub refusalWith : Dag → List ℕ → List ℕ → ℕ
-refusalWith d ws roots =
-    unless (eqb (length ws) (length (d .nodes))) 1
-    orElse unless (columnsOk d) 1
+-- The order that every way to print has: `sharing` is its check of sharing, `walked` its walk of the roots; ws are the widths of
+-- the nodes, as far as they are well formed.
+abbrev pub tableChecks : Dag → List ℕ → ℕ → ℕ → ℕ
+tableChecks d ws sharing walked =
+    unless (columnsOk d) 1
     orElse unless (namesOk d) 2
-    orElse unless (unshared (d .nodes) (d .side) roots) 6
+    orElse sharing
     orElse unless (decl-vars-ok d) 4
     orElse unless (decl-funcs-ok d ws) 7
-    orElse walkRoots d ws roots
+    orElse walked
+
+abbrev pub checks : Dag → List ℕ → ℕ → ℕ → ℕ
+checks d ws sharing walked = unless (eqb (length ws) (length (d .nodes))) 1 orElse tableChecks d ws sharing walked
+
+unfoldable pub refusalWith : Dag → List ℕ → List ℕ → ℕ
+refusalWith d ws roots = checks d ws (unless (unshared (d .nodes) (d .side) roots) 6) (walkRoots d ws roots)
 
 -- with so many bits
 abbrev pub refusal : Dag → ℕ → List ℕ → ℕ

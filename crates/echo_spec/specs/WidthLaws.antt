@@ -1,31 +1,15 @@
 -- Laws of the width pass: each node whose width is known is well formed after the nodes before it, and has that width.
-use Prim.Native.Nat.{ℕ, zero, suc, _+_, _-_, _≤_, _<_}
-use mathlib.Core.Path.{_≡_, refl, ap, sym, _∙_, subst}
+use Prim.Native.Nat.{ℕ, zero, suc, _+_, _≤_, _<_}
+use mathlib.Core.Path.{_≡_, refl, sym, _∙_}
 use mathlib.Core.List.{List, [], _∷_, _++_, append-assoc, append-nil}
-use mathlib.Core.Bool.{Bool, true, false, _&&_}
-use mathlib.Core.Logic.{_⊎_, inl, inr}
+use mathlib.Core.Bool.{Bool, true, false}
 use native.Mathlib.Omega.{arith}
-use lib.Dec.{T, leb, ltb, eqb, eqb→eq, ltb→lt}
-use lib.ListN.{length, take, drop, getD, length-append}
-use lib.Seq.{length-take-le, getD-take, take-append-seam, take-append-le, getD-append-seam}
+use lib.Dec.{T, ltb, eqb, eqb→eq, ltb→lt}
+use lib.ListN.{length, take, getD, length-append}
+use lib.Seq.{length-take-le, getD-take, take-append-seam, getD-append-seam}
 use Rattle.lists.specs.Tests.{All, and-0, and-1, true→T}
 use Rattle.echo_spec.specs.Input.{Node, no-node}
-use Rattle.echo_spec.specs.Widths.{
-  widthAt,
-  earlier,
-  earlierOf,
-  largest,
-  un-wf,
-  bin-wf,
-  bool-bin-wf,
-  extend-wf,
-  chain-wf,
-  args-wf,
-  node-wf,
-  node-width,
-  ext-wf-from,
-  ext-wf,
-}
+use Rattle.echo_spec.specs.Widths.{widthAt, earlier, earlierOf, un-wf, bin-wf, args-wf, node-wf, node-width, ext-wf-from, ext-wf}
 
 -- node n, number i, after the first i of the widths
 pub record Sized (nbits : ℕ) (side ws : List ℕ) (i : ℕ) (n : Node) : Type 0 where

@@ -22,7 +22,7 @@ use Rattle.echo_spec.specs.Shapes.{
   call,
   unknown,
 }
-use Rattle.echo_spec.specs.Input.{Node, shape}
+use Rattle.echo_spec.specs.Input.{Node, shape, largest, fits64, Query}
 
 -- the widths of an array's index and value, by its number
 unfoldable pub indexWidth : ℕ → ℕ
@@ -41,10 +41,6 @@ earlier ws i = ltb i (length ws)
 -- an earlier node of this width
 abbrev pub earlierOf : List ℕ → ℕ → ℕ → Bool
 earlierOf ws w i = earlier ws i && eqb (widthAt ws i) w
-
--- the largest number of 64 bits: no width is above it
-abbrev pub largest : ℕ
-largest = 18446744073709551615
 
 unfoldable pub un-wf : List ℕ → ℕ → Bool
 un-wf ws a = earlier ws a && ltb 0 (widthAt ws a)
@@ -72,10 +68,10 @@ args-wf ws zero side = true
 args-wf ws (suc n) [] = false
 args-wf ws (suc n) (x ∷ side) = earlier ws x && args-wf ws n side
 
--- a node of this shape is well formed after nodes of the widths ws, with so many bits
+-- a node of this shape is well formed after nodes of the widths ws, with so many bits; every width has 64 bits
 unfoldable pub wfAs : ℕ → List ℕ → List ℕ → Node → Shape → Bool
-wfAs nbits side ws n var = ltb 0 (n .a)
-wfAs nbits side ws n const = ltb 0 (n .b) && leb (n .a + n .b) nbits
+wfAs nbits side ws n var = ltb 0 (n .a) && fits64 (n .a)
+wfAs nbits side ws n const = ltb 0 (n .b) && (fits64 (n .b) && leb (n .a + n .b) nbits)
 wfAs nbits side ws n binary = bin-wf ws (n .a) (n .b)
 wfAs nbits side ws n rotation = bin-wf ws (n .a) (n .b)
 wfAs nbits side ws n extraction = earlier ws (n .c) && (leb (n .b) (n .a) && ltb (n .a) (widthAt ws (n .c)))
@@ -88,7 +84,7 @@ wfAs nbits side ws n connective = bool-bin-wf ws (n .a) (n .b)
 wfAs nbits side ws n unary = un-wf ws (n .a)
 wfAs nbits side ws n select =
     earlierOf ws (indexWidth (n .a)) (n .b) && chain-wf (indexWidth (n .a)) (valueWidth (n .a)) ws (n .d) (drop (n .c) side)
-wfAs nbits side ws n call = ltb 0 (n .b) && args-wf ws (n .d) (drop (n .c) side)
+wfAs nbits side ws n call = ltb 0 (n .b) && (fits64 (n .b) && args-wf ws (n .d) (drop (n .c) side))
 wfAs nbits side ws n unknown = false
 
 -- `node_wf` and `ext_node_wf`
@@ -126,3 +122,7 @@ ext-wf-from nbits side ws (n ∷ ns) =
 
 unfoldable pub ext-wf : ℕ → List ℕ → List Node → List ℕ
 ext-wf nbits side ns = ext-wf-from nbits side [] ns
+
+-- the widths of a query's nodes
+abbrev pub widthsOf : Query → List ℕ
+widthsOf q = ext-wf (length (q .bits)) (q .dag .side) (q .dag .nodes)

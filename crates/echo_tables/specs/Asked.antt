@@ -1,13 +1,13 @@
 -- What the tables ask of a node, from the lists that are lent.
-use Prim.Native.Nat.{ℕ, _+_, _-_, _≤_, _<_}
-use mathlib.Core.Path.{_≡_, refl, ap, sym, _∙_}
+use Prim.Native.Nat.{ℕ, _+_, _*_, _≤_, _<_}
+use mathlib.Core.Path.{_≡_, refl, sym, _∙_}
 use mathlib.Core.List.{List}
 use mathlib.Core.Bool.{Bool, false}
 use native.Mathlib.Omega.{arith}
 use lib.Dec.{eqb}
 use lib.ListN.{length, getD, set}
+use lib.Seq.{getD-set-other}
 use borrow.Author.Tests.{eq-eqb, ne-eqb, le-leb, lt-leb, lt-ltb, le-ltb}
-use Rattle.lists.specs.Build.{length-tabulate}
 use Rattle.reading.specs.Kinds.{Const}
 use Rattle.echo_spec.specs.Refusals.{unless}
 use Rattle.echo_spec.specs.Shapes.{
@@ -28,60 +28,76 @@ use Rattle.echo_spec.specs.Shapes.{
   call,
   unknown,
 }
-use Rattle.echo_spec.specs.Input.{Problem, Node, shape, no-node, nodesOf, namesOf, Dag, dagOf}
-use Rattle.echo_spec.specs.Widths.{widthAt}
+use Rattle.echo_spec.specs.Input.{Node, shape, no-node, nodesOf, Dag, anameTable, fnameTable}
+use Rattle.echo_spec.specs.Widths.{widthAt, ext-wf}
 use Rattle.echo_spec.specs.Tables.{find-node, find-call}
-use Rattle.echo_spec.specs.Walk.{variableOk, rotationOk, args-match, callOk, askedAs, asked}
+use Rattle.echo_spec.specs.Walk.{variableOk, rotationOk, args-match, callOk, askedAs}
+use Rattle.lent.specs.Lent.{Slice, problemAt, dagAt}
+use Rattle.lent.specs.Clearing.{Zeros}
 use Rattle.blast_kernel.specs.Codes.{codeOf}
-use Rattle.echo_tables.specs.Found.{orZero, Entries, Calls, found-none, found-some}
+use Rattle.echo_tables.specs.declared.Found.{Found}
+use Rattle.echo_tables.specs.declared.Found.the-variants.{At, Nothing}
+use Rattle.echo_tables.specs.Found.{foundOf, orZero, entered, Entries, Calls, entered-found}
 use Rattle.echo_tables.specs.Steps.{stored}
+use Rattle.echo_tables.specs.Refused.{refusedAt}
 
--- the dag has these parts, na arrays and nf functions, and the tables were filled from it
-pub record Parts (d : Dag) (nodes side var-width func-width : List ℕ) (na nf : ℕ) (entry first : List ℕ) : Type 0 where
-  pub nodes-are : d .nodes ≡ nodesOf nodes
-  pub side-is : d .side ≡ side
-  pub var-width-is : d .var-width ≡ var-width
-  pub func-width-is : d .func-width ≡ func-width
-  pub arrays : length (d .anames) ≡ na
-  pub functions : length (d .fnames) ≡ nf
-  pub entries : Entries (d .var-node) entry
-  pub calls : Calls (d .nodes) first
+-- the tables that are looked up were filled from the problem, which is within the limits
+pub record Lookups (b n : List Slice) (entry first : List ℕ) : Type 0 where
+  pub nodes : length (problemAt b n .nodes) ≤ 34816
+  pub functions : length (problemAt b n .fname-start) ≤ 512
+  pub entries : Entries (problemAt b n .var-node) entry
+  pub calls : Calls (nodesOf (problemAt b n .nodes)) first
 
--- the table has what is asked of each of the first n nodes
+-- node i as one number: the code of its shape, and 16 times what its whole term is refused with
+abbrev pub codeFor : Dag → List ℕ → ℕ → ℕ
+codeFor d ws i = codeOf (shape (getD (d .nodes) i no-node)) + 16 * refusedAt d ws i
+
+-- the table has the number of each of the first n nodes, and 0 for the others
 pub record MarkedTo (d : Dag) (ws : List ℕ) (n : ℕ) (t : List ℕ) : Type 0 where
-  pub at : (i : ℕ) → i < n → getD t i 0 ≡ asked d ws i
+  pub at : (i : ℕ) → i < n → getD t i 0 ≡ codeFor d ws i
+  pub past : (i : ℕ) → n ≤ i → getD t i 0 ≡ 0
 
 abbrev pub Marked : Dag → List ℕ → List ℕ → Type 0
 Marked d ws t = MarkedTo d ws (length (d .nodes)) t
 
+-- ws are the widths of all nodes, each well formed after those before it
+pub record Measured (b n : List Slice) (ws : List ℕ) : Type 0 where
+  pub widths : ws ≡ ext-wf (length (problemAt b n .bits)) (dagAt b n .side) (dagAt b n .nodes)
+  pub counted : length ws ≡ length (dagAt b n .nodes)
+
+-- before the table is filled
+pub record Markable (b n : List Slice) (ws entry first codes : List ℕ) : Type 0 where
+  pub lookups : Lookups b n entry first
+  pub measured : Measured b n ws
+  pub cleared : Zeros codes
+
+-- as it is filled up to node i, which is m
+pub record Marking (b n : List Slice) (ws entry first codes : List ℕ) (i : ℕ) (m : Node) : Type 0 where
+  pub lookups : Lookups b n entry first
+  pub measured : Measured b n ws
+  pub filled : MarkedTo (dagAt b n) ws i codes
+  pub here : i < length (dagAt b n .nodes)
+  pub node : m ≡ getD (dagAt b n .nodes) i no-node
+
+-- once it is filled
+pub record Refusable (b n : List Slice) (ws codes : List ℕ) : Type 0 where
+  pub measured : Measured b n ws
+  pub marked : Marked (dagAt b n) ws codes
+
 -- ---------------------------------------------------------------- laws
 
--- the dag of a problem has the problem's parts
-pub parts-of : (p : Problem) {entry first : List ℕ} → Entries (p .var-node) entry → Calls (nodesOf (p .nodes)) first
-    → Parts (dagOf p) (p .nodes) (p .side) (p .var-width) (p .func-width) (length (p .aname-start)) (length (p .fname-start)) entry first
-unfolding dagOf namesOf
-parts-of p e f = record {
-  nodes-are = refl;
-  side-is = refl;
-  var-width-is = refl;
-  func-width-is = refl;
-  arrays = length-tabulate (length (p .aname-start)) _;
-  functions = length-tabulate (length (p .fname-start)) _;
-  entries = e;
-  calls = f;
-}
+-- r is what was looked up of a variable's entry
+module _ (d : Dag) (i : ℕ) (n : Node) (r : Found) {e : ℕ} (is : foundOf r ≡ entered e) (at : e ≡ orZero (find-node (d .var-node) i)) where
+  entry-is : find-node (d .var-node) i ≡ foundOf r
+  entry-is = sym (is ∙ entered-found (find-node (d .var-node) i) at)
 
--- a variable's entry is e, one higher than its place
-module _ (d : Dag) (i : ℕ) (n : Node) {e : ℕ} (is : e ≡ orZero (find-node (d .var-node) i)) where
-  pub variable-absent : e ≡ 0 → false ≡ variableOk d i n
+  pub variable-absent : r ≡ Nothing → false ≡ variableOk d i n
   unfolding variableOk
-  variable-absent z = rw (found-none (find-node (d .var-node) i) is z, variableOk) refl
+  variable-absent z = rw (entry-is, z, variableOk) refl
 
-  pub variable-known : (e ≡ 0 → ⊥) → {widths : List ℕ} {w : ℕ} → d .var-width ≡ widths → w ≡ widthAt widths (e - 1)
-      → eqb w (n .a) ≡ variableOk d i n
+  pub variable-known : {k w : ℕ} → r ≡ At k → w ≡ widthAt (d .var-width) k → eqb w (n .a) ≡ variableOk d i n
   unfolding variableOk
-  variable-known z v q =
-      rw (q ∙ ap (λ l. widthAt l (e - 1)) (sym v), found-some (find-node (d .var-node) i) is z, variableOk) refl
+  variable-known z q = rw (q, entry-is, z, variableOk) refl
 
 -- a rotation's width is w
 module _ (d : Dag) (ws : List ℕ) (i : ℕ) (n : Node) {w : ℕ} (is : w ≡ widthAt ws i) where
@@ -94,33 +110,28 @@ module _ (d : Dag) (ws : List ℕ) (i : ℕ) (n : Node) {w : ℕ} (is : w ≡ wi
   rotation-wide h = rw (← is, lt-leb w 65536 h, lt-ltb 0 w (omega arith)) refl
 
   -- and its amount is node m
-  pub rotation-by : (w ≡ 0 → ⊥) → w ≤ 65536 → {nodes : List Node} {m : Node} → d .nodes ≡ nodes → m ≡ getD nodes (n .b) no-node
-      → eqb (m .kind) Const ≡ rotationOk d ws i n
+  pub rotation-by : (w ≡ 0 → ⊥) → w ≤ 65536 → {m : Node} → m ≡ getD (d .nodes) (n .b) no-node → eqb (m .kind) Const ≡ rotationOk d ws i n
   unfolding rotationOk
-  rotation-by z h v q =
-      rw (← is, le-leb w 65536 h, lt-ltb 0 w (omega arith), q ∙ ap (λ l. getD l (n .b) no-node) (sym v)) refl
+  rotation-by z h q = rw (← is, le-leb w 65536 h, lt-ltb 0 w (omega arith), q) refl
 
 -- a call's function has width w
-module _ (d : Dag) (ws : List ℕ) (n : Node) {widths : List ℕ} {w : ℕ} (v : d .func-width ≡ widths) (is : w ≡ widthAt widths (n .a)) where
-  declared : w ≡ widthAt (d .func-width) (n .a)
-  declared = is ∙ ap (λ l. widthAt l (n .a)) (sym v)
-
+module _ (d : Dag) (ws : List ℕ) (n : Node) {w : ℕ} (is : w ≡ widthAt (d .func-width) (n .a)) where
   pub call-width : (w ≡ n .b → ⊥) → false ≡ callOk d ws n
   unfolding callOk
-  call-width h = rw (← declared, ne-eqb w (n .b) h) refl
+  call-width h = rw (← is, ne-eqb w (n .b) h) refl
 
-  -- and its first call is c, one higher than its node
-  module _ (ok : w ≡ n .b) {c : ℕ} (at : c ≡ orZero (find-call (d .nodes) (n .a))) where
-    pub call-absent : c ≡ 0 → false ≡ callOk d ws n
-    unfolding callOk
-    call-absent z = rw (← declared, eq-eqb w (n .b) ok, found-none (find-call (d .nodes) (n .a)) at z) refl
+  -- and r is what was looked up of its first call
+  module _ (ok : w ≡ n .b) (r : Found) {e : ℕ} (looked : foundOf r ≡ entered e) (at : e ≡ orZero (find-call (d .nodes) (n .a))) where
+    call-is : find-call (d .nodes) (n .a) ≡ foundOf r
+    call-is = sym (looked ∙ entered-found (find-call (d .nodes) (n .a)) at)
 
-    pub call-by : (c ≡ 0 → ⊥) → {nodes : List Node} {side : List ℕ} {f : Node} {r : Bool} → d .nodes ≡ nodes → d .side ≡ side
-        → f ≡ getD nodes (c - 1) no-node → r ≡ args-match ws side n f → r ≡ callOk d ws n
+    pub call-absent : r ≡ Nothing → false ≡ callOk d ws n
     unfolding callOk
-    call-by z {f = f} ns sd q e =
-        rw (← declared, eq-eqb w (n .b) ok, found-some (find-call (d .nodes) (n .a)) at z, ns, ← q)
-        (e ∙ ap (λ l. args-match ws l n f) (sym sd))
+    call-absent z = rw (← is, eq-eqb w (n .b) ok, call-is, z) refl
+
+    pub call-by : {c : ℕ} → r ≡ At c → {f : Node} {b : Bool} → f ≡ getD (d .nodes) c no-node → b ≡ args-match ws (d .side) n f → b ≡ callOk d ws n
+    unfolding callOk
+    call-by z q e = rw (← is, eq-eqb w (n .b) ok, call-is, z, ← q) e
 
 -- what is asked of node i by its shape
 module _ (d : Dag) (ws : List ℕ) (i : ℕ) (n : Node) (s : Shape) where
@@ -132,20 +143,20 @@ module _ (d : Dag) (ws : List ℕ) (i : ℕ) (n : Node) (s : Shape) where
   unfolding askedAs
   asked-rotation q e t = rw (q, ← e, t) refl
 
-  pub asked-select : s ≡ select → {na : ℕ} → length (d .anames) ≡ na → n .a < na → 0 ≡ askedAs d ws i n s
+  pub asked-select : s ≡ select → {na : ℕ} → length (anameTable d) ≡ na → n .a < na → 0 ≡ askedAs d ws i n s
   unfolding askedAs
   asked-select q {na} e h = rw (q, e, lt-ltb (n .a) na h) refl
 
-  pub asked-no-array : s ≡ select → {na : ℕ} → length (d .anames) ≡ na → na ≤ n .a → 1 ≡ askedAs d ws i n s
+  pub asked-no-array : s ≡ select → {na : ℕ} → length (anameTable d) ≡ na → na ≤ n .a → 1 ≡ askedAs d ws i n s
   unfolding askedAs
   asked-no-array q {na} e h = rw (q, e, le-ltb (n .a) na h) refl
 
-  pub asked-call : s ≡ call → {nf : ℕ} → length (d .fnames) ≡ nf → n .a < nf → {r b : Bool} → r ≡ callOk d ws n → r ≡ b
+  pub asked-call : s ≡ call → {nf : ℕ} → length (fnameTable d) ≡ nf → n .a < nf → {r b : Bool} → r ≡ callOk d ws n → r ≡ b
       → unless b 7 ≡ askedAs d ws i n s
   unfolding askedAs
   asked-call q {nf} f h e t = rw (q, f, lt-ltb (n .a) nf h, ← e, t) refl
 
-  pub asked-no-function : s ≡ call → {nf : ℕ} → length (d .fnames) ≡ nf → nf ≤ n .a → 1 ≡ askedAs d ws i n s
+  pub asked-no-function : s ≡ call → {nf : ℕ} → length (fnameTable d) ≡ nf → nf ≤ n .a → 1 ≡ askedAs d ws i n s
   unfolding askedAs
   asked-no-function q {nf} f h = rw (q, f, le-ltb (n .a) nf h) refl
 
@@ -170,9 +181,8 @@ asked-nothing d ws i n call e v r s c = absurd (c e)
 asked-nothing d ws i n unknown e v r s c = refl
 
 -- one node more
-pub marked-more : (d : Dag) {ws : List ℕ} {nodes : List Node} (t : List ℕ) (i : ℕ) {v : ℕ} {n : Node} → MarkedTo d ws i t → i < length t
-    → d .nodes ≡ nodes → n ≡ getD nodes i no-node → v ≡ askedAs d ws i n (shape n) → MarkedTo d ws (i + 1) (set t i v)
-unfolding asked
-marked-more d {ws} t i m l ns q e = record {
-  at = stored (asked d ws) t i (m .at) l (e ∙ ap (λ n. askedAs d ws i n (shape n)) (q ∙ ap (λ l. getD l i no-node) (sym ns)));
+pub marked-more : (d : Dag) {ws : List ℕ} (t : List ℕ) (i : ℕ) {v : ℕ} → MarkedTo d ws i t → i < length t → v ≡ codeFor d ws i → MarkedTo d ws (i + 1) (set t i v)
+marked-more d {ws} t i {v} m l e = record {
+  at = stored (codeFor d ws) t i (m .at) l e;
+  past = λ k h. getD-set-other t i k v 0 (λ z. let y : k ≡ i = z in omega arith) ∙ m .past k (omega arith);
 }

@@ -26,6 +26,11 @@ abbrev pub orZero : Option ℕ → ℕ
 orZero none = 0
 orZero (some k) = suc k
 
+-- what a number of a table says
+abbrev pub entered : ℕ → Option ℕ
+entered zero = none
+entered (suc k) = some k
+
 -- is the entry x that of node i
 abbrev pub has : ℕ → ℕ → Bool
 has i x = eqb x i
@@ -43,6 +48,17 @@ pub record Calls (ns : List Node) (t : List ℕ) : Type 0 where
   pub at : (g : ℕ) → g < 512 → getD t g 0 ≡ orZero (find-call ns g)
 
 -- ---------------------------------------------------------------- what a number of a table says
+
+pub entered-found : (o : Option ℕ) {e : ℕ} → e ≡ orZero o → entered e ≡ o
+entered-found none h = rw h refl
+entered-found (some k) h = rw h refl
+
+pub entered-none : {e : ℕ} → e ≡ 0 → none ≡ entered e
+entered-none z = rw z refl
+
+pub entered-some : (e : ℕ) → (e ≡ 0 → ⊥) → some (e - 1) ≡ entered e
+entered-some zero f = absurd (f refl)
+entered-some (suc k) f = let s : suc k - 1 ≡ k = omega arith in rw s refl
 
 pub found-none : (o : Option ℕ) {e : ℕ} → e ≡ orZero o → e ≡ 0 → o ≡ none
 found-none none h z = refl

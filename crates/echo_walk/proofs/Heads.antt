@@ -1,5 +1,5 @@
 -- The laws of heads: what is known of a node that passes, by its shape.
-use Prim.Native.Nat.{ℕ, suc, _+_, _-_, _%_, _≤_, _<_}
+use Prim.Native.Nat.{ℕ, suc, _+_, _-_, _*_, _/_, _%_, _≤_, _<_}
 use mathlib.Core.Path.{_≡_, refl, sym, ap, _∙_, subst}
 use mathlib.Core.Bool.{Bool, true, false, _||_, not}
 use mathlib.Core.List.{List, [], _∷_, _++_}
@@ -30,22 +30,26 @@ use Rattle.echo_spec.specs.Shapes.{
   shapes,
   shapeOf,
 }
-use Rattle.echo_spec.specs.Input.{Node, shape, nodesOf, part, namesOf, Dag, dagOf}
+use Rattle.echo_spec.specs.Input.{Node, shape, nodesOf, part, namesOf, Dag, dagOf, fits64, nameTable, anameTable, fnameTable}
 use Rattle.echo_spec.specs.Refusals.{unless, _orElse_}
 use Rattle.echo_spec.specs.Widths.{widthAt, wfAs, node-wf}
 use Rattle.echo_spec.specs.WidthLaws.{Sized, sized, bin-operands}
 use Rattle.echo_spec.specs.Tables.{find-node}
-use Rattle.echo_spec.specs.Trees.{constantBits, bitsValue, variableName}
+use Rattle.echo_spec.specs.Trees.{constantBits, bitsValue, amountOf, variableName}
 use Rattle.echo_spec.specs.Walk.{variableOk, rotationOk, callOk, askedAs, asked}
 use Rattle.echo_spec.specs.Accepted.{unless-passed, orElse-passed}
 use Rattle.echo_spec.specs.Render.{symbolOf, binaryDigits, quoted, operatorText}
 use Rattle.blast_kernel.specs.Codes.{codeOf}
-use Rattle.echo_tables.specs.Found.{orZero}
-use Rattle.echo_names.specs.Tables.{length-namesOf, getD-namesOf}
+use Rattle.echo_tables.specs.declared.Found.{Found}
+use Rattle.echo_tables.specs.declared.Found.the-variants.{At, Nothing}
+use Rattle.echo_tables.specs.Found.{foundOf, entered, entered-found}
+use Rattle.echo_spec.specs.ColumnLaws.{Aligned}
+use Rattle.lent.specs.Lent.{Slice, problemAt, dagAt}
+use Rattle.echo_names.specs.NameTables.{length-namesOf, getD-namesOf}
 use Rattle.echo_lines.specs.Heads.{repeated, callHead}
 use Rattle.echo_bytes.specs.Page.{Page, written}
 use Rattle.echo_walk.specs.Texts.{headAs, headOf}
-use Rattle.echo_walk.specs.Lent.{Slice, slot, dagAt, widthsAt, bitsAt, nodeAtPlace, headAt, indexedHead, Ready, Passed, Constant, Operator}
+use Rattle.echo_walk.specs.Ready.{widthsIn, entriesIn, codeIn, nodeIn, headAt, indexedHead, Ready, Taken, Constant, Operator}
 
 -- ---------------------------------------------------------------- names
 
@@ -54,119 +58,121 @@ name-is a s l k h e f q = q ∙ rw (e, f) (sym (getD-namesOf a s l k h))
 
 -- ---------------------------------------------------------------- a node of each shape that passes
 
-entry-one : {o : Option ℕ} {k : ℕ} → o ≡ some k → orZero o ≡ suc k
-entry-one e = rw e refl
-
-variable-name : (d : Dag) (i k : ℕ) → find-node (d .var-node) i ≡ some k → variableName d i ≡ getD (d .names) k []
+variable-name : (d : Dag) (i k : ℕ) → find-node (d .var-node) i ≡ some k → variableName d i ≡ getD (nameTable d) k []
 unfolding variableName
 variable-name d i k e = rw (e, variableName) refl
 
-module _ (t n : List Slice) (ready : Ready t n) (i : ℕ) where
-  -- a variable has an entry, whose place is one less than what the table of entries says
-  entry-of : Passed t n i var → (k : ℕ) × (find-node (slot n 4) i ≡ some k) × (getD (slot n 11) i 0 ≡ suc k)
+module _ (B N F : List Slice) (Y : List ℕ) (ready : Ready B N F Y) (i : ℕ) where
+  -- a variable has an entry
+  entry-of : Taken B N F i var → (k : ℕ) × (find-node (problemAt B N .var-node) i ≡ some k)
   unfolding askedAs dagOf variableOk
-  entry-of p = by-entry (find-node (slot n 4) i) refl (unless-passed (variableOk (dagAt t n) i (nodeAtPlace t i)) 3 (p .taken)) (ready .entered i (p .here))
+  entry-of p = by-entry (find-node (problemAt B N .var-node) i) refl (unless-passed (variableOk (dagAt B N) i (nodeIn B N i)) 3 (p .taken))
     where
-      by-entry : (o : Option ℕ) → find-node (slot n 4) i ≡ o → T (elim o [ none ↦ false | some k ↦ eqb (getD (slot n 5) k 0) (nodeAtPlace t i .a) ])
-          → getD (slot n 11) i 0 ≡ orZero (find-node (slot n 4) i) → (k : ℕ) × (find-node (slot n 4) i ≡ some k) × (getD (slot n 11) i 0 ≡ suc k)
-      by-entry none e h q = absurd h
-      by-entry (some k) e h q = (k, e, q ∙ entry-one e)
+      by-entry : (o : Option ℕ) → find-node (problemAt B N .var-node) i ≡ o
+          → T (elim o [ none ↦ false | some k ↦ eqb (getD (problemAt B N .var-width) k 0) (nodeIn B N i .a) ]) → (k : ℕ) × (find-node (problemAt B N .var-node) i ≡ some k)
+      by-entry none e h = absurd h
+      by-entry (some k) e h = (k, e)
 
-  pub entry-positive : Passed t n i var → {e : ℕ} → e ≡ getD (slot n 11) i 0 → 1 ≤ e
-  entry-positive p q = let z : _ ≡ suc (entry-of p .0) = q ∙ entry-of p .2 in omega arith
+  -- r is what was looked up of it
+  module _ (p : Taken B N F i var) (r : Found) (e : foundOf r ≡ entered (getD (entriesIn F) i 0)) where
+    entry-is : foundOf r ≡ some (entry-of p .0)
+    entry-is = e ∙ entered-found (find-node (problemAt B N .var-node) i) (ready .entered i (p .here)) ∙ entry-of p .1
 
-  pub entry-inside : Passed t n i var → {e : ℕ} → e ≡ getD (slot n 11) i 0 → e - 1 < length (slot n 2)
-  unfolding find-node
-  entry-inside p {e} q =
-      let r = entry-of p in
-      let z : e ≡ suc (r .0) = q ∙ r .2 in
-      let b : r .0 < 0 + length (slot n 4) = find-bound (λ x. eqb x i) 0 (slot n 4) (r .0) (r .1) .1 in
-      omega (arith, ready .node-column)
+    pub entry-there : {A : Type 0} → r ≡ Nothing → A
+    entry-there q = absurd (no-place (entry-of p .0) (sym (ap foundOf q) ∙ entry-is))
+      where
+        no-place : (k : ℕ) → none ≡ some k → ⊥
+        no-place k z = let y : _≡_ {A = ℕ} 0 1 = cc in omega arith
 
-  pub head-of-var : Passed t n i var → {e : ℕ} → e ≡ getD (slot n 11) i 0 → {x : List ℕ} → x ≡ getD (namesOf (slot t 2) (slot n 2) (slot n 3)) (e - 1) []
-      → {q : Page} (P : Page) → q ≡ written P (quoted x) → q ≡ written P (headAt t n i var)
-  unfolding headAs dagOf
-  head-of-var p {e} q {x} ex P w =
-      let r = entry-of p in
-      let z : e - 1 ≡ r .0 = omega (arith, q, r .2) in
-      let y : x ≡ variableName (dagAt t n) i =
-      ex ∙ ap (λ (k : ℕ). getD (namesOf (slot t 2) (slot n 2) (slot n 3)) k []) z ∙ sym (variable-name (dagAt t n) i (r .0) (r .1)) in
-      w ∙ ap (λ (m : List ℕ). written P (quoted m)) y
+    module _ {k : ℕ} (q : r ≡ At k) where
+      own-entry : find-node (problemAt B N .var-node) i ≡ some k
+      own-entry = entry-of p .1 ∙ sym entry-is ∙ ap foundOf q
 
-  pub array-inside : Passed t n i select → {m : Node} → m ≡ nodeAtPlace t i → m .a < length (slot n 6)
+      pub entry-inside : k < length (problemAt B N .name-start)
+      unfolding find-node dagOf
+      entry-inside =
+          let b : k < 0 + length (problemAt B N .var-node) = find-bound (λ x. eqb x i) 0 (problemAt B N .var-node) k own-entry .1 in
+          omega (arith, ready .aligned .var-node)
+
+      pub head-of-var : {x : List ℕ} → x ≡ getD (namesOf (problemAt B N .names) (problemAt B N .name-start) (problemAt B N .name-len)) k []
+          → {g : Page} (P : Page) → g ≡ written P (quoted x) → g ≡ written P (headAt B N F i var)
+      unfolding headAs dagOf
+      head-of-var ex P w = w ∙ ap (λ (m : List ℕ). written P (quoted m)) (ex ∙ sym (variable-name (dagAt B N) i k own-entry))
+
+  pub array-inside : Taken B N F i select → {m : Node} → m ≡ nodeIn B N i → m .a < length (problemAt B N .aname-start)
   unfolding askedAs dagOf
   array-inside p e =
-      let l = ltb→lt (nodeAtPlace t i .a) (length (namesOf (slot t 3) (slot n 6) (slot n 7))) (unless-passed (ltb (nodeAtPlace t i .a) (length (namesOf (slot t 3) (slot n 6) (slot n 7)))) 0 (p .taken)) in
+      let l = ltb→lt (nodeIn B N i .a) (length (namesOf (problemAt B N .anames) (problemAt B N .aname-start) (problemAt B N .aname-len))) (unless-passed (ltb (nodeIn B N i .a) (length (namesOf (problemAt B N .anames) (problemAt B N .aname-start) (problemAt B N .aname-len)))) 0 (p .taken)) in
       rw e (rw length-namesOf at l)
 
-  pub head-of-select : {m : Node} → m ≡ nodeAtPlace t i → {x : List ℕ} → x ≡ getD (namesOf (slot t 3) (slot n 6) (slot n 7)) (m .a) []
-      → {q : Page} (P : Page) → q ≡ written P (bytes "(select " ++ (repeated (m .d) (bytes "(store ") ++ quoted x)) → q ≡ written P (headAt t n i select)
+  pub head-of-select : {m : Node} → m ≡ nodeIn B N i → {x : List ℕ} → x ≡ getD (namesOf (problemAt B N .anames) (problemAt B N .aname-start) (problemAt B N .aname-len)) (m .a) []
+      → {q : Page} (P : Page) → q ≡ written P (bytes "(select " ++ (repeated (m .d) (bytes "(store ") ++ quoted x)) → q ≡ written P (headAt B N F i select)
   unfolding headAs dagOf
   head-of-select e ex P w = w ∙ rw (ex, e) refl
 
-  pub function-inside : Passed t n i call → {m : Node} → m ≡ nodeAtPlace t i → m .a < length (slot n 8)
+  pub function-inside : Taken B N F i call → {m : Node} → m ≡ nodeIn B N i → m .a < length (problemAt B N .fname-start)
   unfolding askedAs dagOf
   function-inside p e =
-      let a = orElse-passed (unless (ltb (nodeAtPlace t i .a) (length (namesOf (slot t 4) (slot n 8) (slot n 9)))) 1) (unless (callOk (dagAt t n) (widthsAt n) (nodeAtPlace t i)) 7) (p .taken) in
-      let l = ltb→lt (nodeAtPlace t i .a) (length (namesOf (slot t 4) (slot n 8) (slot n 9))) (unless-passed (ltb (nodeAtPlace t i .a) (length (namesOf (slot t 4) (slot n 8) (slot n 9)))) 0 (a .0)) in
+      let a = orElse-passed (unless (ltb (nodeIn B N i .a) (length (namesOf (problemAt B N .fnames) (problemAt B N .fname-start) (problemAt B N .fname-len)))) 1) (unless (callOk (dagAt B N) (widthsIn F) (nodeIn B N i)) 7) (p .taken) in
+      let l = ltb→lt (nodeIn B N i .a) (length (namesOf (problemAt B N .fnames) (problemAt B N .fname-start) (problemAt B N .fname-len))) (unless-passed (ltb (nodeIn B N i .a) (length (namesOf (problemAt B N .fnames) (problemAt B N .fname-start) (problemAt B N .fname-len)))) 0 (a .0)) in
       rw e (rw length-namesOf at l)
 
-  pub head-of-call : {m : Node} → m ≡ nodeAtPlace t i → {x : List ℕ} → x ≡ getD (namesOf (slot t 4) (slot n 8) (slot n 9)) (m .a) []
-      → {q : Page} (P : Page) → q ≡ written P (callHead (m .d) (quoted x)) → q ≡ written P (headAt t n i call)
+  pub head-of-call : {m : Node} → m ≡ nodeIn B N i → {x : List ℕ} → x ≡ getD (namesOf (problemAt B N .fnames) (problemAt B N .fname-start) (problemAt B N .fname-len)) (m .a) []
+      → {q : Page} (P : Page) → q ≡ written P (callHead (m .d) (quoted x)) → q ≡ written P (headAt B N F i call)
   unfolding headAs dagOf
   head-of-call e ex P w = w ∙ rw (ex, e) refl
 
-  pub node-inside : {s : Shape} → Passed t n i s → i < length (nodesOf (slot t 0))
+  pub node-inside : {s : Shape} → Taken B N F i s → i < length (nodesOf (problemAt B N .nodes))
   unfolding dagOf
   node-inside p = omega (arith, p .here, ready .counted)
 
   -- a rotation's amount is a node below it, a constant, and the width is from 1 to 65,536
-  amount-ok : Passed t n i rotation → T (rotationOk (dagAt t n) (widthsAt n) i (nodeAtPlace t i))
+  amount-ok : Taken B N F i rotation → T (rotationOk (dagAt B N) (widthsIn F) i (nodeIn B N i))
   unfolding askedAs
-  amount-ok p = unless-passed (rotationOk (dagAt t n) (widthsAt n) i (nodeAtPlace t i)) 4 (p .taken)
+  amount-ok p = unless-passed (rotationOk (dagAt B N) (widthsIn F) i (nodeIn B N i)) 4 (p .taken)
 
-  amount-below : Passed t n i rotation → nodeAtPlace t i .b < i
+  amount-below : Taken B N F i rotation → nodeIn B N i .b < i
   unfolding wfAs
-  amount-below p = bin-operands (widthsAt n) i (p .here) (nodeAtPlace t i .a) (nodeAtPlace t i .b) (p .formed) .1
+  amount-below p = bin-operands (widthsIn F) i (p .here) (nodeIn B N i .a) (nodeIn B N i .b) (p .formed) .1
 
-  pub amount-inside : Passed t n i rotation → {m : Node} → m ≡ nodeAtPlace t i → m .b < length (nodesOf (slot t 0))
+  pub amount-inside : Taken B N F i rotation → {m : Node} → m ≡ nodeIn B N i → m .b < length (nodesOf (problemAt B N .nodes))
   amount-inside p e = rw e (omega (arith, amount-below p, node-inside p))
 
-  amount-sized : Passed t n i rotation → T (wfAs (length (bitsAt t)) (slot n 0) (take (nodeAtPlace t i .b) (widthsAt n)) (nodeAtPlace t (nodeAtPlace t i .b)) (shape (nodeAtPlace t (nodeAtPlace t i .b))))
+  amount-sized : Taken B N F i rotation → T (wfAs (length (problemAt B N .bits)) (problemAt B N .side) (take (nodeIn B N i .b) (widthsIn F)) (nodeIn B N (nodeIn B N i .b)) (shape (nodeIn B N (nodeIn B N i .b))))
   unfolding dagOf node-wf
   amount-sized p =
-      let b : ℕ = nodeAtPlace t i .b in
-      let l : b < length (widthsAt n) = omega (arith, amount-below p, p .here) in
-      let z : Sized (length (bitsAt t)) (slot n 0) (widthsAt n) b (nodeAtPlace t b) =
-      subst (λ (ws : List ℕ). Sized (length (bitsAt t)) (slot n 0) ws b (nodeAtPlace t b)) (sym (ready .widths))
-      (sized (length (bitsAt t)) (slot n 0) (nodesOf (slot t 0)) b (rw (ready .widths) at l)) in
+      let b : ℕ = nodeIn B N i .b in
+      let l : b < length (widthsIn F) = omega (arith, amount-below p, p .here) in
+      let z : Sized (length (problemAt B N .bits)) (problemAt B N .side) (widthsIn F) b (nodeIn B N b) =
+      subst (λ (ws : List ℕ). Sized (length (problemAt B N .bits)) (problemAt B N .side) ws b (nodeIn B N b)) (sym (ready .widths))
+      (sized (length (problemAt B N .bits)) (problemAt B N .side) (nodesOf (problemAt B N .nodes)) b (rw (ready .widths) at l)) in
       z .wf
 
-  amount-const : Passed t n i rotation → shape (nodeAtPlace t (nodeAtPlace t i .b)) ≡ const
+  amount-const : Taken B N F i rotation → shape (nodeIn B N (nodeIn B N i .b)) ≡ const
   unfolding rotationOk dagOf shapes
   amount-const p =
-      let k = and-1 (leb (widthAt (widthsAt n) i) 65536) _ (and-1 (ltb 0 (widthAt (widthsAt n) i)) _ (amount-ok p)) in
-      rw (eqb→eq (nodeAtPlace t (nodeAtPlace t i .b) .kind) 1 k) refl
+      let k = and-1 (leb (widthAt (widthsIn F) i) 65536) _ (and-1 (ltb 0 (widthAt (widthsIn F) i)) _ (amount-ok p)) in
+      rw (eqb→eq (nodeIn B N (nodeIn B N i .b) .kind) 1 k) refl
 
-  pub rotation-ready : Passed t n i rotation → {m : Node} → m ≡ nodeAtPlace t i → {a : Node} → a ≡ nodeAtPlace t (m .b) → {w : ℕ} → w ≡ getD (widthsAt n) i 0
-      → (a .a + a .b ≤ length (bitsAt t)) × (0 < w) × (w ≤ 65536)
+  pub rotation-ready : Taken B N F i rotation → {m : Node} → m ≡ nodeIn B N i → {a : Node} → a ≡ nodeIn B N (m .b) → {w : ℕ} → w ≡ getD (widthsIn F) i 0
+      → (a .a + a .b ≤ length (problemAt B N .bits)) × (0 < w) × (w ≤ 65536)
   unfolding rotationOk wfAs
   rotation-ready p {m} e {a} f {w} q =
       let r = amount-ok p in
-      let c : T (wfAs (length (bitsAt t)) (slot n 0) (take (nodeAtPlace t i .b) (widthsAt n)) (nodeAtPlace t (nodeAtPlace t i .b)) const) = subst (λ (s : Shape). T (wfAs (length (bitsAt t)) (slot n 0) (take (nodeAtPlace t i .b) (widthsAt n)) (nodeAtPlace t (nodeAtPlace t i .b)) s)) (amount-const p) (amount-sized p) in
-      let x : Node = nodeAtPlace t (nodeAtPlace t i .b) in
-      let g : a ≡ x = f ∙ ap (λ (z : Node). nodeAtPlace t (z .b)) e in (
-        rw g (leb→le (x .a + x .b) (length (bitsAt t)) (and-1 (ltb 0 (x .b)) _ c)),
-        rw q (ltb→lt 0 (widthAt (widthsAt n) i) (and-0 (ltb 0 (widthAt (widthsAt n) i)) _ r)),
-        rw q (leb→le (widthAt (widthsAt n) i) 65536 (and-0 (leb (widthAt (widthsAt n) i) 65536) _ (and-1 (ltb 0 (widthAt (widthsAt n) i)) _ r))),
+      let c : T (wfAs (length (problemAt B N .bits)) (problemAt B N .side) (take (nodeIn B N i .b) (widthsIn F)) (nodeIn B N (nodeIn B N i .b)) const) = subst (λ (s : Shape). T (wfAs (length (problemAt B N .bits)) (problemAt B N .side) (take (nodeIn B N i .b) (widthsIn F)) (nodeIn B N (nodeIn B N i .b)) s)) (amount-const p) (amount-sized p) in
+      let x : Node = nodeIn B N (nodeIn B N i .b) in
+      let g : a ≡ x = f ∙ ap (λ (z : Node). nodeIn B N (z .b)) e in (
+        rw g (leb→le (x .a + x .b) (length (problemAt B N .bits)) (and-1 (fits64 (x .b)) _ (and-1 (ltb 0 (x .b)) _ c))),
+        rw q (ltb→lt 0 (widthAt (widthsIn F) i) (and-0 (ltb 0 (widthAt (widthsIn F) i)) _ r)),
+        rw q (leb→le (widthAt (widthsIn F) i) 65536 (and-0 (leb (widthAt (widthsIn F) i) 65536) _ (and-1 (ltb 0 (widthAt (widthsIn F) i)) _ r))),
       )
 
-  pub head-of-rotation : {m : Node} → m ≡ nodeAtPlace t i → {a : Node} → a ≡ nodeAtPlace t (m .b) → {w : ℕ} → w ≡ getD (widthsAt n) i 0
-      → {k : ℕ} → k ≡ bitsValue (take (a .b) (drop (a .a) (bitsAt t))) % w → {q : Page} (P : Page) → q ≡ written P (bytes "(" ++ operatorText (symbolOf (m .kind)) (k ∷ []))
-      → q ≡ written P (headAt t n i rotation)
-  unfolding headAs dagOf constantBits
+  pub head-of-rotation : {m : Node} → m ≡ nodeIn B N i → {a : Node} → a ≡ nodeIn B N (m .b) → {w : ℕ} → w ≡ getD (widthsIn F) i 0
+      → {k : ℕ} → k ≡ bitsValue (take (a .b) (drop (a .a) (problemAt B N .bits))) % w → {q : Page} (P : Page) → q ≡ written P (bytes "(" ++ operatorText (symbolOf (m .kind)) (k ∷ []))
+      → q ≡ written P (headAt B N F i rotation)
+  unfolding headAs amountOf dagOf constantBits
   head-of-rotation {m} e {a} f {w} g {k} h P r =
-      let x : a ≡ nodeAtPlace t (nodeAtPlace t i .b) = f ∙ ap (λ (z : Node). nodeAtPlace t (z .b)) e in
+      let x : a ≡ nodeIn B N (nodeIn B N i .b) = f ∙ ap (λ (z : Node). nodeIn B N (z .b)) e in
       r ∙ rw (h, g, x, e) refl
 
 -- ---------------------------------------------------------------- kinds that have a symbol
@@ -206,92 +212,92 @@ kind-small k {s} e h = by-size (ltb k 39) refl
 
 -- ---------------------------------------------------------------- the head of node i
 
-module _ (t n : List Slice) (ready : Ready t n) (i : ℕ) (here : i < length (widthsAt n)) (free : asked (dagAt t n) (widthsAt n) i ≡ 0) where
-  pub node-here : i < length (nodesOf (slot t 0))
+module _ (B N F : List Slice) (Y : List ℕ) (ready : Ready B N F Y) (i : ℕ) (here : i < length (widthsIn F)) (free : asked (dagAt B N) (widthsIn F) i ≡ 0) where
+  pub node-here : i < length (nodesOf (problemAt B N .nodes))
   unfolding dagOf
   node-here = omega (arith, ready .counted)
 
-  formed-as : (s : Shape) → shape (nodeAtPlace t i) ≡ s → T (wfAs (length (bitsAt t)) (slot n 0) (take i (widthsAt n)) (nodeAtPlace t i) s)
+  formed-as : (s : Shape) → shape (nodeIn B N i) ≡ s → T (wfAs (length (problemAt B N .bits)) (problemAt B N .side) (take i (widthsIn F)) (nodeIn B N i) s)
   unfolding dagOf node-wf
   formed-as s e =
-      let z : Sized (length (bitsAt t)) (slot n 0) (widthsAt n) i (nodeAtPlace t i) =
-      subst (λ (ws : List ℕ). Sized (length (bitsAt t)) (slot n 0) ws i (nodeAtPlace t i)) (sym (ready .widths))
-      (sized (length (bitsAt t)) (slot n 0) (nodesOf (slot t 0)) i (rw (ready .widths) at here)) in
-      subst (λ (x : Shape). T (wfAs (length (bitsAt t)) (slot n 0) (take i (widthsAt n)) (nodeAtPlace t i) x)) e (z .wf)
+      let z : Sized (length (problemAt B N .bits)) (problemAt B N .side) (widthsIn F) i (nodeIn B N i) =
+      subst (λ (ws : List ℕ). Sized (length (problemAt B N .bits)) (problemAt B N .side) ws i (nodeIn B N i)) (sym (ready .widths))
+      (sized (length (problemAt B N .bits)) (problemAt B N .side) (nodesOf (problemAt B N .nodes)) i (rw (ready .widths) at here)) in
+      subst (λ (x : Shape). T (wfAs (length (problemAt B N .bits)) (problemAt B N .side) (take i (widthsIn F)) (nodeIn B N i) x)) e (z .wf)
 
-  pub passed-as : {s : Shape} → shape (nodeAtPlace t i) ≡ s → Passed t n i s
+  pub passed-as : {s : Shape} → shape (nodeIn B N i) ≡ s → Taken B N F i s
   unfolding asked dagOf
   passed-as {s} e = record {
     here = here;
     shaped = e;
     formed = formed-as s e;
-    taken = subst (λ (x : Shape). askedAs (dagAt t n) (widthsAt n) i (nodeAtPlace t i) x ≡ 0) e free;
+    taken = subst (λ (x : Shape). askedAs (dagAt B N) (widthsIn F) i (nodeIn B N i) x ≡ 0) e free;
   }
 
-  pub constant-as : shape (nodeAtPlace t i) ≡ const → Constant t i
+  pub constant-as : shape (nodeIn B N i) ≡ const → Constant B N i
   unfolding wfAs
   constant-as e = record {
     here = node-here;
-    within = leb→le (nodeAtPlace t i .a + nodeAtPlace t i .b) (length (bitsAt t)) (and-1 (ltb 0 (nodeAtPlace t i .b)) _ (formed-as const e));
+    within = (leb→le (nodeIn B N i .a + nodeIn B N i .b) (length (problemAt B N .bits)) (and-1 (fits64 (nodeIn B N i .b)) _ (and-1 (ltb 0 (nodeIn B N i .b)) _ (formed-as const e))));
     binary = ready .binary;
   }
 
-  pub operator-as : {s : Shape} → shape (nodeAtPlace t i) ≡ s → T (not (lastShape s)) → Operator t i
-  operator-as e h = record { here = node-here; symbol = kind-small (nodeAtPlace t i .kind) e h; symbols = ready .symbols }
+  pub operator-as : {s : Shape} → shape (nodeIn B N i) ≡ s → T (not (lastShape s)) → Operator B N Y i
+  operator-as e h = record { here = node-here; symbol = kind-small (nodeIn B N i .kind) e h; symbols = ready .symbols }
 
   -- the head by the shape is the head
-  pub head-in : {s : Shape} → shape (nodeAtPlace t i) ≡ s → {q : Page} (P : Page) {h : List ℕ} → h ≡ headAt t n i s → q ≡ written P h
-      → q ≡ written P (headOf (dagAt t n) (widthsAt n) (bitsAt t) i)
+  pub head-in : {s : Shape} → shape (nodeIn B N i) ≡ s → {q : Page} (P : Page) {h : List ℕ} → h ≡ headAt B N F i s → q ≡ written P h
+      → q ≡ written P (headOf (dagAt B N) (widthsIn F) (problemAt B N .bits) i)
   unfolding headOf dagOf
-  head-in {s} e P f w = w ∙ ap (written P) (f ∙ ap (headAt t n i) (sym e))
+  head-in {s} e P f w = w ∙ ap (written P) (f ∙ ap (headAt B N F i) (sym e))
 
-  pub const-head : bytes "#b" ++ binaryDigits (constantBits (bitsAt t) (nodeAtPlace t i)) ≡ headAt t n i const
+  pub const-head : bytes "#b" ++ binaryDigits (constantBits (problemAt B N .bits) (nodeIn B N i)) ≡ headAt B N F i const
   unfolding headAs
   const-head = refl
 
-  pub extraction-head : indexedHead true (nodeAtPlace t i) ≡ headAt t n i extraction
+  pub extraction-head : indexedHead true (nodeIn B N i) ≡ headAt B N F i extraction
   unfolding headAs indexedHead
   extraction-head = refl
 
-  pub extension-head : indexedHead false (nodeAtPlace t i) ≡ headAt t n i extension
+  pub extension-head : indexedHead false (nodeIn B N i) ≡ headAt B N F i extension
   unfolding headAs indexedHead
   extension-head = refl
 
   -- the shapes that have no arm of their own; r is the shape's code
-  plain-as : (s : Shape) {r : ℕ} → shape (nodeAtPlace t i) ≡ s → r ≡ codeOf s
-      → (r ≡ 0 → ⊥) → (r ≡ 1 → ⊥) → (r ≡ 3 → ⊥) → (r ≡ 4 → ⊥) → (r ≡ 6 → ⊥) → (r ≡ 12 → ⊥) → (r ≡ 13 → ⊥)
-      → T (not (lastShape s)) × (bytes "(" ++ symbolOf (nodeAtPlace t i .kind) ≡ headAt t n i s)
+  plain-as : (s : Shape) {r : ℕ} → shape (nodeIn B N i) ≡ s → r ≡ codeOf s
+      → 1 < codeOf s → (r ≡ 3 → ⊥) → (r ≡ 4 → ⊥) → (r ≡ 6 → ⊥) → (r ≡ 12 → ⊥) → (r ≡ 13 → ⊥)
+      → T (not (lastShape s)) × (bytes "(" ++ symbolOf (nodeIn B N i .kind) ≡ headAt B N F i s)
   unfolding codeOf headAs wfAs
-  plain-as var f e a b c g h j k = absurd (a e)
-  plain-as const f e a b c g h j k = absurd (b e)
-  plain-as binary f e a b c g h j k = (tt, refl)
-  plain-as rotation f e a b c g h j k = absurd (c e)
-  plain-as extraction f e a b c g h j k = absurd (g e)
-  plain-as concat f e a b c g h j k = (tt, refl)
-  plain-as extension f e a b c g h j k = absurd (h e)
-  plain-as ite f e a b c g h j k = (tt, refl)
-  plain-as comparison f e a b c g h j k = (tt, refl)
-  plain-as negation f e a b c g h j k = (tt, refl)
-  plain-as connective f e a b c g h j k = (tt, refl)
-  plain-as unary f e a b c g h j k = (tt, refl)
-  plain-as select f e a b c g h j k = absurd (j e)
-  plain-as call f e a b c g h j k = absurd (k e)
-  plain-as unknown f e a b c g h j k = absurd (formed-as unknown f)
+  plain-as var f e a c g h j k = absurd (omega arith)
+  plain-as const f e a c g h j k = absurd (omega arith)
+  plain-as binary f e a c g h j k = (tt, refl)
+  plain-as rotation f e a c g h j k = absurd (c e)
+  plain-as extraction f e a c g h j k = absurd (g e)
+  plain-as concat f e a c g h j k = (tt, refl)
+  plain-as extension f e a c g h j k = absurd (h e)
+  plain-as ite f e a c g h j k = (tt, refl)
+  plain-as comparison f e a c g h j k = (tt, refl)
+  plain-as negation f e a c g h j k = (tt, refl)
+  plain-as connective f e a c g h j k = (tt, refl)
+  plain-as unary f e a c g h j k = (tt, refl)
+  plain-as select f e a c g h j k = absurd (j e)
+  plain-as call f e a c g h j k = absurd (k e)
+  plain-as unknown f e a c g h j k = absurd (formed-as unknown f)
 
-  module _ {r : ℕ} (e : r ≡ codeOf (shape (nodeAtPlace t i))) (a : r ≡ 0 → ⊥) (b : r ≡ 1 → ⊥) (c : r ≡ 3 → ⊥) (g : r ≡ 4 → ⊥) (h : r ≡ 6 → ⊥) (j : r ≡ 12 → ⊥)
+  module _ {r : ℕ} (e : r ≡ codeOf (shape (nodeIn B N i))) (a : 1 < codeOf (shape (nodeIn B N i))) (c : r ≡ 3 → ⊥) (g : r ≡ 4 → ⊥) (h : r ≡ 6 → ⊥) (j : r ≡ 12 → ⊥)
       (k : r ≡ 13 → ⊥) where
-    pub plain-operator : Operator t i
-    plain-operator = operator-as refl (plain-as (shape (nodeAtPlace t i)) refl e a b c g h j k .0)
+    pub plain-operator : Operator B N Y i
+    plain-operator = operator-as refl (plain-as (shape (nodeIn B N i)) refl e a c g h j k .0)
 
-    pub plain-head : {q : Page} (P : Page) → q ≡ written P (bytes "(" ++ symbolOf (nodeAtPlace t i .kind)) → q ≡ written P (headOf (dagAt t n) (widthsAt n) (bitsAt t) i)
-    plain-head P w = head-in refl P (plain-as (shape (nodeAtPlace t i)) refl e a b c g h j k .1) w
+    pub plain-head : {q : Page} (P : Page) → q ≡ written P (bytes "(" ++ symbolOf (nodeIn B N i .kind)) → q ≡ written P (headOf (dagAt B N) (widthsIn F) (problemAt B N .bits) i)
+    plain-head P w = head-in refl P (plain-as (shape (nodeIn B N i)) refl e a c g h j k .1) w
 
 -- ---------------------------------------------------------------- the record that was read is the node's
 
-pub symbol-of : {t : List Slice} {i : ℕ} → Operator t i → {m : Node} → m ≡ nodeAtPlace t i → m .kind < 37
+pub symbol-of : {B N : List Slice} {Y : List ℕ} {i : ℕ} → Operator B N Y i → {m : Node} → m ≡ nodeIn B N i → m .kind < 37
 symbol-of o e = rw e (o .symbol)
 
-pub constant-inside : {t : List Slice} {i : ℕ} → Constant t i → {m : Node} → m ≡ nodeAtPlace t i → (m .a + m .b ≤ length (bitsAt t)) × T (every (λ b. leb b 1) (bitsAt t))
+pub constant-inside : {B N : List Slice} {i : ℕ} → Constant B N i → {m : Node} → m ≡ nodeIn B N i → (m .a + m .b ≤ length (problemAt B N .bits)) × T (every (λ b. leb b 1) (problemAt B N .bits))
 constant-inside c e = (rw e (c .within), c .binary)
 
 module _ {m x : Node} (e : m ≡ x) where
@@ -311,8 +317,8 @@ module _ {m x : Node} (e : m ≡ x) where
   unfolding indexedHead
   head-of-one f P w = w ∙ rw (f, e) refl
 
-pub rotation-symbol : (t n : List Slice) → Ready t n → (i : ℕ) → Passed t n i rotation → {m : Node} → m ≡ nodeAtPlace t i → m .kind < 37
-rotation-symbol t n r i p e = rw e (kind-small (nodeAtPlace t i .kind) (p .shaped) tt)
+pub rotation-symbol : (B N F : List Slice) (Y : List ℕ) → Ready B N F Y → (i : ℕ) → Taken B N F i rotation → {m : Node} → m ≡ nodeIn B N i → m .kind < 37
+rotation-symbol B N F Y r i p e = rw e (kind-small (nodeIn B N i .kind) (p .shaped) tt)
 
 -- ---------------------------------------------------------------- parts of the bits, from s to s + w
 

@@ -1,4 +1,5 @@
+pub mod Operands
 pub mod Texts
-pub mod TextLaws
-pub mod Lent
-pub mod WroteLaws
+pub mod Ready
+pub mod StyleLaws
+pub mod StyleExamples

@@ -1,10 +1,11 @@
--- What the walk makes of a node: its whole text, or a refusal. The head of a term is all its text before its operands, and its
--- form says what operands follow.
-use Prim.Native.Nat.{ℕ, zero, suc, _+_, _%_}
-use mathlib.Core.Bool.{Bool, true, false}
+-- What the walk writes of a node. The head of a term is all its text before its operands, and its form says what operands follow.
+use Prim.Native.Nat.{ℕ, zero, suc, _+_}
+use mathlib.Core.Bool.{true, false}
 use mathlib.Core.List.{List, [], _∷_, _++_}
-use lib.ListN.{getD, drop}
+use lib.Dec.{eqb}
+use lib.ListN.{getD}
 use Rattle.lists.specs.Bytes.{bytes}
+use Rattle.lists.specs.Build.{upto}
 use Rattle.echo_spec.specs.Shapes.{
   Shape,
   var,
@@ -23,38 +24,13 @@ use Rattle.echo_spec.specs.Shapes.{
   call,
   unknown,
 }
-use Rattle.echo_spec.specs.Input.{Node, shape, no-node, Dag}
-use Rattle.echo_spec.specs.Widths.{widthAt}
-use Rattle.echo_spec.specs.Trees.{constantBits, bitsValue, variableName, treeOf}
-use Rattle.echo_spec.specs.Walk.{walk}
-use Rattle.echo_spec.specs.Render.{symbolOf, binaryDigits, quoted, operatorText, term}
+use Rattle.echo_spec.specs.Input.{Node, shape, no-node, Dag, anameTable, fnameTable}
+use Rattle.echo_spec.specs.Trees.{constantBits, amountOf, variableName}
+use Rattle.echo_spec.specs.Render.{decimal, symbolOf, binaryDigits, quoted, operatorText}
 use Rattle.echo_lines.specs.Heads.{repeated, callHead}
-use Rattle.echo_walk.specs.declared.Form.{Form}
-use Rattle.echo_walk.specs.declared.Form.the-variants.{Leaf, One, Two, Choice, Chain, Arguments}
-
--- a text that is printed whole, or the number of a refusal
-pub data Text : Type 0 where
-  whole : List ℕ → Text
-  refused : ℕ → Text
-
--- the text, where nothing is refused
-unfoldable pub outcome : ℕ → List ℕ → Text
-outcome zero bs = whole bs
-outcome (suc n) bs = refused (suc n)
-
--- bytes before a text
-unfoldable pub onto : List ℕ → Text → Text
-onto bs (whole cs) = whole (bs ++ cs)
-onto bs (refused n) = refused n
-
--- one text and then another; a refusal ends it
-unfoldable pub then : Text → Text → Text
-then (whole bs) t = onto bs t
-then (refused n) t = refused n
-
--- node i where a Bool is wanted, or a bit-vector
-unfoldable pub nodeText : Dag → List ℕ → List ℕ → ℕ → Bool → Text
-nodeText d ws bits i wanted = outcome (walk d ws i wanted) (term (treeOf d ws bits i))
+use Rattle.echo_tables.specs.declared.Form.{Form}
+use Rattle.echo_tables.specs.declared.Form.the-variants.{Leaf, One, Two, Choice, Chain, Arguments}
+use Rattle.echo_tables.specs.Forms.{formAs}
 
 -- ---------------------------------------------------------------- heads
 
@@ -63,7 +39,7 @@ headAs d ws bits i n var = quoted (variableName d i)
 headAs d ws bits i n const = bytes "#b" ++ binaryDigits (constantBits bits n)
 headAs d ws bits i n binary = bytes "(" ++ symbolOf (n .kind)
 headAs d ws bits i n rotation =
-    bytes "(" ++ operatorText (symbolOf (n .kind)) (bitsValue (constantBits bits (getD (d .nodes) (n .b) no-node)) % widthAt ws i ∷ [])
+    bytes "(" ++ operatorText (symbolOf (n .kind)) (amountOf d ws bits i n ∷ [])
 headAs d ws bits i n extraction = bytes "(" ++ operatorText (symbolOf (n .kind)) (n .a ∷ n .b ∷ [])
 headAs d ws bits i n concat = bytes "(" ++ symbolOf (n .kind)
 headAs d ws bits i n extension = bytes "(" ++ operatorText (symbolOf (n .kind)) (n .b ∷ [])
@@ -72,8 +48,8 @@ headAs d ws bits i n comparison = bytes "(" ++ symbolOf (n .kind)
 headAs d ws bits i n negation = bytes "(" ++ symbolOf (n .kind)
 headAs d ws bits i n connective = bytes "(" ++ symbolOf (n .kind)
 headAs d ws bits i n unary = bytes "(" ++ symbolOf (n .kind)
-headAs d ws bits i n select = bytes "(select " ++ (repeated (n .d) (bytes "(store ") ++ quoted (getD (d .anames) (n .a) []))
-headAs d ws bits i n call = callHead (n .d) (quoted (getD (d .fnames) (n .a) []))
+headAs d ws bits i n select = bytes "(select " ++ (repeated (n .d) (bytes "(store ") ++ quoted (getD (anameTable d) (n .a) []))
+headAs d ws bits i n call = callHead (n .d) (quoted (getD (fnameTable d) (n .a) []))
 headAs d ws bits i n unknown = []
 
 unfoldable pub headOf : Dag → List ℕ → List ℕ → ℕ → List ℕ
@@ -81,63 +57,72 @@ headOf d ws bits i = headAs d ws bits i (getD (d .nodes) i no-node) (shape (getD
 
 -- ---------------------------------------------------------------- forms
 
-unfoldable pub callForm : ℕ → ℕ → Form
-callForm s zero = Leaf
-callForm s (suc n) = Arguments s (suc n)
-
-unfoldable pub formAs : Node → Shape → Form
-formAs n var = Leaf
-formAs n const = Leaf
-formAs n binary = Two (n .a) (n .b) false
-formAs n rotation = One (n .a) false
-formAs n extraction = One (n .c) false
-formAs n concat = Two (n .a) (n .b) false
-formAs n extension = One (n .a) false
-formAs n ite = Choice (n .a) (n .b) (n .c)
-formAs n comparison = Two (n .a) (n .b) false
-formAs n negation = One (n .a) true
-formAs n connective = Two (n .a) (n .b) true
-formAs n unary = One (n .a) false
-formAs n select = Chain (n .b) (n .c) (n .d)
-formAs n call = callForm (n .c) (n .d)
-formAs n unknown = Leaf
-
--- what stands behind the head, over the texts g of the nodes below
-abbrev pub blank : Text
-blank = whole (32 ∷ [])
-
-abbrev pub close : Text
-close = whole (41 ∷ [])
+-- what stands behind the head, over the texts g of the nodes below: each operand after a blank, and the closing bracket
 
 -- ` A)`
-unfoldable pub oneText : (ℕ → Bool → Text) → ℕ → Bool → Text
-oneText g a b = then blank (then (g a b) close)
+unfoldable pub oneText : (ℕ → List ℕ) → ℕ → List ℕ
+oneText g a = 32 ∷ (g a ++ (41 ∷ []))
 
 -- ` A B)`
-unfoldable pub twoText : (ℕ → Bool → Text) → ℕ → ℕ → Bool → Text
-twoText g a b w = then blank (then (g a w) (then blank (then (g b w) close)))
+unfoldable pub twoText : (ℕ → List ℕ) → ℕ → ℕ → List ℕ
+twoText g a b = 32 ∷ (g a ++ oneText g b)
 
--- ` A B C)`: a Bool and two bit-vectors
-abbrev pub choiceText : (ℕ → Bool → Text) → ℕ → ℕ → ℕ → Text
-choiceText g a b c = then blank (then (g a true) (twoText g b c false))
+-- ` A B C)`
+unfoldable pub choiceText : (ℕ → List ℕ) → ℕ → ℕ → ℕ → List ℕ
+choiceText g a b c = 32 ∷ (g a ++ twoText g b c)
 
--- ` I V)` for each of n pairs, the last pair first
-unfoldable pub levelsText : (ℕ → Bool → Text) → ℕ → List ℕ → Text
-levelsText g zero side = whole []
-levelsText g (suc n) [] = whole []
-levelsText g (suc n) (x ∷ []) = whole []
-levelsText g (suc n) (x ∷ v ∷ side) = then (levelsText g n side) (twoText g x v false)
+-- ` I V)` for each of n pairs of side entries from place s on, the last pair first
+unfoldable pub levelsText : (ℕ → List ℕ) → List ℕ → ℕ → ℕ → List ℕ
+levelsText g side s zero = []
+levelsText g side s (suc n) = twoText g (getD side (s + (n + n)) 0) (getD side (s + (n + n + 1)) 0) ++ levelsText g side s n
 
--- n arguments, each after a blank
-unfoldable pub argsText : (ℕ → Bool → Text) → ℕ → List ℕ → Text
-argsText g zero side = close
-argsText g (suc n) [] = close
-argsText g (suc n) (x ∷ side) = then blank (then (g x false) (argsText g n side))
+-- n side entries from place s on
+unfoldable pub argsText : (ℕ → List ℕ) → List ℕ → ℕ → ℕ → List ℕ
+argsText g side s zero = 41 ∷ []
+argsText g side s (suc n) = 32 ∷ (g (getD side s 0) ++ argsText g side (s + 1) n)
 
-unfoldable pub formText : (ℕ → Bool → Text) → List ℕ → Form → Text
-formText g side Leaf = whole []
-formText g side (One a b) = oneText g a b
-formText g side (Two a b w) = twoText g a b w
+unfoldable pub formText : (ℕ → List ℕ) → List ℕ → Form → List ℕ
+formText g side Leaf = []
+formText g side (One a w) = oneText g a
+formText g side (Two a b w) = twoText g a b
 formText g side (Choice a b c) = choiceText g a b c
-formText g side (Chain j s n) = then (levelsText g n (drop s side)) (oneText g j false)
-formText g side (Arguments s n) = argsText g n (drop s side)
+formText g side (Chain j s n) = levelsText g side s n ++ oneText g j
+formText g side (Arguments s n) = argsText g side s n
+
+-- ---------------------------------------------------------------- styles
+
+-- Which text the walk writes: over which side entries, and for each node its head and the form of its operands.
+pub record Style : Type 0 where
+  pub side : List ℕ
+  pub head : ℕ → List ℕ
+  pub form : ℕ → Form
+
+-- node i, over the texts g of the nodes below
+unfoldable pub textStep : Style → (ℕ → List ℕ) → ℕ → List ℕ
+textStep s g i = s .head i ++ formText g (s .side) (s .form i)
+
+abbrev pub textsBelow : Style → ℕ → ℕ → List ℕ
+textsBelow s n = upto (textStep s) [] n
+
+unfoldable pub textIn : Style → ℕ → List ℕ
+textIn s i = textStep s (textsBelow s i) i
+
+-- the plain script
+unfoldable pub plain : Dag → List ℕ → List ℕ → Style
+plain d ws bits = record {
+  side = d .side;
+  head = headOf d ws bits;
+  form = λ i. formAs (getD (d .nodes) i no-node) (shape (getD (d .nodes) i no-node));
+}
+
+-- `|d2|` for node 2
+unfoldable pub named : ℕ → List ℕ
+named i = bytes "|d" ++ (decimal i ++ bytes "|")
+
+-- a node whose plan is 1 is its name
+unfoldable pub planned : (ℕ → ℕ) → Style → Style
+planned plan s = record {
+  side = s .side;
+  head = λ i. elim (eqb (plan i) 1) [ true ↦ named i | false ↦ s .head i ];
+  form = λ i. elim (eqb (plan i) 1) [ true ↦ Leaf | false ↦ s .form i ];
+}

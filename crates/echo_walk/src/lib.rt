@@ -1,10 +1,12 @@
-// The walk: a node as a term, written at a place in the lent buffer, or the number of a refusal (ordeal's "THE WALK").
+// The walk: a node as a term, written at a place in the lent buffer (ordeal's "THE WALK").
 //
-// Six writers call each other: `echo_node`, `echo_one`, `echo_two`, `echo_choice`, `echo_levels`, `echo_args`. A node's operands have lower
-// numbers, and in a list the entries left grow fewer, so the walk ends. What the tables ask of each node stands in a table that is
-// lent, made before the walk; the text before a node's operands, its head, is written by a function outside the cycle.
+// Seven writers call each other: `echo_node`, `echo_operand`, `echo_one`, `echo_two`, `echo_choice`, `echo_levels`, `echo_args`. A node's
+// operands have lower numbers, and in a list the entries left grow fewer, so the walk ends. What a term is refused with stands in a table
+// that is lent, made before the walk: a writer is called for a node that is not refused, and cannot fail. The text before a node's
+// operands, its head, is written by a function outside the cycle.
 //
-// The slices are lent in two arrays: sixteen of them passed one by one are slow, and deep on the stack.
+// The problem is lent in its two arrays, and the tables that were filled in a third. One walk serves every script: a node's plan says
+// whether it is written as a term, or as the name that a `let` gave it.
 use blast_kernel::BINARY;
 use blast_kernel::CALL;
 use blast_kernel::COMPARISON;
@@ -15,175 +17,117 @@ use blast_kernel::EXTENSION;
 use blast_kernel::EXTRACTION;
 use blast_kernel::ITE;
 use blast_kernel::NEGATION;
-use blast_kernel::Node;
 use blast_kernel::ROTATION;
 use blast_kernel::SELECT;
 use blast_kernel::UNARY;
 use blast_kernel::VAR;
 use echo_bytes::Place;
+use echo_tables::Form;
+use echo_tables::Found;
+use echo_tables::looked_up;
+use echo_tables::operands;
+use lent::ANAME_LEN;
+use lent::ANAME_START;
+use lent::ANAMES;
+use lent::BITS;
+use lent::BYTES;
+use lent::FNAME_LEN;
+use lent::FNAME_START;
+use lent::FNAMES;
+use lent::NAME_LEN;
+use lent::NAME_START;
+use lent::NAMES;
+use lent::NODES;
+use lent::NUMBERS;
+use lent::Node;
+use lent::SIDE;
+use lent::get;
 ghost use mathlib.Core.Path.{_≡_};
-ghost use mathlib.Core.List.{[], _++_};
-ghost use mathlib.Core.Bool.{true};
-ghost use Prim.Native.Nat.{ℕ, _+_, _%_, _^_, _≤_, _<_};
-ghost use lib.Dec.{T, leb};
+ghost use mathlib.Core.List.{[], _∷_, _++_};
+ghost use Prim.Native.Nat.{_+_, _%_, _^_, _≤_, _<_};
+ghost use lib.Dec.{T, leb, eqb};
 ghost use lib.ListN.{length, getD, take, drop};
-ghost use Rattle.lists.specs.Bytes.{bytes};
+ghost use Rattle.lists.specs.Bytes.{bytes as literal};
 ghost use Rattle.lists.specs.Tests.{every};
-ghost use Rattle.echo_spec.specs.Shapes.{isBool, var, rotation, select, call};
+ghost use Rattle.echo_spec.specs.Shapes.{var, rotation, select, call};
 ghost use Rattle.echo_spec.specs.Input.{shape as «shape-of», no-node, nodesOf, namesOf};
-ghost use Rattle.echo_spec.specs.Walk.{asked, sortOk};
 ghost use Rattle.echo_spec.specs.Trees.{bitsValue, constantBits};
 ghost use Rattle.echo_spec.specs.Render.{symbolOf, binaryDigits};
 ghost use Rattle.blast_kernel.specs.Codes.{codeOf};
-ghost use Rattle.blast_kernel.specs.Records.{nodeOf};
+ghost use Rattle.lent.specs.Lent.{problemAt, dagAt};
+ghost use Rattle.lent.specs.Records.{nodeOf};
 ghost use Rattle.echo_bytes.specs.Page.{page, written};
-ghost use Rattle.echo_walk.specs.Texts.{headOf, callForm, formAs, oneText, twoText, choiceText, levelsText, argsText};
-ghost use Rattle.echo_walk.specs.TextLaws.{refusedHere};
-ghost use Rattle.echo_walk.specs.Lent.{
-  slot,
-  dagAt,
-  widthsAt,
-  bitsAt,
+ghost use Rattle.echo_tables.specs.Forms.{formAs};
+ghost use Rattle.echo_walk.specs.Operands.{Entries};
+ghost use Rattle.echo_walk.specs.Texts.{headOf, oneText, twoText, choiceText, levelsText, argsText, named};
+ghost use Rattle.echo_walk.specs.Ready.{
+  widthsIn,
+  codeIn,
+  planIn,
+  styleAt,
   textAt,
-  nodeAtPlace,
+  nodeIn,
   headAt,
   indexedHead,
   Ready,
-  Passed,
+  Fine,
+  Under,
+  Taken,
   Constant,
   Operator,
   LeafAt,
-  Listed,
-  Chained,
+  TermAt,
   Leaves,
-  Wrote,
 };
 
-// The places of the slices of bytes, and of the slices of numbers.
-pub const NODES: usize = 0;
+// The tables that are filled before the walk, by place, and how many there are: each node's width, the entry of a variable's node, and
+// the number that has a node's shape, what is asked of it, and its plan.
+pub const WIDTHS: usize = 0;
 
-pub const BITS: usize = 1;
+pub const ENTRIES: usize = 1;
 
-pub const NAMES: usize = 2;
+pub const CODES: usize = 2;
 
-pub const ANAMES: usize = 3;
+pub const TABLES: usize = 3;
 
-pub const FNAMES: usize = 4;
-
-pub const SYMBOLS: usize = 5;
-
-pub const SIDE: usize = 0;
-
-pub const WS: usize = 1;
-
-pub const NAME_START: usize = 2;
-
-pub const NAME_LEN: usize = 3;
-
-pub const ANAME_START: usize = 6;
-
-pub const ANAME_LEN: usize = 7;
-
-pub const FNAME_START: usize = 8;
-
-pub const FNAME_LEN: usize = 9;
-
-pub const ENTRY: usize = 11;
-
-pub const ASKED: usize = 12;
-
-// What a writer answers: the place after the text, or the number of a refusal.
-pub enum Out {
-    Done(Place),
-    Refused(u64),
-}
-
-// What operands follow the head of a term.
-pub enum Form {
-    // none
-    Leaf,
-    // one, and whether a Bool is wanted
-    One(u64, bool),
-    Two(u64, u64, bool),
-    // a Bool, and two bit-vectors
-    Choice(u64, u64, u64),
-    // the index of a select, and where its stores stand in the side entries and how many there are
-    Chain(u64, u64, u64),
-    // where a call's arguments stand in the side entries and how many there are
-    Arguments(u64, u64),
-}
-
-// Entry i, or 0 past the end. Ruled out: the last entry where i lies past it; the entry after i.
-pub fn get(s: &[u64], i: u64) -> u64
-    ensures { λ r. ⌜ r ≡ getD (now (s .entry)) i 0 ⌝ }
-{
-    let k = i as usize;
-    if k < s.len() { s[k] } else { 0 }
-}
-
-fn call_form(s: u64, n: u64) -> Form
-    ensures { λ r. ⌜ r ≡ callForm s n ⌝ }
-{
-    if n == 0 {
-        Form::Leaf
-    } else {
-        Form::Arguments(s, n)
-    }
-}
-
-// What operands follow the head of a node.
-fn operands(n: Node) -> Form
-    ensures { λ r. ⌜ r ≡ formAs (nodeOf n) («shape-of» (nodeOf n)) ⌝ }
-{
-    let s = blast_kernel::shape(n.kind);
-    match s {
-        VAR => Form::Leaf,
-        CONST => Form::Leaf,
-        BINARY => Form::Two(n.a, n.b, false),
-        ROTATION => Form::One(n.a, false),
-        EXTRACTION => Form::One(n.c, false),
-        CONCAT => Form::Two(n.a, n.b, false),
-        EXTENSION => Form::One(n.a, false),
-        ITE => Form::Choice(n.a, n.b, n.c),
-        COMPARISON => Form::Two(n.a, n.b, false),
-        NEGATION => Form::One(n.a, true),
-        CONNECTIVE => Form::Two(n.a, n.b, true),
-        UNARY => Form::One(n.a, false),
-        SELECT => Form::Chain(n.b, n.c, n.d),
-        CALL => call_form(n.c, n.d),
-        _ => Form::Leaf,
-    }
-}
-
-// How many there are.
-fn count(s: &[u64]) -> u64
-    ensures { λ r. ⌜ r ≡ length (now (s .entry)) ⌝ }
-{
-    s.len() as u64
-}
+// The length of the table of symbols.
+pub const SYMBOLS: usize = 481;
 
 // Record i of the nodes.
-fn node_of(nodes: &[u8], i: u64) -> Node
+fn node_here(nodes: &[u8], i: u64) -> Node
     requires { ⌜ i < length (nodesOf (now nodes)) ⌝ }
     ensures { λ r. ⌜ nodeOf r ≡ getD (nodesOf (now (nodes .entry))) i no-node ⌝ }
 {
-    blast_kernel::node_at(nodes, i as usize)
+    lent::node_at(nodes, i as usize)
 }
 
-// Is node i a Bool, and not a bit-vector.
-fn is_bool(nodes: &[u8], i: u64) -> bool
-    requires { ⌜ i < length (nodesOf (now nodes)) ⌝ }
-    ensures { λ r. ⌜ r ≡ isBool («shape-of» (getD (nodesOf (now (nodes .entry))) i no-node)) ⌝ }
+// ---------------------------------------------------------------- what the number of a node says
+
+// The code of its shape.
+fn shape_at(tables: &[&[u64]; TABLES], i: u64) -> u8
+    ensures { λ r. ⌜ r ≡ codeIn (now (tables .entry)) i % 16 ⌝ }
 {
-    let n = node_of(nodes, i);
-    let s = blast_kernel::shape(n.kind);
-    match s {
-        COMPARISON => true,
-        NEGATION => true,
-        CONNECTIVE => true,
-        _ => false,
-    }
+    let codes = tables[CODES];
+    (get(codes, i) % 16) as u8
 }
+
+// Is its name to be written in place of its term.
+fn is_named(tables: &[&[u64]; TABLES], i: u64) -> bool
+    ensures { λ r. ⌜ r ≡ eqb (planIn (now (tables .entry)) i) 1 ⌝ }
+{
+    let codes = tables[CODES];
+    get(codes, i) / 128 == 1
+}
+
+// Is it a variable or a constant.
+fn is_leaf(tables: &[&[u64]; TABLES], i: u64) -> bool
+    ensures { λ r. ⌜ r ≡ leb (codeIn (now (tables .entry)) i) 1 ⌝ }
+{
+    let codes = tables[CODES];
+    get(codes, i) <= 1
+}
+
+// ---------------------------------------------------------------- parts of what is lent
 
 // Entry k of pair l, counted from place s of the side entries.
 fn pair_at(side: &[u64], s: u64, l: u64, k: u64) -> u64
@@ -196,7 +140,7 @@ fn pair_at(side: &[u64], s: u64, l: u64, k: u64) -> u64
 // A part of the bits as a constant.
 fn push_bits(bits: &[u8], s: u64, w: u64, p: Place, out: &mut [u8]) -> Place
     requires { ⌜ (s + w ≤ length (now bits)) × T (every (λ b. leb b 1) (now bits)) ⌝ }
-    ensures { λ r. ⌜ page r (now (out .exit)) ≡ written (page p (now (out .entry))) (bytes "#b" ++ binaryDigits (take w (drop s (now (bits .entry))))) ⌝ }
+    ensures { λ r. ⌜ page r (now (out .exit)) ≡ written (page p (now (out .entry))) (literal "#b" ++ binaryDigits (take w (drop s (now (bits .entry))))) ⌝ }
 {
     let from = s as usize;
     let to = from + w as usize;
@@ -215,185 +159,250 @@ fn rot_of(bits: &[u8], s: u64, n: u64, w: u64) -> u64
 
 // Name k of a table.
 fn name_at<'a>(arena: &'a [u8], starts: &[u64], lens: &[u64], k: u64) -> &'a [u8]
-    requires { ⌜ (k < length (now starts)) ⌝ }
+    requires { ⌜ k < length (now starts) ⌝ }
     ensures { λ r. ⌜ now r ≡ getD (namesOf (now (arena .entry)) (now (starts .entry)) (now (lens .entry))) k [] ⌝ }
 {
     echo_names::part(arena, get(starts, k), get(lens, k))
 }
-// The heads of the shapes that need more than the record.
-fn head_var(text: &[&[u8]; 6], numbers: &[&[u64]; 13], i: u64, p: Place, out: &mut [u8]) -> Place
-    requires { ⌜ Ready (now text) (now numbers) × Passed (now text) (now numbers) i var ⌝ }
-    ensures { λ r. ⌜ page r (now (out .exit)) ≡ written (page p (now (out .entry))) (headAt (now (text .entry)) (now (numbers .entry)) i var) ⌝ }
-{
-    let entry = numbers[ENTRY];
-    let k = get(entry, i) - 1;
-    let names = text[NAMES];
-    let starts = numbers[NAME_START];
-    let lens = numbers[NAME_LEN];
-    p.name(out, name_at(names, starts, lens, k))
-}
 
-fn head_const(text: &[&[u8]; 6], i: u64, p: Place, out: &mut [u8]) -> Place
-    requires { ⌜ Constant (now text) i ⌝ }
-    ensures { λ r. ⌜ page r (now (out .exit)) ≡ written (page p (now (out .entry))) (bytes "#b" ++ binaryDigits (constantBits (bitsAt (now (text .entry))) (nodeAtPlace (now (text .entry)) i))) ⌝ }
-{
-    let nodes = text[NODES];
-    let n = node_of(nodes, i);
-    let bits = text[BITS];
-    push_bits(bits, n.a, n.b, p, out)
-}
+// ---------------------------------------------------------------- heads
 
-fn head_rotation(
-    text: &[&[u8]; 6],
-    numbers: &[&[u64]; 13],
+// The heads of the shapes that need more than the record. A variable that is taken has an entry.
+fn head_var(
+    bytes: &[&[u8]; BYTES],
+    numbers: &[&[u64]; NUMBERS],
+    tables: &[&[u64]; TABLES],
+    symbols: &[u8; SYMBOLS],
     i: u64,
     p: Place,
     out: &mut [u8],
 ) -> Place
-    requires { ⌜ Ready (now text) (now numbers) × Passed (now text) (now numbers) i rotation ⌝ }
-    ensures { λ r. ⌜ page r (now (out .exit)) ≡ written (page p (now (out .entry))) (headAt (now (text .entry)) (now (numbers .entry)) i rotation) ⌝ }
+    requires { ⌜ Ready (now bytes) (now numbers) (now tables) (now symbols) × Taken (now bytes) (now numbers) (now tables) i var ⌝ }
+    ensures { λ r. ⌜ page r (now (out .exit)) ≡ written (page p (now (out .entry))) (headAt (now (bytes .entry)) (now (numbers .entry)) (now (tables .entry)) i var) ⌝ }
 {
-    let nodes = text[NODES];
-    let n = node_of(nodes, i);
-    let m = node_of(nodes, n.b);
-    let bits = text[BITS];
-    let ws = numbers[WS];
+    let entries = tables[ENTRIES];
+    match looked_up(entries, i) {
+        Found::Nothing => p,
+        Found::At(k) => {
+            let names = bytes[NAMES];
+            let starts = numbers[NAME_START];
+            let lens = numbers[NAME_LEN];
+            p.name(out, name_at(names, starts, lens, k as u64))
+        }
+    }
+}
+
+fn head_const(
+    bytes: &[&[u8]; BYTES],
+    numbers: &[&[u64]; NUMBERS],
+    tables: &[&[u64]; TABLES],
+    i: u64,
+    p: Place,
+    out: &mut [u8],
+) -> Place
+    requires { ⌜ Constant (now bytes) (now numbers) i ⌝ }
+    ensures { λ r. ⌜ page r (now (out .exit)) ≡ written (page p (now (out .entry))) (literal "#b" ++ binaryDigits (constantBits (problemAt (now (bytes .entry)) (now (numbers .entry)) .bits) (nodeIn (now (bytes .entry)) (now (numbers .entry)) i))) ⌝ }
+{
+    let nodes = bytes[NODES];
+    let n = node_here(nodes, i);
+    let bits = bytes[BITS];
+    push_bits(bits, n.a, n.b, p, out)
+}
+
+fn head_rotation(
+    bytes: &[&[u8]; BYTES],
+    numbers: &[&[u64]; NUMBERS],
+    tables: &[&[u64]; TABLES],
+    symbols: &[u8; SYMBOLS],
+    i: u64,
+    p: Place,
+    out: &mut [u8],
+) -> Place
+    requires { ⌜ Ready (now bytes) (now numbers) (now tables) (now symbols) × Taken (now bytes) (now numbers) (now tables) i rotation ⌝ }
+    ensures { λ r. ⌜ page r (now (out .exit)) ≡ written (page p (now (out .entry))) (headAt (now (bytes .entry)) (now (numbers .entry)) (now (tables .entry)) i rotation) ⌝ }
+{
+    let nodes = bytes[NODES];
+    let n = node_here(nodes, i);
+    let m = node_here(nodes, n.b);
+    let bits = bytes[BITS];
+    let ws = tables[WIDTHS];
     let k = rot_of(bits, m.a, m.b, get(ws, i));
-    let symbols = text[SYMBOLS];
     echo_lines::open_one(symbols, n.kind, k, p, out)
 }
 
-fn head_select(text: &[&[u8]; 6], numbers: &[&[u64]; 13], i: u64, p: Place, out: &mut [u8]) -> Place
-    requires { ⌜ Ready (now text) (now numbers) × Passed (now text) (now numbers) i select ⌝ }
-    ensures { λ r. ⌜ page r (now (out .exit)) ≡ written (page p (now (out .entry))) (headAt (now (text .entry)) (now (numbers .entry)) i select) ⌝ }
+fn head_select(
+    bytes: &[&[u8]; BYTES],
+    numbers: &[&[u64]; NUMBERS],
+    tables: &[&[u64]; TABLES],
+    symbols: &[u8; SYMBOLS],
+    i: u64,
+    p: Place,
+    out: &mut [u8],
+) -> Place
+    requires { ⌜ Ready (now bytes) (now numbers) (now tables) (now symbols) × Taken (now bytes) (now numbers) (now tables) i select ⌝ }
+    ensures { λ r. ⌜ page r (now (out .exit)) ≡ written (page p (now (out .entry))) (headAt (now (bytes .entry)) (now (numbers .entry)) (now (tables .entry)) i select) ⌝ }
 {
-    let nodes = text[NODES];
-    let n = node_of(nodes, i);
-    let anames = text[ANAMES];
+    let nodes = bytes[NODES];
+    let n = node_here(nodes, i);
+    let anames = bytes[ANAMES];
     let starts = numbers[ANAME_START];
     let lens = numbers[ANAME_LEN];
     echo_lines::open_select(name_at(anames, starts, lens, n.a), n.d, p, out)
 }
 
-fn head_call(text: &[&[u8]; 6], numbers: &[&[u64]; 13], i: u64, p: Place, out: &mut [u8]) -> Place
-    requires { ⌜ Ready (now text) (now numbers) × Passed (now text) (now numbers) i call ⌝ }
-    ensures { λ r. ⌜ page r (now (out .exit)) ≡ written (page p (now (out .entry))) (headAt (now (text .entry)) (now (numbers .entry)) i call) ⌝ }
+fn head_call(
+    bytes: &[&[u8]; BYTES],
+    numbers: &[&[u64]; NUMBERS],
+    tables: &[&[u64]; TABLES],
+    symbols: &[u8; SYMBOLS],
+    i: u64,
+    p: Place,
+    out: &mut [u8],
+) -> Place
+    requires { ⌜ Ready (now bytes) (now numbers) (now tables) (now symbols) × Taken (now bytes) (now numbers) (now tables) i call ⌝ }
+    ensures { λ r. ⌜ page r (now (out .exit)) ≡ written (page p (now (out .entry))) (headAt (now (bytes .entry)) (now (numbers .entry)) (now (tables .entry)) i call) ⌝ }
 {
-    let nodes = text[NODES];
-    let n = node_of(nodes, i);
-    let fnames = text[FNAMES];
+    let nodes = bytes[NODES];
+    let n = node_here(nodes, i);
+    let fnames = bytes[FNAMES];
     let starts = numbers[FNAME_START];
     let lens = numbers[FNAME_LEN];
     echo_lines::open_call(name_at(fnames, starts, lens, n.a), n.d, p, out)
 }
 
 // The heads of operators: of a record with two numerals, with one, with none.
-fn head_indexed(text: &[&[u8]; 6], i: u64, two: bool, p: Place, out: &mut [u8]) -> Place
-    requires { ⌜ Operator (now text) i ⌝ }
-    ensures { λ r. ⌜ page r (now (out .exit)) ≡ written (page p (now (out .entry))) (indexedHead two (nodeAtPlace (now (text .entry)) i)) ⌝ }
+fn head_indexed(
+    bytes: &[&[u8]; BYTES],
+    numbers: &[&[u64]; NUMBERS],
+    symbols: &[u8; SYMBOLS],
+    i: u64,
+    two: bool,
+    p: Place,
+    out: &mut [u8],
+) -> Place
+    requires { ⌜ Operator (now bytes) (now numbers) (now symbols) i ⌝ }
+    ensures { λ r. ⌜ page r (now (out .exit)) ≡ written (page p (now (out .entry))) (indexedHead two (nodeIn (now (bytes .entry)) (now (numbers .entry)) i)) ⌝ }
 {
-    let nodes = text[NODES];
-    let n = node_of(nodes, i);
-    let symbols = text[SYMBOLS];
+    let nodes = bytes[NODES];
+    let n = node_here(nodes, i);
     if two {
         return echo_lines::open_two(symbols, n.kind, n.a, n.b, p, out);
     }
     echo_lines::open_one(symbols, n.kind, n.b, p, out)
 }
 
-fn head_plain(text: &[&[u8]; 6], i: u64, p: Place, out: &mut [u8]) -> Place
-    requires { ⌜ Operator (now text) i ⌝ }
-    ensures { λ r. ⌜ page r (now (out .exit)) ≡ written (page p (now (out .entry))) (bytes "(" ++ symbolOf (nodeAtPlace (now (text .entry)) i .kind)) ⌝ }
+fn head_plain(
+    bytes: &[&[u8]; BYTES],
+    numbers: &[&[u64]; NUMBERS],
+    symbols: &[u8; SYMBOLS],
+    i: u64,
+    p: Place,
+    out: &mut [u8],
+) -> Place
+    requires { ⌜ Operator (now bytes) (now numbers) (now symbols) i ⌝ }
+    ensures { λ r. ⌜ page r (now (out .exit)) ≡ written (page p (now (out .entry))) (literal "(" ++ symbolOf (nodeIn (now (bytes .entry)) (now (numbers .entry)) i .kind)) ⌝ }
 {
-    let nodes = text[NODES];
-    let n = node_of(nodes, i);
-    let symbols = text[SYMBOLS];
+    let nodes = bytes[NODES];
+    let n = node_here(nodes, i);
     echo_lines::open_plain(symbols, n.kind, p, out)
 }
 
-// The shape of node i, as its code.
-fn shape_at(text: &[&[u8]; 6], i: u64) -> u8
-    requires { ⌜ i < length (nodesOf (slot (now text) 0)) ⌝ }
-    ensures { λ r. ⌜ r ≡ codeOf («shape-of» (nodeAtPlace (now (text .entry)) i)) ⌝ }
+// The head of node i by itself, which is no leaf: all its text before its operands.
+fn own_head(
+    bytes: &[&[u8]; BYTES],
+    numbers: &[&[u64]; NUMBERS],
+    tables: &[&[u64]; TABLES],
+    symbols: &[u8; SYMBOLS],
+    i: u64,
+    p: Place,
+    out: &mut [u8],
+) -> Place
+    requires { ⌜ Ready (now bytes) (now numbers) (now tables) (now symbols) × TermAt (now bytes) (now numbers) (now tables) i ⌝ }
+    ensures { λ r. ⌜ page r (now (out .exit)) ≡ written (page p (now (out .entry))) (headOf (dagAt (now (bytes .entry)) (now (numbers .entry))) (widthsIn (now (tables .entry))) (problemAt (now (bytes .entry)) (now (numbers .entry)) .bits) i) ⌝ }
 {
-    let nodes = text[NODES];
-    let n = node_of(nodes, i);
-    blast_kernel::shape(n.kind)
-}
-
-// The head of node i: all its text before its operands.
-fn head(text: &[&[u8]; 6], numbers: &[&[u64]; 13], i: u64, p: Place, out: &mut [u8]) -> Place
-    requires { ⌜ Ready (now text) (now numbers) × (i < length (widthsAt (now numbers))) × (asked (dagAt (now text) (now numbers)) (widthsAt (now numbers)) i ≡ 0) ⌝ }
-    ensures { λ r. ⌜ page r (now (out .exit)) ≡ written (page p (now (out .entry))) (headOf (dagAt (now (text .entry)) (now (numbers .entry))) (widthsAt (now (numbers .entry))) (bitsAt (now (text .entry))) i) ⌝ }
-{
-    let s = shape_at(text, i);
+    let s = shape_at(tables, i);
     match s {
-        VAR => head_var(text, numbers, i, p, out),
-        CONST => head_const(text, i, p, out),
-        ROTATION => head_rotation(text, numbers, i, p, out),
-        EXTRACTION => head_indexed(text, i, true, p, out),
-        EXTENSION => head_indexed(text, i, false, p, out),
-        SELECT => head_select(text, numbers, i, p, out),
-        CALL => head_call(text, numbers, i, p, out),
-        _ => head_plain(text, i, p, out),
+        ROTATION => head_rotation(bytes, numbers, tables, symbols, i, p, out),
+        EXTRACTION => head_indexed(bytes, numbers, symbols, i, true, p, out),
+        EXTENSION => head_indexed(bytes, numbers, symbols, i, false, p, out),
+        SELECT => head_select(bytes, numbers, tables, symbols, i, p, out),
+        CALL => head_call(bytes, numbers, tables, symbols, i, p, out),
+        _ => head_plain(bytes, numbers, symbols, i, p, out),
     }
 }
 
-// Is the sort that is wanted the one that a node has.
-fn sort_ok(want_bool: bool, has_bool: bool) -> bool
-    ensures { λ r. ⌜ r ≡ sortOk «want_bool» «has_bool» ⌝ }
+// The name of node i: `|d2|` for node 2.
+fn push_named(i: u64, p: Place, out: &mut [u8]) -> Place
+    ensures { λ r. ⌜ page r (now (out .exit)) ≡ written (page p (now (out .entry))) (named i) ⌝ }
 {
-    if want_bool { has_bool } else { !has_bool }
+    let a = p.byte(out, 124);
+    let b = a.byte(out, 100);
+    let c = b.number(out, i);
+    c.byte(out, 124)
 }
 
-// What node i is refused with before its operands: 3 where another sort is wanted, else what the tables ask of it; 0 for nothing.
-fn refused_here(text: &[&[u8]; 6], numbers: &[&[u64]; 13], i: u64, want_bool: bool) -> u64
-    requires { ⌜ Ready (now text) (now numbers) × (i < length (widthsAt (now numbers))) ⌝ }
-    ensures { λ r. ⌜ r ≡ refusedHere (dagAt (now (text .entry)) (now (numbers .entry))) (widthsAt (now (numbers .entry))) i «want_bool» ⌝ }
+// A blank, and the text of a leaf: a variable's name or a constant.
+fn echo_leaf(
+    bytes: &[&[u8]; BYTES],
+    numbers: &[&[u64]; NUMBERS],
+    tables: &[&[u64]; TABLES],
+    symbols: &[u8; SYMBOLS],
+    i: u64,
+    p: Place,
+    out: &mut [u8],
+) -> Place
+    requires { ⌜ Ready (now bytes) (now numbers) (now tables) (now symbols) × LeafAt (now bytes) (now numbers) (now tables) i ⌝ }
+    ensures { λ r. ⌜ page r (now (out .exit)) ≡ written (page p (now (out .entry))) (32 ∷ headOf (dagAt (now (bytes .entry)) (now (numbers .entry))) (widthsIn (now (tables .entry))) (problemAt (now (bytes .entry)) (now (numbers .entry)) .bits) i) ⌝ }
 {
-    let nodes = text[NODES];
-    if !sort_ok(want_bool, is_bool(nodes, i)) {
-        return 3;
+    let q = p.byte(out, 32);
+    let s = shape_at(tables, i);
+    match s {
+        VAR => head_var(bytes, numbers, tables, symbols, i, q, out),
+        _ => head_const(bytes, numbers, tables, i, q, out),
     }
-    let asked = numbers[ASKED];
-    get(asked, i)
 }
+
+// A blank, and the head of node i: all its text before its operands, or its name.
+fn open_head(
+    bytes: &[&[u8]; BYTES],
+    numbers: &[&[u64]; NUMBERS],
+    tables: &[&[u64]; TABLES],
+    symbols: &[u8; SYMBOLS],
+    i: u64,
+    p: Place,
+    out: &mut [u8],
+) -> Place
+    requires { ⌜ Ready (now bytes) (now numbers) (now tables) (now symbols) × Fine (now bytes) (now numbers) (now tables) i ⌝ }
+    ensures { λ r. ⌜ page r (now (out .exit)) ≡ written (page p (now (out .entry))) (32 ∷ styleAt (now (bytes .entry)) (now (numbers .entry)) (now (tables .entry)) .head i) ⌝ }
+{
+    if is_leaf(tables, i) {
+        return echo_leaf(bytes, numbers, tables, symbols, i, p, out);
+    }
+    let q = p.byte(out, 32);
+    if is_named(tables, i) {
+        return push_named(i, q, out);
+    }
+    own_head(bytes, numbers, tables, symbols, i, q, out)
+}
+
+// ---------------------------------------------------------------- operands
 
 // The operands of node i.
-fn operands_at(text: &[&[u8]; 6], i: u64) -> Form
-    requires { ⌜ i < length (nodesOf (slot (now text) 0)) ⌝ }
-    ensures { λ r. ⌜ r ≡ formAs (getD (nodesOf (slot (now (text .entry)) 0)) i no-node) («shape-of» (getD (nodesOf (slot (now (text .entry)) 0)) i no-node)) ⌝ }
+fn operands_at(
+    bytes: &[&[u8]; BYTES],
+    numbers: &[&[u64]; NUMBERS],
+    tables: &[&[u64]; TABLES],
+    symbols: &[u8; SYMBOLS],
+    i: u64,
+) -> Form
+    requires { ⌜ Ready (now bytes) (now numbers) (now tables) (now symbols) × (i < length (widthsIn (now tables))) ⌝ }
+    ensures { λ r. ⌜ r ≡ styleAt (now (bytes .entry)) (now (numbers .entry)) (now (tables .entry)) .form i ⌝ }
 {
-    let nodes = text[NODES];
-    operands(node_of(nodes, i))
-}
-
-// Is node i a leaf that is accepted as a bit-vector.
-fn is_leaf(text: &[&[u8]; 6], numbers: &[&[u64]; 13], i: u64) -> bool
-    requires { ⌜ Ready (now text) (now numbers) ⌝ }
-    ensures { λ r. ⌜ (r ≡ true → LeafAt (now (text .entry)) (now (numbers .entry)) i) ⌝ }
-{
-    let ws = numbers[WS];
-    if i >= count(ws) {
-        return false;
+    if is_named(tables, i) {
+        return Form::Leaf;
     }
-    if shape_at(text, i) > CONST {
-        return false;
-    }
-    let asked = numbers[ASKED];
-    get(asked, i) == 0
-}
-
-// The text of a leaf: a variable's name or a constant.
-fn echo_leaf(text: &[&[u8]; 6], numbers: &[&[u64]; 13], i: u64, p: Place, out: &mut [u8]) -> Place
-    requires { ⌜ Ready (now text) (now numbers) × LeafAt (now text) (now numbers) i ⌝ }
-    ensures { λ r. ⌜ page r (now (out .exit)) ≡ written (page p (now (out .entry))) (headOf (dagAt (now (text .entry)) (now (numbers .entry))) (widthsAt (now (numbers .entry))) (bitsAt (now (text .entry))) i) ⌝ }
-{
-    let s = shape_at(text, i);
-    match s {
-        VAR => head_var(text, numbers, i, p, out),
-        _ => head_const(text, i, p, out),
-    }
+    let nodes = bytes[NODES];
+    operands(shape_at(tables, i), node_here(nodes, i))
 }
 
 // Where a run of leaves ends: the place in the side entries, the entries left, and the place in the buffer.
@@ -407,16 +416,18 @@ pub struct Run {
 // The leaves that n arguments begin with, each after a blank. A call of many leaves is written here in a loop, and each argument that is
 // no leaf costs one level of the stack: it stays low for calls of many arguments.
 fn echo_leaves(
-    text: &[&[u8]; 6],
-    numbers: &[&[u64]; 13],
+    bytes: &[&[u8]; BYTES],
+    numbers: &[&[u64]; NUMBERS],
+    tables: &[&[u64]; TABLES],
+    symbols: &[u8; SYMBOLS],
     lim: u64,
     s: u64,
     n: u64,
     p: Place,
     out: &mut [u8],
 ) -> Run
-    requires { ⌜ Ready (now text) (now numbers) × Listed lim (slot (now numbers) 0) s n ⌝ }
-    ensures { λ r. ⌜ Leaves lim (textAt (now (text .entry)) (now (numbers .entry))) (slot (now (numbers .entry)) 0) s n (page p (now (out .entry))) r (now (out .exit)) ⌝ }
+    requires { ⌜ Ready (now bytes) (now numbers) (now tables) (now symbols) × Entries (Under (now bytes) (now numbers) (now tables) lim) (problemAt (now bytes) (now numbers) .side) s n ⌝ }
+    ensures { λ r. ⌜ Leaves (Under (now (bytes .entry)) (now (numbers .entry)) (now (tables .entry)) lim) (textAt (now (bytes .entry)) (now (numbers .entry)) (now (tables .entry))) (problemAt (now (bytes .entry)) (now (numbers .entry)) .side) s n (page p (now (out .entry))) r (now (out .exit)) ⌝ }
 {
     let side = numbers[SIDE];
     let mut q = Place {
@@ -427,7 +438,7 @@ fn echo_leaves(
     let mut left = n;
     while left > 0 {
         let x = get(side, k);
-        if !is_leaf(text, numbers, x) {
+        if !is_leaf(tables, x) {
             return Run {
                 next: k,
                 left: left,
@@ -435,8 +446,7 @@ fn echo_leaves(
                 need: q.need,
             };
         }
-        let r = q.byte(out, 32);
-        q = echo_leaf(text, numbers, x, r, out);
+        q = echo_leaf(bytes, numbers, tables, symbols, x, q, out);
         k += 1;
         left -= 1;
     }
@@ -448,30 +458,26 @@ fn echo_leaves(
     }
 }
 
-// Node i where a Bool is wanted, or a bit-vector. Ruled out: operands that change places; a call without its arguments; a refusal of a
-// later operand told before that of an earlier one.
+// ---------------------------------------------------------------- the writers that call each other
+
+// A blank, and node i as a term. Ruled out: operands that change places; a call without its arguments.
 pub fn echo_node(
-    text: &[&[u8]; 6],
-    numbers: &[&[u64]; 13],
+    bytes: &[&[u8]; BYTES],
+    numbers: &[&[u64]; NUMBERS],
+    tables: &[&[u64]; TABLES],
+    symbols: &[u8; SYMBOLS],
     i: u64,
-    want_bool: bool,
     p: Place,
     out: &mut [u8],
-) -> Out
-    requires { ⌜ Ready (now text) (now numbers) ⌝ }
-    ensures { λ r. ⌜ Wrote (textAt (now (text .entry)) (now (numbers .entry)) i «want_bool») (page p (now (out .entry))) r (now (out .exit)) ⌝ }
+) -> Place
+    requires { ⌜ Ready (now bytes) (now numbers) (now tables) (now symbols) × Fine (now bytes) (now numbers) (now tables) i ⌝ }
+    ensures { λ r. ⌜ page r (now (out .exit)) ≡ written (page p (now (out .entry))) (32 ∷ textAt (now (bytes .entry)) (now (numbers .entry)) (now (tables .entry)) i) ⌝ }
 {
-    let ws = numbers[WS];
-    if i >= count(ws) {
-        return Out::Refused(1);
-    }
-    let e = refused_here(text, numbers, i, want_bool);
-    if e > 0 {
-        return Out::Refused(e);
-    }
-    let q = head(
-        text,
+    let q = open_head(
+        bytes,
         numbers,
+        tables,
+        symbols,
         i,
         Place {
             at: p.at,
@@ -479,251 +485,221 @@ pub fn echo_node(
         },
         out,
     );
-    let f = operands_at(text, i);
+    let f = operands_at(bytes, numbers, tables, symbols, i);
     match f {
-        Form::Leaf => Out::Done(q),
-        Form::One(a, b) => match echo_one(text, numbers, i, a, b, q, out) {
-            Out::Refused(x) => Out::Refused(x),
-            Out::Done(t) => Out::Done(Place {
-                at: t.at,
-                need: t.need,
-            }),
-        },
-        Form::Two(a, b, w) => match echo_two(text, numbers, i, a, b, w, q, out) {
-            Out::Refused(x) => Out::Refused(x),
-            Out::Done(t) => Out::Done(Place {
-                at: t.at,
-                need: t.need,
-            }),
-        },
-        Form::Choice(a, b, c) => match echo_choice(text, numbers, i, a, b, c, q, out) {
-            Out::Refused(x) => Out::Refused(x),
-            Out::Done(t) => Out::Done(Place {
-                at: t.at,
-                need: t.need,
-            }),
-        },
+        Form::Leaf => q,
+        Form::One(a, _) => echo_one(bytes, numbers, tables, symbols, i, a, q, out),
+        Form::Two(a, b, _) => echo_two(bytes, numbers, tables, symbols, i, a, b, q, out),
+        Form::Choice(a, b, c) => echo_choice(bytes, numbers, tables, symbols, i, a, b, c, q, out),
         Form::Chain(j, s, n) => {
-            match echo_levels(text, numbers, i, s, n, q, out) {
-                Out::Refused(x) => Out::Refused(x),
-                Out::Done(r) => match echo_one(
-                    text,
-                    numbers,
-                    i,
-                    j,
-                    false,
-                    Place {
-                        at: r.at,
-                        need: r.need,
-                    },
-                    out,
-                ) {
-                    Out::Refused(x) => Out::Refused(x),
-                    Out::Done(t) => Out::Done(Place {
-                        at: t.at,
-                        need: t.need,
-                    }),
+            let r = echo_levels(bytes, numbers, tables, symbols, i, s, n, q, out);
+            echo_one(
+                bytes,
+                numbers,
+                tables,
+                symbols,
+                i,
+                j,
+                Place {
+                    at: r.at,
+                    need: r.need,
                 },
-            }
+                out,
+            )
         }
-        Form::Arguments(s, n) => match echo_args(text, numbers, i, s, n, q, out) {
-            Out::Refused(x) => Out::Refused(x),
-            Out::Done(t) => Out::Done(Place {
-                at: t.at,
-                need: t.need,
-            }),
-        },
+        Form::Arguments(s, n) => echo_args(bytes, numbers, tables, symbols, i, s, n, q, out),
     }
 }
 
-// ` A B C)`: the three operands of an `ite`, and its closing bracket. (It stands by itself to keep the frame of `echo_node` small.)
+// The same for an operand: a leaf is written without a further level.
+fn echo_operand(
+    bytes: &[&[u8]; BYTES],
+    numbers: &[&[u64]; NUMBERS],
+    tables: &[&[u64]; TABLES],
+    symbols: &[u8; SYMBOLS],
+    x: u64,
+    p: Place,
+    out: &mut [u8],
+) -> Place
+    requires { ⌜ Ready (now bytes) (now numbers) (now tables) (now symbols) × Fine (now bytes) (now numbers) (now tables) x ⌝ }
+    ensures { λ r. ⌜ page r (now (out .exit)) ≡ written (page p (now (out .entry))) (32 ∷ textAt (now (bytes .entry)) (now (numbers .entry)) (now (tables .entry)) x) ⌝ }
+{
+    if is_leaf(tables, x) {
+        return echo_leaf(bytes, numbers, tables, symbols, x, p, out);
+    }
+    let r = echo_node(bytes, numbers, tables, symbols, x, p, out);
+    Place {
+        at: r.at,
+        need: r.need,
+    }
+}
+
+// ` A)`: the last operand of a term, and its closing bracket.
+fn echo_one(
+    bytes: &[&[u8]; BYTES],
+    numbers: &[&[u64]; NUMBERS],
+    tables: &[&[u64]; TABLES],
+    symbols: &[u8; SYMBOLS],
+    lim: u64,
+    a: u64,
+    p: Place,
+    out: &mut [u8],
+) -> Place
+    requires { ⌜ Ready (now bytes) (now numbers) (now tables) (now symbols) × Under (now bytes) (now numbers) (now tables) lim a ⌝ }
+    ensures { λ r. ⌜ page r (now (out .exit)) ≡ written (page p (now (out .entry))) (oneText (textAt (now (bytes .entry)) (now (numbers .entry)) (now (tables .entry))) a) ⌝ }
+{
+    let q = echo_operand(
+        bytes,
+        numbers,
+        tables,
+        symbols,
+        a,
+        Place {
+            at: p.at,
+            need: p.need,
+        },
+        out,
+    );
+    q.byte(out, 41)
+}
+
+// ` A B)`: the last two operands of a term, and its closing bracket.
+fn echo_two(
+    bytes: &[&[u8]; BYTES],
+    numbers: &[&[u64]; NUMBERS],
+    tables: &[&[u64]; TABLES],
+    symbols: &[u8; SYMBOLS],
+    lim: u64,
+    a: u64,
+    b: u64,
+    p: Place,
+    out: &mut [u8],
+) -> Place
+    requires { ⌜ Ready (now bytes) (now numbers) (now tables) (now symbols) × Under (now bytes) (now numbers) (now tables) lim a × Under (now bytes) (now numbers) (now tables) lim b ⌝ }
+    ensures { λ r. ⌜ page r (now (out .exit)) ≡ written (page p (now (out .entry))) (twoText (textAt (now (bytes .entry)) (now (numbers .entry)) (now (tables .entry))) a b) ⌝ }
+{
+    let q = echo_operand(
+        bytes,
+        numbers,
+        tables,
+        symbols,
+        a,
+        Place {
+            at: p.at,
+            need: p.need,
+        },
+        out,
+    );
+    let r = echo_operand(bytes, numbers, tables, symbols, b, q, out);
+    r.byte(out, 41)
+}
+
+// ` A B C)`: the three operands of an `ite`, and its closing bracket.
 fn echo_choice(
-    text: &[&[u8]; 6],
-    numbers: &[&[u64]; 13],
+    bytes: &[&[u8]; BYTES],
+    numbers: &[&[u64]; NUMBERS],
+    tables: &[&[u64]; TABLES],
+    symbols: &[u8; SYMBOLS],
     lim: u64,
     a: u64,
     b: u64,
     c: u64,
     p: Place,
     out: &mut [u8],
-) -> Out
-    requires { ⌜ Ready (now text) (now numbers) × (a < lim) × (b < lim) × (c < lim) ⌝ }
-    ensures { λ r. ⌜ Wrote (choiceText (textAt (now (text .entry)) (now (numbers .entry))) a b c) (page p (now (out .entry))) r (now (out .exit)) ⌝ }
+) -> Place
+    requires { ⌜ Ready (now bytes) (now numbers) (now tables) (now symbols) × Under (now bytes) (now numbers) (now tables) lim a × Under (now bytes) (now numbers) (now tables) lim b × Under (now bytes) (now numbers) (now tables) lim c ⌝ }
+    ensures { λ r. ⌜ page r (now (out .exit)) ≡ written (page p (now (out .entry))) (choiceText (textAt (now (bytes .entry)) (now (numbers .entry)) (now (tables .entry))) a b c) ⌝ }
 {
-    let o = Place {
-        at: p.at,
-        need: p.need,
-    };
-    let q = o.byte(out, 32);
-    match echo_node(text, numbers, a, true, q, out) {
-        Out::Refused(e) => Out::Refused(e),
-        Out::Done(r) => match echo_two(
-            text,
-            numbers,
-            lim,
-            b,
-            c,
-            false,
-            Place {
-                at: r.at,
-                need: r.need,
-            },
-            out,
-        ) {
-            Out::Refused(x) => Out::Refused(x),
-            Out::Done(t) => Out::Done(Place {
-                at: t.at,
-                need: t.need,
-            }),
-        },
-    }
-}
-
-// ` A)`: the last operand of a term, and its closing bracket.
-fn echo_one(
-    text: &[&[u8]; 6],
-    numbers: &[&[u64]; 13],
-    lim: u64,
-    a: u64,
-    want_bool: bool,
-    p: Place,
-    out: &mut [u8],
-) -> Out
-    requires { ⌜ Ready (now text) (now numbers) × (a < lim) ⌝ }
-    ensures { λ r. ⌜ Wrote (oneText (textAt (now (text .entry)) (now (numbers .entry))) a «want_bool») (page p (now (out .entry))) r (now (out .exit)) ⌝ }
-{
-    let o = Place {
-        at: p.at,
-        need: p.need,
-    };
-    let q = o.byte(out, 32);
-    match echo_node(text, numbers, a, want_bool, q, out) {
-        Out::Refused(e) => Out::Refused(e),
-        Out::Done(r) => {
-            let s = Place {
-                at: r.at,
-                need: r.need,
-            };
-            Out::Done(s.byte(out, 41))
-        }
-    }
-}
-
-// ` A B)`: the last two operands of a term, and its closing bracket.
-fn echo_two(
-    text: &[&[u8]; 6],
-    numbers: &[&[u64]; 13],
-    lim: u64,
-    a: u64,
-    b: u64,
-    want_bool: bool,
-    p: Place,
-    out: &mut [u8],
-) -> Out
-    requires { ⌜ Ready (now text) (now numbers) × (a < lim) × (b < lim) ⌝ }
-    ensures { λ r. ⌜ Wrote (twoText (textAt (now (text .entry)) (now (numbers .entry))) a b «want_bool») (page p (now (out .entry))) r (now (out .exit)) ⌝ }
-{
-    let o = Place {
-        at: p.at,
-        need: p.need,
-    };
-    let q = o.byte(out, 32);
-    match echo_node(text, numbers, a, want_bool, q, out) {
-        Out::Refused(e) => Out::Refused(e),
-        Out::Done(r) => {
-            let o = Place {
-                at: r.at,
-                need: r.need,
-            };
-            let s = o.byte(out, 32);
-            match echo_node(text, numbers, b, want_bool, s, out) {
-                Out::Refused(e) => Out::Refused(e),
-                Out::Done(t) => {
-                    let u = Place {
-                        at: t.at,
-                        need: t.need,
-                    };
-                    Out::Done(u.byte(out, 41))
-                }
-            }
-        }
-    }
-}
-
-// The closings of n stores, the last first: ` I V)` for each.
-fn echo_levels(
-    text: &[&[u8]; 6],
-    numbers: &[&[u64]; 13],
-    lim: u64,
-    s: u64,
-    n: u64,
-    p: Place,
-    out: &mut [u8],
-) -> Out
-    requires { ⌜ Ready (now text) (now numbers) × Chained lim (slot (now numbers) 0) s n ⌝ }
-    ensures { λ r. ⌜ Wrote (levelsText (textAt (now (text .entry)) (now (numbers .entry))) n (drop s (slot (now (numbers .entry)) 0))) (page p (now (out .entry))) r (now (out .exit)) ⌝ }
-{
-    if n == 0 {
-        return Out::Done(Place {
-            at: p.at,
-            need: p.need,
-        });
-    }
-    let side = numbers[SIDE];
-    let l = n - 1;
-    let x = pair_at(side, s, l, 0);
-    let v = pair_at(side, s, l, 1);
-    match echo_two(
-        text,
+    let q = echo_operand(
+        bytes,
         numbers,
-        lim,
-        x,
-        v,
-        false,
+        tables,
+        symbols,
+        a,
         Place {
             at: p.at,
             need: p.need,
         },
         out,
-    ) {
-        Out::Refused(e) => Out::Refused(e),
-        Out::Done(q) => match echo_levels(
-            text,
-            numbers,
-            lim,
-            s,
-            l,
-            Place {
-                at: q.at,
-                need: q.need,
-            },
-            out,
-        ) {
-            Out::Refused(x) => Out::Refused(x),
-            Out::Done(t) => Out::Done(Place {
-                at: t.at,
-                need: t.need,
-            }),
-        },
-    }
+    );
+    echo_two(bytes, numbers, tables, symbols, lim, b, c, q, out)
 }
 
-// n arguments, each after a blank, and the closing bracket.
-fn echo_args(
-    text: &[&[u8]; 6],
-    numbers: &[&[u64]; 13],
+// The closings of n stores, the last first: ` I V)` for each.
+fn echo_levels(
+    bytes: &[&[u8]; BYTES],
+    numbers: &[&[u64]; NUMBERS],
+    tables: &[&[u64]; TABLES],
+    symbols: &[u8; SYMBOLS],
     lim: u64,
     s: u64,
     n: u64,
     p: Place,
     out: &mut [u8],
-) -> Out
-    requires { ⌜ Ready (now text) (now numbers) × Listed lim (slot (now numbers) 0) s n ⌝ }
-    ensures { λ r. ⌜ Wrote (argsText (textAt (now (text .entry)) (now (numbers .entry))) n (drop s (slot (now (numbers .entry)) 0))) (page p (now (out .entry))) r (now (out .exit)) ⌝ }
+) -> Place
+    requires { ⌜ Ready (now bytes) (now numbers) (now tables) (now symbols) × Entries (Under (now bytes) (now numbers) (now tables) lim) (problemAt (now bytes) (now numbers) .side) s (n + n) ⌝ }
+    ensures { λ r. ⌜ page r (now (out .exit)) ≡ written (page p (now (out .entry))) (levelsText (textAt (now (bytes .entry)) (now (numbers .entry)) (now (tables .entry))) (problemAt (now (bytes .entry)) (now (numbers .entry)) .side) s n) ⌝ }
+{
+    if n == 0 {
+        return Place {
+            at: p.at,
+            need: p.need,
+        };
+    }
+    let side = numbers[SIDE];
+    let l = n - 1;
+    let x = pair_at(side, s, l, 0);
+    let v = pair_at(side, s, l, 1);
+    let q = echo_two(
+        bytes,
+        numbers,
+        tables,
+        symbols,
+        lim,
+        x,
+        v,
+        Place {
+            at: p.at,
+            need: p.need,
+        },
+        out,
+    );
+    echo_levels(
+        bytes,
+        numbers,
+        tables,
+        symbols,
+        lim,
+        s,
+        l,
+        Place {
+            at: q.at,
+            need: q.need,
+        },
+        out,
+    )
+}
+
+// n arguments, each after a blank, and the closing bracket.
+fn echo_args(
+    bytes: &[&[u8]; BYTES],
+    numbers: &[&[u64]; NUMBERS],
+    tables: &[&[u64]; TABLES],
+    symbols: &[u8; SYMBOLS],
+    lim: u64,
+    s: u64,
+    n: u64,
+    p: Place,
+    out: &mut [u8],
+) -> Place
+    requires { ⌜ Ready (now bytes) (now numbers) (now tables) (now symbols) × Entries (Under (now bytes) (now numbers) (now tables) lim) (problemAt (now bytes) (now numbers) .side) s n ⌝ }
+    ensures { λ r. ⌜ page r (now (out .exit)) ≡ written (page p (now (out .entry))) (argsText (textAt (now (bytes .entry)) (now (numbers .entry)) (now (tables .entry))) (problemAt (now (bytes .entry)) (now (numbers .entry)) .side) s n) ⌝ }
 {
     let run = echo_leaves(
-        text,
+        bytes,
         numbers,
+        tables,
+        symbols,
         lim,
         s,
         n,
@@ -739,31 +715,24 @@ fn echo_args(
     };
     let m = run.left;
     if m == 0 {
-        return Out::Done(u.byte(out, 41));
+        return u.byte(out, 41);
     }
     let side = numbers[SIDE];
     let k = run.next;
     let x = get(side, k);
-    let q = u.byte(out, 32);
-    match echo_node(text, numbers, x, false, q, out) {
-        Out::Refused(e) => Out::Refused(e),
-        Out::Done(r) => match echo_args(
-            text,
-            numbers,
-            lim,
-            k + 1,
-            m - 1,
-            Place {
-                at: r.at,
-                need: r.need,
-            },
-            out,
-        ) {
-            Out::Refused(x) => Out::Refused(x),
-            Out::Done(t) => Out::Done(Place {
-                at: t.at,
-                need: t.need,
-            }),
+    let q = echo_node(bytes, numbers, tables, symbols, x, u, out);
+    echo_args(
+        bytes,
+        numbers,
+        tables,
+        symbols,
+        lim,
+        k + 1,
+        m - 1,
+        Place {
+            at: q.at,
+            need: q.need,
         },
-    }
+        out,
+    )
 }

@@ -25,10 +25,10 @@ use Rattle.echo_spec.specs.Shapes.{
   call,
   unknown,
 }
-use Rattle.echo_spec.specs.Input.{Node, shape}
-use Rattle.echo_spec.specs.Widths.{wfAs, widthAs, widthAt, earlier, un-wf, extend-wf, largest}
+use Rattle.echo_spec.specs.Input.{Node, shape, largest, fits64}
+use Rattle.echo_spec.specs.Widths.{wfAs, widthAs, widthAt, earlier, un-wf, extend-wf}
 use Rattle.blast_kernel.specs.Codes.{codeOf, shapeCoded, in-arm, NoneOf, none-of}
-use Rattle.kernel.specs.Closed.{closed, closed-wf, closed-width, Formed}
+use Rattle.kernel.specs.Closed.{closed, closed-wf, closed-width, CoreFormed}
 
 -- two tests that say the same
 leb-same : (a b c d : ℕ) → (a ≤ b → c ≤ d) → (c ≤ d → a ≤ b) → leb a b ≡ leb c d
@@ -79,11 +79,11 @@ module _ (ws : List ℕ) (n : Node) {r : ℕ} (e : r ≡ codeOf (shape n)) where
   width-past t = ap (widthAs ws n) (sym (closed-past (shape n) (omega (arith, none-of 12 r t))))
 
   -- what was accepted, in the arm k
-  formed-arm : (k : ℕ) (h : Formed ws n) → r ≡ k → wfAs (h .nbits) [] ws n (closed (shapeCoded k)) ≡ true
+  formed-arm : (k : ℕ) (h : CoreFormed ws n) → r ≡ k → wfAs (h .nbits) [] ws n (closed (shapeCoded k)) ≡ true
   formed-arm k h f = ap (λ (s : Shape). wfAs (h .nbits) [] ws n (closed s)) (sym (in-arm (shape n) e f)) ∙ h .accepted
 
   -- the difference of an extraction is not below 0
-  pub extraction-room : Formed ws n → r ≡ 4 → (n .b ≤ n .a) × (n .a < widthAt ws (n .c))
+  pub extraction-room : CoreFormed ws n → r ≡ 4 → (n .b ≤ n .a) × (n .a < widthAt ws (n .c))
   unfolding closed wfAs
   extraction-room h f =
       let down = leb (n .b) (n .a) in
@@ -92,14 +92,14 @@ module _ (ws : List ℕ) (n : Node) {r : ℕ} (e : r ≡ codeOf (shape n)) where
       (leb→le (n .b) (n .a) (and-0 down up t), ltb→lt (n .a) (widthAt ws (n .c)) (and-1 down up t))
 
   -- the sums of a concatenation and an extension are not over 64 bits
-  pub concat-room : Formed ws n → r ≡ 5 → widthAt ws (n .a) + widthAt ws (n .b) ≤ largest
+  pub concat-room : CoreFormed ws n → r ≡ 5 → widthAt ws (n .a) + widthAt ws (n .b) ≤ largest
   unfolding closed wfAs
   concat-room h f =
       let fits = leb (widthAt ws (n .a) + widthAt ws (n .b)) largest in
       leb→le (widthAt ws (n .a) + widthAt ws (n .b)) largest
       (and-1 (un-wf ws (n .b)) fits (and-1 (un-wf ws (n .a)) (un-wf ws (n .b) && fits) (true→T (formed-arm 5 h f))))
 
-  pub extension-room : Formed ws n → r ≡ 6 → widthAt ws (n .a) + n .b ≤ largest
+  pub extension-room : CoreFormed ws n → r ≡ 6 → widthAt ws (n .a) + n .b ≤ largest
   unfolding closed wfAs extend-wf
   extension-room h f =
       leb→le (widthAt ws (n .a) + n .b) largest

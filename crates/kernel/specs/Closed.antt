@@ -51,7 +51,7 @@ abbrev pub closed-width : List ℕ → Node → ℕ
 closed-width ws n = widthAs ws n (closed (shape n))
 
 -- `node_wf` accepts the node, with some number of bits
-pub record Formed (ws : List ℕ) (n : Node) : Type 0 where
+pub record CoreFormed (ws : List ℕ) (n : Node) : Type 0 where
   pub nbits : ℕ
   pub accepted : closed-wf nbits ws n ≡ true
 

@@ -10,25 +10,19 @@ use blast_kernel::EXTENSION;
 use blast_kernel::EXTRACTION;
 use blast_kernel::ITE;
 use blast_kernel::NEGATION;
-use blast_kernel::Node;
 use blast_kernel::ROTATION;
 use blast_kernel::UNARY;
 use blast_kernel::VAR;
+use lent::Node;
+use lent::get;
 ghost use mathlib.Core.Path.{_≡_};
 ghost use mathlib.Core.Bool.{_&&_};
 ghost use Prim.Native.Nat.{_+_, _≤_};
 ghost use lib.Dec.{leb, ltb};
+ghost use Rattle.echo_spec.specs.Input as input;
 ghost use Rattle.echo_spec.specs.Widths as widths;
-ghost use Rattle.blast_kernel.specs.Records.{nodeOf};
-ghost use Rattle.kernel.specs.Closed.{closed-wf, closed-width, Formed};
-
-// The width of node i, 0 past the list. Ruled out: the width of the node before; the last width for a number past the list.
-pub fn width_at(ws: &[u64], i: u64) -> u64
-    ensures { λ r. ⌜ r ≡ widths.widthAt (now (ws .entry)) i ⌝ }
-{
-    let at = i as usize;
-    if at < ws.len() { ws[at] } else { 0 }
-}
+ghost use Rattle.lent.specs.Records.{nodeOf};
+ghost use Rattle.kernel.specs.Closed.{closed-wf, closed-width, CoreFormed};
 
 // Is i the number of an earlier node. Ruled out: the node itself; node 0 left out.
 pub fn earlier(ws: &[u64], i: u64) -> bool
@@ -41,12 +35,12 @@ pub fn earlier(ws: &[u64], i: u64) -> bool
 pub fn earlier_of(ws: &[u64], w: u64, i: u64) -> bool
     ensures { λ r. ⌜ r ≡ widths.earlierOf (now (ws .entry)) w i ⌝ }
 {
-    earlier(ws, i) && width_at(ws, i) == w
+    earlier(ws, i) && get(ws, i) == w
 }
 
 // Is the sum of two widths one of 64 bits.
 fn sum_fits(x: u64, y: u64) -> bool
-    ensures { λ r. ⌜ r ≡ leb (x + y) widths.largest ⌝ }
+    ensures { λ r. ⌜ r ≡ leb (x + y) input.largest ⌝ }
 {
     y <= 18446744073709551615 - x
 }
@@ -55,7 +49,7 @@ fn sum_fits(x: u64, y: u64) -> bool
 pub fn un_wf(ws: &[u64], a: u64) -> bool
     ensures { λ r. ⌜ r ≡ widths.un-wf (now (ws .entry)) a ⌝ }
 {
-    earlier(ws, a) && width_at(ws, a) > 0
+    earlier(ws, a) && get(ws, a) > 0
 }
 
 // Two earlier bit-vectors of one width. Ruled out: two widths that differ; only the first looked at.
@@ -68,8 +62,8 @@ pub fn bin_wf(ws: &[u64], a: u64, b: u64) -> bool
     if !earlier(ws, b) {
         return false;
     }
-    let w = width_at(ws, a);
-    w > 0 && w == width_at(ws, b)
+    let w = get(ws, a);
+    w > 0 && w == get(ws, b)
 }
 
 // Two earlier nodes of width 1. Ruled out: two nodes of width 8; only the first looked at.
@@ -84,12 +78,19 @@ pub fn bool_bin_wf(ws: &[u64], a: u64, b: u64) -> bool
 pub fn extend_wf(ws: &[u64], a: u64, by: u64) -> bool
     ensures { λ r. ⌜ r ≡ widths.extend-wf (now (ws .entry)) a by ⌝ }
 {
-    un_wf(ws, a) && sum_fits(width_at(ws, a), by)
+    un_wf(ws, a) && sum_fits(get(ws, a), by)
+}
+
+// Is this the width of a term: above 0 and of 64 bits, as each number here is. Ruled out: a width of 0; the largest number refused.
+pub fn has_width(w: u64) -> bool
+    ensures { λ r. ⌜ r ≡ (ltb 0 w && input.fits64 w) ⌝ }
+{
+    w > 0
 }
 
 // A constant's w bits from place s on are among the bits.
 fn const_wf(nbits: usize, s: u64, w: u64) -> bool
-    ensures { λ r. ⌜ r ≡ (ltb 0 w && leb (s + w) nbits) ⌝ }
+    ensures { λ r. ⌜ r ≡ (ltb 0 w && (input.fits64 w && leb (s + w) nbits)) ⌝ }
 {
     let n = nbits as u64;
     if w == 0 {
@@ -105,26 +106,26 @@ fn extract_wf(ws: &[u64], hi: u64, lo: u64, a: u64) -> bool
     if !earlier(ws, a) {
         return false;
     }
-    lo <= hi && hi < width_at(ws, a)
+    lo <= hi && hi < get(ws, a)
 }
 
 // Two earlier bit-vectors that are not too wide to be joined.
 fn concat_wf(ws: &[u64], a: u64, b: u64) -> bool
     ensures { λ r. ⌜ r ≡ (widths.un-wf (now (ws .entry)) a && (widths.un-wf (now (ws .entry)) b
-        && leb (widths.widthAt (now (ws .entry)) a + widths.widthAt (now (ws .entry)) b) widths.largest)) ⌝ }
+        && leb (widths.widthAt (now (ws .entry)) a + widths.widthAt (now (ws .entry)) b) input.largest)) ⌝ }
 {
     if !un_wf(ws, a) {
         return false;
     }
-    un_wf(ws, b) && sum_fits(width_at(ws, a), width_at(ws, b))
+    un_wf(ws, b) && sum_fits(get(ws, a), get(ws, b))
 }
 
 // Two bit-vectors joined.
 fn concat_width(ws: &[u64], a: u64, b: u64) -> u64
-    requires { ⌜ widths.widthAt (now ws) a + widths.widthAt (now ws) b ≤ widths.largest ⌝ }
+    requires { ⌜ widths.widthAt (now ws) a + widths.widthAt (now ws) b ≤ input.largest ⌝ }
     ensures { λ r. ⌜ r ≡ widths.widthAt (now (ws .entry)) a + widths.widthAt (now (ws .entry)) b ⌝ }
 {
-    width_at(ws, a) + width_at(ws, b)
+    get(ws, a) + get(ws, b)
 }
 
 // A Bool and two bit-vectors of one width.
@@ -141,7 +142,7 @@ pub fn node_wf(ws: &[u64], nbits: usize, n: Node) -> bool
 {
     let s = blast_kernel::shape(n.kind);
     match s {
-        VAR => n.a > 0,
+        VAR => has_width(n.a),
         CONST => const_wf(nbits, n.a, n.b),
         BINARY => bin_wf(ws, n.a, n.b),
         ROTATION => bin_wf(ws, n.a, n.b),
@@ -160,23 +161,23 @@ pub fn node_wf(ws: &[u64], nbits: usize, n: Node) -> bool
 // The width of a node that `node_wf` accepted, so that no difference is below 0 and no sum is over 64 bits. Ruled out: an extraction
 // one bit narrower; a comparison as wide as its operands.
 pub fn node_width(ws: &[u64], n: Node) -> u64
-    requires { ⌜ Formed (now ws) (nodeOf n) ⌝ }
+    requires { ⌜ CoreFormed (now ws) (nodeOf n) ⌝ }
     ensures { λ r. ⌜ r ≡ closed-width (now (ws .entry)) (nodeOf n) ⌝ }
 {
     let s = blast_kernel::shape(n.kind);
     match s {
         VAR => n.a,
         CONST => n.b,
-        BINARY => width_at(ws, n.a),
-        ROTATION => width_at(ws, n.a),
+        BINARY => get(ws, n.a),
+        ROTATION => get(ws, n.a),
         EXTRACTION => n.a - n.b + 1,
         CONCAT => concat_width(ws, n.a, n.b),
-        EXTENSION => width_at(ws, n.a) + n.b,
-        ITE => width_at(ws, n.b),
+        EXTENSION => get(ws, n.a) + n.b,
+        ITE => get(ws, n.b),
         COMPARISON => 1,
         NEGATION => 1,
         CONNECTIVE => 1,
-        UNARY => width_at(ws, n.a),
+        UNARY => get(ws, n.a),
         _ => 0,
     }
 }

@@ -1,9 +1,8 @@
 // Prints the ten marked cases: for each its label, number and length, and the script if there is one.
 use echo_kernel::Echo;
-use echo_kernel::EchoError;
 use libc::STDOUT_FILENO;
 ghost use mathlib.Core.Path.{_≡_};
-ghost use Rattle.echo_kernel.specs.Outcomes.{errorNumber, number as numberOf, count};
+ghost use Rattle.echo_kernel.specs.Outcomes.{number as numberOf, count};
 
 // Kinds of a node.
 const ADD: u8 = 2;
@@ -32,29 +31,12 @@ const FIVE: [u8; 8] = [1, 0, 1, 0, 0, 0, 0, 0];
 
 const ELEVEN: [u8; 8] = [1, 1, 0, 1, 0, 0, 0, 0];
 
-fn error_number(e: EchoError) -> u64
-    ensures { λ r. ⌜ r ≡ errorNumber e ⌝ }
-{
-    match e {
-        EchoError::Malformed => 1,
-        EchoError::Name => 2,
-        EchoError::Sort => 3,
-        EchoError::Var => 4,
-        EchoError::Rotate => 5,
-        EchoError::Shared => 6,
-        EchoError::Signature => 7,
-        EchoError::Encoding => 8,
-        EchoError::Limit => 9,
-        EchoError::Room => 10,
-    }
-}
-
 fn number(r: Echo) -> u64
     ensures { λ n. ⌜ n ≡ numberOf r ⌝ }
 {
     match r {
         Echo::Printed(_) => 0,
-        Echo::Refused(e) => error_number(e),
+        Echo::Refused(e) => refusals::number_of(e),
     }
 }
 

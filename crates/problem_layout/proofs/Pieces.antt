@@ -9,12 +9,11 @@ use lib.Dec.{T, leb, leb→le}
 use lib.ListN.{length, take, drop, getD}
 use Rattle.lists.specs.Bytes.{bytes}
 use Rattle.lists.specs.Tests.{same, same→eq, every-at, and-0, and-1}
-use Rattle.echo_kernel.specs.declared.EchoError.{EchoError}
-use Rattle.echo_kernel.specs.declared.EchoError.the-variants.{Malformed, Name, Sort, Var, Rotate, Shared, Signature, Encoding, Limit, Room}
-use Rattle.echo_kernel.specs.Outcomes.{errorNumber}
+use Rattle.refusals.specs.declared.EchoError.{EchoError}
+use Rattle.refusals.specs.declared.EchoError.the-variants.{Malformed, Name, Sort, Var, Rotate, Shared, Signature, Encoding, Limit, Room}
+use Rattle.refusals.specs.Numbers.{errorNumber, errorOf, error-number, error-small, error-at}
 use Rattle.problem_layout.specs.Layout.{inputs, inputAt}
 use Rattle.problem_layout.specs.Lines.{refusedLine}
-use Rattle.problem_layout.specs.Telling.{errorOf}
 
 -- ---------------------------------------------------------------- one law for both tables
 
@@ -58,28 +57,17 @@ refusals =
     ++ (refusedLine Rotate ++ (refusedLine Shared ++ (refusedLine Signature ++ (refusedLine Encoding ++ (refusedLine Limit ++ refusedLine Room))))))))
 
 abbrev pub refusal-ends : List ℕ
-refusal-ends = 0 ∷ 132 ∷ 270 ∷ 363 ∷ 447 ∷ 530 ∷ 589 ∷ 703 ∷ 831 ∷ 876 ∷ 977 ∷ []
+refusal-ends = 0 ∷ 0 ∷ 132 ∷ 270 ∷ 363 ∷ 447 ∷ 530 ∷ 589 ∷ 703 ∷ 831 ∷ 876 ∷ 977 ∷ []
 
-error-at : (e : EchoError) → errorOf (errorNumber e) ≡ e
-error-at Malformed = refl
-error-at Name = refl
-error-at Sort = refl
-error-at Var = refl
-error-at Rotate = refl
-error-at Shared = refl
-error-at Signature = refl
-error-at Encoding = refl
-error-at Limit = refl
-error-at Room = refl
-
-refusal-tested : (k : ℕ) → k < 10 → T (pieces refusals refusal-ends (λ j. refusedLine (errorOf (suc j))) k)
+refusal-tested : (k : ℕ) → 0 < k → k ≤ 10 → T (pieces refusals refusal-ends (λ j. refusedLine (errorOf j)) k)
 unfolding bytes same refusedLine
-refusal-tested k h = every-at (pieces refusals refusal-ends (λ j. refusedLine (errorOf (suc j)))) 0 10 tt k (omega arith) h
+refusal-tested k l h = every-at (pieces refusals refusal-ends (λ j. refusedLine (errorOf j))) 1 10 tt k l (omega arith)
 
-pub refusal-piece : {k : ℕ} (e : EchoError) → (k + 1 ≡ errorNumber e) × (k < 10) → Piece refusals refusal-ends k (refusedLine e)
+pub refusal-piece : {k : ℕ} (e : EchoError) → k ≡ errorNumber e → Piece refusals refusal-ends k (refusedLine e)
 refusal-piece {k} e h =
-    let q : errorOf (suc k) ≡ e = ap errorOf (sym (add-one k) ∙ h .0) ∙ error-at e in
-    rw q at (piece-of refusals refusal-ends (λ j. refusedLine (errorOf (suc j))) k (refusal-tested k (h .1)))
+    let q : errorOf k ≡ e = ap errorOf h ∙ error-at e in
+    let t : T (pieces refusals refusal-ends (λ j. refusedLine (errorOf j)) k) = refusal-tested k (omega (arith, error-number e)) (omega (arith, error-small e)) in
+    rw q at (piece-of refusals refusal-ends (λ j. refusedLine (errorOf j)) k t)
 
 -- ---------------------------------------------------------------- the names
 

@@ -1,22 +1,24 @@
 -- What is said, from what was read and what the printer answered. Assumes nothing.
-use Prim.Native.Nat.{ℕ, zero, suc, _+_, _≤_}
+use Prim.Native.Nat.{ℕ, zero, suc, _+_, _-_, _≤_}
 use mathlib.Core.Path.{_≡_, refl, ap, sym, subst, _∙_}
 use mathlib.Core.List.{List, _++_}
 use native.Mathlib.Omega.{arith}
 use lib.ListN.{length, drop, length-append}
 use Rattle.echo_spec.specs.Input.{Problem, queryOf}
-use Rattle.echo_spec.specs.Answers.{Answer, echoRefusal, echoAnswer, echo-ext-answer, script}
-use Rattle.echo_kernel.specs.declared.EchoError.{EchoError}
-use Rattle.echo_kernel.specs.declared.EchoError.the-variants.{Malformed, Name, Sort, Var, Rotate, Shared, Signature, Encoding, Limit, Room}
+use Rattle.echo_spec.specs.Answers.{Answer, endlessRefusal, textRefusal, echoAnswer, textAnswer, echo-ext-answer, script}
+use Rattle.refusals.specs.declared.EchoError.{EchoError}
+use Rattle.refusals.specs.Numbers.{errorNumber, errorOf, error-number, error-at}
 use Rattle.echo_kernel.specs.declared.Echo.{Echo}
 use Rattle.echo_kernel.specs.declared.Echo.the-variants as echo
-use Rattle.echo_kernel.specs.Outcomes.{errorNumber, answered}
+use Rattle.echo_kernel.specs.Outcomes.{answered}
 use Rattle.problem_layout.specs.declared.Shape.{Shape}
 use Rattle.problem_layout.specs.declared.Shape.the-variants as shape
 use Rattle.problem_layout.specs.declared.Said.{Said}
 use Rattle.problem_layout.specs.declared.Said.the-variants.{Script, Refused, Early, TooLarge, LeftOver}
 use Rattle.problem_layout.specs.Layout.{Layout, problemIn, layout}
 use Rattle.problem_layout.specs.Reading.{Read, Shaped}
+use Rattle.input_parts.specs.Parts.{problemFrom}
+use Rattle.problem_layout.proofs.Steps.{problem-read}
 use Rattle.problem_layout.specs.Telling.{saidBy, saidOf, printedTo, shown, Tells, Known, Answers, Shown}
 
 -- ---------------------------------------------------------------- the printer's answers
@@ -31,21 +33,14 @@ fits {n} {out} lent zero text b l =
 fits lent (suc k) text b l = absurd (let z : 0 ≡ suc k = ap (λ (x : Answer). x .number) b in omega arith)
 
 script-inside : {n : ℕ} {out : List ℕ} (lent : List ℕ) (p : Problem) → answered (echo.Printed n) out ≡ echo-ext-answer p lent → length out ≡ length lent → n ≤ length out
-unfolding echo-ext-answer
-script-inside lent p b l = fits lent (echoRefusal p (length lent)) (script (queryOf p)) b l
+unfolding echo-ext-answer textAnswer
+script-inside lent p b l = fits lent (textRefusal (endlessRefusal p) (script (queryOf p)) (length lent)) (script (queryOf p)) b l
 
 -- each refusal has its number
 by-number : (e : EchoError) → Refused e ≡ saidBy (errorNumber e) 0
-by-number Malformed = refl
-by-number Name = refl
-by-number Sort = refl
-by-number Var = refl
-by-number Rotate = refl
-by-number Shared = refl
-by-number Signature = refl
-by-number Encoding = refl
-by-number Limit = refl
-by-number Room = refl
+by-number e =
+    let n : errorNumber e ≡ suc (errorNumber e - 1) = error-number e in
+    sym (ap (λ (m : ℕ). saidBy m 0) n ∙ ap (λ (m : ℕ). Refused (errorOf m)) (sym n) ∙ ap Refused (error-at e))
 
 -- ---------------------------------------------------------------- bytes that are no problem
 
@@ -59,37 +54,41 @@ answers-by lent e a b k =
       known = k;
     }
 
-whole-is : {s : List ℕ} {r : Shape} → Shaped s r → r ≡ shape.Whole → Shaped s shape.Whole
-whole-is {s} h e = subst (Shaped s) e h
+-- in the arm of one shape
+shaped-as : {s starts counts : List ℕ} {r v : Shape} → Shaped s r starts counts → r ≡ v → Shaped s v starts counts
+shaped-as {s} {starts} {counts} h e = subst (λ (x : Shape). Shaped s x starts counts) e h
 
-pub whole-read : {s : List ℕ} {r : Shape} → Shaped s r → r ≡ shape.Whole → Read s 16
-whole-read h e = whole-is h e .read
+pub whole-read : {s starts counts : List ℕ} {r : Shape} → Shaped s r starts counts → r ≡ shape.Whole → Read s starts counts 16
+whole-read h e = shaped-as h e .read
 
-module _ (lent : List ℕ) {s : List ℕ} {r : Shape} (h : Shaped s r) where
+module _ (lent : List ℕ) {s starts counts : List ℕ} {r : Shape} (h : Shaped s r starts counts) where
   pub says-early : {k : ℕ} → r ≡ shape.Early k → Answers s lent (Early k) lent
-  says-early {k} e = let g : Shaped s (shape.Early k) = subst (Shaped s) e h in answers-by lent (g .same) refl refl (g .read)
+  says-early {k} e = let g : Shaped s (shape.Early k) starts counts = shaped-as h e in answers-by lent (g .same) refl refl (g .read)
 
   pub says-too-large : {k : ℕ} → r ≡ shape.TooLarge k → Answers s lent (TooLarge k) lent
-  says-too-large {k} e = let g : Shaped s (shape.TooLarge k) = subst (Shaped s) e h in answers-by lent (g .same) refl refl (g .read)
+  says-too-large {k} e = let g : Shaped s (shape.TooLarge k) starts counts = shaped-as h e in answers-by lent (g .same) refl refl (g .read)
 
   pub says-left-over : r ≡ shape.LeftOver → Answers s lent LeftOver lent
-  says-left-over e = let g : Shaped s shape.LeftOver = subst (Shaped s) e h in answers-by lent (g .same) refl refl tt
+  says-left-over e = let g : Shaped s shape.LeftOver starts counts = shaped-as h e in answers-by lent (g .same) refl refl tt
 
   -- ---------------------------------------------------------------- what the printer answered
 
-  module _ (w : r ≡ shape.Whole) (o : Echo) {out : List ℕ} (a : answered o out ≡ echo-ext-answer (problemIn s) lent) where
+  module _ (w : r ≡ shape.Whole) (o : Echo) {out : List ℕ} (a : answered o out ≡ echo-ext-answer (problemFrom s starts counts) lent) where
+    as-read : answered o out ≡ echo-ext-answer (problemIn s) lent
+    as-read = a ∙ ap (λ (p : Problem). echo-ext-answer p lent) (problem-read (whole-read h w))
+
     pub says-script : {n : ℕ} → o ≡ echo.Printed n → length out ≡ length lent → Answers s lent (Script n) out
     says-script {n} e l =
-        let b : answered (echo.Printed n) out ≡ echo-ext-answer (problemIn s) lent = subst (λ (x : Echo). answered x out ≡ echo-ext-answer (problemIn s) lent) e a in
-        answers-by lent (whole-is h w .same)
+        let b : answered (echo.Printed n) out ≡ echo-ext-answer (problemIn s) lent = subst (λ (x : Echo). answered x out ≡ echo-ext-answer (problemIn s) lent) e as-read in
+        answers-by lent (shaped-as h w .same)
         (ap (λ (x : Answer). saidBy (x .number) (x .count)) b)
         (ap (λ (x : Answer). x .output) b)
         (script-inside lent (problemIn s) b l)
 
     pub says-refused : {e : EchoError} → o ≡ echo.Refused e → Answers s lent (Refused e) out
     says-refused {e} f =
-        let b : answered (echo.Refused e) out ≡ echo-ext-answer (problemIn s) lent = subst (λ (x : Echo). answered x out ≡ echo-ext-answer (problemIn s) lent) f a in
-        answers-by lent (whole-is h w .same)
+        let b : answered (echo.Refused e) out ≡ echo-ext-answer (problemIn s) lent = subst (λ (x : Echo). answered x out ≡ echo-ext-answer (problemIn s) lent) f as-read in
+        answers-by lent (shaped-as h w .same)
         (by-number e ∙ ap (λ (x : Answer). saidBy (x .number) (x .count)) b)
         (ap (λ (x : Answer). x .output) b)
         tt

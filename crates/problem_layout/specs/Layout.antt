@@ -4,67 +4,62 @@ use Prim.Native.String.{String}
 use mathlib.Core.List.{List, [], _∷_}
 use mathlib.Core.Bool.{Bool, true, false}
 use lib.Dec.{leb}
-use lib.ListN.{length, take, drop, getD}
-use Rattle.lists.specs.Build.{tabulate}
+use lib.ListN.{length, getD}
 use Rattle.lists.specs.Bytes.{bytes}
-use Rattle.echo_spec.specs.Input.{Problem, word32}
-use Rattle.echo_checks.specs.Given.{problemOf}
+use Rattle.echo_spec.specs.Input.{Problem}
+use Rattle.lent.specs.Lent.{problemOf}
+use Rattle.input_parts.specs.Parts.{sizeOf, word64, bytesAt, numbersAt}
 
 -- ---------------------------------------------------------------- the inputs
 
--- what is fixed of an input: its name, the bytes of one element, and the largest count
+-- what is fixed of an input beside the size of an element: its name and the largest count
 pub record Input : Type 0 where
   pub name : List ℕ
-  pub size : ℕ
   pub limit : ℕ
 
-abbrev pub input : String → ℕ → ℕ → Input
-input name size limit = record { name = bytes name; size = size; limit = limit }
+abbrev pub input : String → ℕ → Input
+input name limit = record { name = bytes name; limit = limit }
 
 unfoldable pub inputs : List Input
 inputs =
-    input "nodes" 1 34816
-    ∷ input "bits" 1 131072
-    ∷ input "side" 8 8192
-    ∷ input "roots" 8 256
-    ∷ input "names" 1 16384
-    ∷ input "name_start" 8 512
-    ∷ input "name_len" 8 512
-    ∷ input "var_node" 8 512
-    ∷ input "var_width" 8 512
-    ∷ input "anames" 1 16384
-    ∷ input "aname_start" 8 512
-    ∷ input "aname_len" 8 512
-    ∷ input "fnames" 1 16384
-    ∷ input "fname_start" 8 512
-    ∷ input "fname_len" 8 512
-    ∷ input "func_width" 8 512
+    input "nodes" 34816
+    ∷ input "bits" 131072
+    ∷ input "side" 8192
+    ∷ input "roots" 256
+    ∷ input "names" 16384
+    ∷ input "name_start" 512
+    ∷ input "name_len" 512
+    ∷ input "var_node" 512
+    ∷ input "var_width" 512
+    ∷ input "anames" 16384
+    ∷ input "aname_start" 512
+    ∷ input "aname_len" 512
+    ∷ input "fnames" 16384
+    ∷ input "fname_start" 512
+    ∷ input "fname_len" 512
+    ∷ input "func_width" 512
     ∷ []
 
 -- input k, counted from 0
 unfoldable pub inputAt : ℕ → Input
-inputAt k = getD inputs k (input "" 1 0)
+inputAt k = getD inputs k (input "" 0)
 
 -- ---------------------------------------------------------------- where they stand
-
--- 64 bits from place i on, least significant byte first
-unfoldable pub word64 : List ℕ → ℕ → ℕ
-word64 s i = word32 s i + 4294967296 * word32 s (i + 4)
 
 -- where input k begins, with its count: behind the elements of the one before it
 unfoldable pub placeOf : List ℕ → ℕ → ℕ
 placeOf s zero = 0
-placeOf s (suc k) = placeOf s k + 8 + inputAt k .size * word64 s (placeOf s k)
+placeOf s (suc k) = placeOf s k + 8 + sizeOf k * word64 s (placeOf s k)
 
 abbrev pub countOf : List ℕ → ℕ → ℕ
 countOf s k = word64 s (placeOf s k)
 
 -- the elements of input k, where they are bytes and where they are numbers
 unfoldable pub bytesOf : List ℕ → ℕ → List ℕ
-bytesOf s k = take (countOf s k) (drop (placeOf s k + 8) s)
+bytesOf s k = bytesAt s (placeOf s k + 8) (countOf s k)
 
 unfoldable pub numbersOf : List ℕ → ℕ → List ℕ
-numbersOf s k = tabulate (countOf s k) (λ i. word64 s (placeOf s k + 8 + 8 * i))
+numbersOf s k = numbersAt s (placeOf s k + 8) (countOf s k)
 
 unfoldable pub problemIn : List ℕ → Problem
 problemIn s =

@@ -12,7 +12,7 @@ use lib.Dec.{T, leb, leb→le}
 use lib.ListN.{length, take, drop, getD, length-take}
 use lib.Seq.{take-all, length-take-le, getD-take}
 use Rattle.lists.specs.Tests.{every-at}
-use Rattle.lists.specs.Build.{tabulate, length-tabulate}
+use Rattle.lists.specs.Build.{length-tabulate}
 use Rattle.echo_spec.specs.Input.{Problem, nodesWithin, columnWithin, arenaWithin, withinLimits, word32}
 use Rattle.problem_layout.specs.Layout.{
   early,
@@ -21,7 +21,6 @@ use Rattle.problem_layout.specs.Layout.{
   given,
   inputs,
   inputAt,
-  word64,
   placeOf,
   countOf,
   bytesOf,
@@ -30,6 +29,7 @@ use Rattle.problem_layout.specs.Layout.{
   inputsFrom,
   layout,
 }
+use Rattle.input_parts.specs.Parts.{sizes, sizeOf, word64, numbersAt}
 use Rattle.problem_layout.specs.Reading.{Fits}
 
 -- ---------------------------------------------------------------- what the definition says of one input
@@ -51,7 +51,7 @@ module _ (s : List ℕ) (k n : ℕ) where
   unfolding inputsFrom
   one-input a b c = simp (le-leb _ _ a, le-leb _ _ b, le-leb _ _ c)
 
-pub next-place : (s : List ℕ) (k : ℕ) → placeOf s (suc k) ≡ placeOf s k + 8 + inputAt k .size * word64 s (placeOf s k)
+pub next-place : (s : List ℕ) (k : ℕ) → placeOf s (suc k) ≡ placeOf s k + 8 + sizeOf k * word64 s (placeOf s k)
 unfolding placeOf
 next-place s k = refl
 
@@ -60,20 +60,20 @@ next-place s k = refl
 -- the bytes of the inputs before k, if each is as long as it may be
 unfoldable pub longest : ℕ → ℕ
 longest zero = 0
-longest (suc k) = longest k + 8 + inputAt k .size * inputAt k .limit
+longest (suc k) = longest k + 8 + sizeOf k * inputAt k .limit
 
 pub longest-problem : longest 16 ≡ 319616
-unfolding inputs inputAt longest
+unfolding inputs inputAt sizes sizeOf longest
 longest-problem = refl
 
 longest-tested : (k : ℕ) → k ≤ 16 → T (leb (longest k) 319616)
-unfolding inputs inputAt longest
+unfolding inputs inputAt sizes sizeOf longest
 longest-tested k h = every-at (λ j. leb (longest j) 319616) 0 17 tt k (omega arith) (omega arith)
 
 longest-bound : (k : ℕ) → k ≤ 16 → longest k ≤ 319616
 longest-bound k h = leb→le (longest k) 319616 (longest-tested k h)
 
-next-longest : (k : ℕ) → longest (suc k) ≡ longest k + 8 + inputAt k .size * inputAt k .limit
+next-longest : (k : ℕ) → longest (suc k) ≡ longest k + 8 + sizeOf k * inputAt k .limit
 unfolding longest
 next-longest k = refl
 
@@ -125,8 +125,8 @@ module _ (s : List ℕ) (n : ℕ) (large : 319616 < n) (long : n < length s) whe
           over-limit (take n s) k m (omega (arith, room, p, front-length)) (omega (arith, count-same))
           ∙ sym (over-limit s k m (omega (arith, room)) (omega arith))
       go (yes h) rest =
-          let q : placeOf (take n s) (suc k) ≡ placeOf s (suc k) = next-place (take n s) k ∙ (λ i. p i + 8 + inputAt k .size * count-same i) ∙ sym (next-place s k) in
-          let l : placeOf s (suc k) ≤ longest (suc k) = omega (arith, next-place s k, next-longest k, mul-le-mul-left (inputAt k .size) h) in
+          let q : placeOf (take n s) (suc k) ≡ placeOf s (suc k) = next-place (take n s) k ∙ (λ i. p i + 8 + sizeOf k * count-same i) ∙ sym (next-place s k) in
+          let l : placeOf s (suc k) ≤ longest (suc k) = omega (arith, next-place s k, next-longest k, mul-le-mul-left (sizeOf k) h) in
           one-input (take n s) k m (omega (arith, room, p, front-length)) (omega (arith, count-same)) (omega (arith, q, l, below, front-length))
           ∙ rest q l
           ∙ sym (one-input s k m (omega (arith, room)) h (omega (arith, l, below)))
@@ -193,7 +193,7 @@ module _ (s : List ℕ) (fits : (j : ℕ) → 0 ≤ j → j < 16 → Fits s j) w
   numbers-within : (k : ℕ) → k < 16 → {most : ℕ} → inputAt k .limit ≡ most → leb (length (numbersOf s k)) most ≡ true
   unfolding numbersOf
   numbers-within k l {most} e =
-      le-leb (length (tabulate (countOf s k) (λ i. word64 s (placeOf s k + 8 + 8 * i)))) most
+      le-leb (length (numbersAt s (placeOf s k + 8) (countOf s k))) most
       (omega (arith, length-tabulate (countOf s k) (λ i. word64 s (placeOf s k + 8 + 8 * i)), fits k (omega arith) l .counted))
 
   all-within : withinLimits (problemIn s) ≡ true

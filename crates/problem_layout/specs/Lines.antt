@@ -3,8 +3,8 @@ use Prim.Native.Nat.{ℕ, _+_}
 use mathlib.Core.List.{List, _++_}
 use Rattle.lists.specs.Bytes.{bytes}
 use Rattle.echo_spec.specs.Render.{decimal}
-use Rattle.echo_kernel.specs.declared.EchoError.{EchoError}
-use Rattle.echo_kernel.specs.declared.EchoError.the-variants.{Malformed, Name, Sort, Var, Rotate, Shared, Signature, Encoding, Limit, Room}
+use Rattle.refusals.specs.declared.EchoError.{EchoError}
+use Rattle.refusals.specs.declared.EchoError.the-variants.{Malformed, Name, Sort, Var, Rotate, Shared, Signature, Encoding, Limit, Room}
 use Rattle.problem_layout.specs.Layout.{inputAt}
 
 unfoldable pub refusedLine : EchoError → List ℕ

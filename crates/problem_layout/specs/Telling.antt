@@ -4,8 +4,7 @@ use mathlib.Core.Path.{_≡_}
 use mathlib.Core.List.{List, [], _∷_, _++_}
 use lib.ListN.{length, take, drop, getD}
 use Rattle.echo_spec.specs.Answers.{echo-ext-answer}
-use Rattle.echo_kernel.specs.declared.EchoError.{EchoError}
-use Rattle.echo_kernel.specs.declared.EchoError.the-variants.{Malformed, Name, Sort, Var, Rotate, Shared, Signature, Encoding, Limit, Room}
+use Rattle.refusals.specs.Numbers.{errorOf}
 use Rattle.problem_layout.specs.declared.Said.{Said}
 use Rattle.problem_layout.specs.declared.Said.the-variants.{Script, Refused, Early, TooLarge, LeftOver}
 use Rattle.problem_layout.specs.declared.Told.{Told}
@@ -13,10 +12,6 @@ use Rattle.problem_layout.specs.Layout.{Layout, early, tooLarge, leftOve
 use Rattle.problem_layout.specs.Lines.{refusedLine, earlyLine, tooLargeLine, leftOverLine}
 
 -- ---------------------------------------------------------------- what is said
-
--- the refusal with this number, from 1 to 10
-abbrev pub errorOf : ℕ → EchoError
-errorOf n = getD (Malformed ∷ Name ∷ Sort ∷ Var ∷ Rotate ∷ Shared ∷ Signature ∷ Encoding ∷ Limit ∷ Room ∷ []) (n - 1) Room
 
 -- by the printer's number and length
 abbrev pub saidBy : ℕ → ℕ → Said

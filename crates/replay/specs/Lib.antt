@@ -1,2 +1,5 @@
-pub mod Layout
-pub mod Bounds
+pub mod Unpacking
+pub mod Stepping
+pub mod Opening
+pub mod Opened
+pub mod Judging

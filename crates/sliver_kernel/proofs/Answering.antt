@@ -7,7 +7,7 @@ use native.Mathlib.Omega.{arith}
 use borrow.Author.Tests.{eq-eqb, ne-eqb, le-leb, lt-leb}
 use lib.ListN.{length, take}
 use Rattle.echo_spec.specs.Input.{nodesOf, nodesWithin, encoded}
-use Rattle.echo_spec.specs.Answers.{written, zeroed, widthRefusal, widthAnswer, ext-wf-answer}
+use Rattle.echo_spec.specs.Answers.{atFront, zeroed, widthRefusal, widthAnswer, ext-wf-answer}
 use Rattle.sliver_kernel.specs.declared.Outcome.the-variants.{Accepted, Refused, Encoding, Limit, Room}
 use Rattle.sliver_kernel.specs.Outcomes.{answered}
 use Rattle.sliver_kernel.specs.Pass.{Passed, ext-wf-short}
@@ -44,7 +44,7 @@ module _ {nodes bits side : List ℕ} (h : Ready nodes bits side) (lent : List �
     no-room m z =
         rw (h .within, h .well, ← p .count, eq-eqb n (length (nodesOf nodes)) all-formed, lt-leb n (length lent) m, z) refl
 
-    pub accepted : {out : List ℕ} → n ≤ length lent → out ≡ written (take n ws) lent
+    pub accepted : {out : List ℕ} → n ≤ length lent → out ≡ atFront (take n ws) lent
         → answered (Accepted n) out ≡ ext-wf-answer nodes bits side lent
     unfolding ext-wf-answer widthRefusal widthAnswer
     accepted m z =

@@ -9,7 +9,7 @@ use native.Mathlib.Numerals.{add-one}
 use lib.Dec.{lit<}
 use lib.ListN.{length, drop, getD, length-drop, drop-of-length-le}
 use lib.Seq.{drop-cons, drop-drop}
-use Rattle.lists.specs.Tests.{true→T}
+use Rattle.lists.specs.Tests.{true→T, and-true}
 use Rattle.echo_spec.specs.Widths.{earlier, earlierOf, chain-wf, args-wf}
 
 -- f tests so many groups of `step` entries, each by itself
@@ -62,10 +62,6 @@ one-fails : (a b d : Bool) → (a && (b && true)) ≡ false → (a && (b && d)) 
 one-fails true true d h = absurd (true→T (sym h))
 one-fails true false d h = refl
 one-fails false b d h = refl
-
-and-true : (a : Bool) → (a && true) ≡ a
-and-true true = refl
-and-true false = refl
 
 module _ (index value : ℕ) (ws : List ℕ) where
   chain-more : (k : ℕ) (l : List ℕ) → chain-wf index value ws 1 l ≡ true

@@ -2,17 +2,19 @@
 // of 64 bits, and one is a node only if it is below the count. Under "Ruled out" stand wrong programs that a public function's
 // contract refuses.
 use blast_kernel::CALL;
-use blast_kernel::Node;
 use blast_kernel::SELECT;
+use lent::Node;
+use lent::clear_numbers;
+use refusals::MAX_NODES;
 ghost use mathlib.Core.Path.{_≡_};
 ghost use mathlib.Core.Bool.{_&&_};
 ghost use Prim.Native.Nat.{_≤_};
 ghost use lib.Dec.{ltb};
 ghost use lib.ListN.{length, drop};
-ghost use Rattle.echo_spec.specs.Input.{nodesOf};
+ghost use Rattle.echo_spec.specs.Input.{nodesOf, fits64};
 ghost use Rattle.echo_spec.specs.Widths as widths;
-ghost use Rattle.echo_spec.specs.Answers.{written, zeroed, ext-wf-answer};
-ghost use Rattle.blast_kernel.specs.Records.{nodeOf};
+ghost use Rattle.echo_spec.specs.Answers.{atFront, zeroed, ext-wf-answer};
+ghost use Rattle.lent.specs.Records.{nodeOf};
 ghost use Rattle.sliver_kernel.specs.Pass.{ExtFormed, Passed};
 ghost use Rattle.sliver_kernel.specs.Outcomes.{answered};
 
@@ -99,9 +101,9 @@ fn select_wf(ws: &[u64], side: &[u64], array: u64, i: u64, s: u64, n: u64) -> bo
 
 // Width, side start and number of arguments.
 fn call_wf(ws: &[u64], side: &[u64], w: u64, s: u64, n: u64) -> bool
-    ensures { λ r. ⌜ r ≡ (ltb 0 w && widths.args-wf (now (ws .entry)) n (drop s (now (side .entry)))) ⌝ }
+    ensures { λ r. ⌜ r ≡ (ltb 0 w && (fits64 w && widths.args-wf (now (ws .entry)) n (drop s (now (side .entry))))) ⌝ }
 {
-    w > 0 && args_wf(ws, side, s, n)
+    kernel::has_width(w) && args_wf(ws, side, s, n)
 }
 
 // Is the node well formed after nodes of the widths `ws`. (The Rust's, but that a kind stands for the case of
@@ -135,10 +137,10 @@ fn fill(nodes: &[u8], nbits: usize, side: &[u64], ws: &mut [u64]) -> usize
     requires { ⌜ length (nodesOf (now nodes)) ≤ length (now ws) ⌝ }
     ensures { λ r. ⌜ Passed nbits (now (side .entry)) (nodesOf (now (nodes .entry))) r (now (ws .exit)) ⌝ }
 {
-    let n = blast_kernel::node_count(nodes);
+    let n = lent::node_count(nodes);
     let mut i = 0;
     while i < n {
-        let node = blast_kernel::node_at(nodes, i);
+        let node = lent::node_at(nodes, i);
         if !ext_node_wf(&ws[..i], nbits, side, node) {
             return i;
         }
@@ -152,7 +154,7 @@ fn fill(nodes: &[u8], nbits: usize, side: &[u64], ws: &mut [u64]) -> usize
 // The pass over a table that has room for every node: how many nodes come before the first that is not well formed, and their widths.
 // (The Rust's `ext_wf` without its `Result`; the printer calls it too.) Ruled out: the node count where a node is refused; a table
 // that is all 0.
-pub fn widths(nodes: &[u8], nbits: usize, side: &[u64], ws: &mut [u64; 2048]) -> usize
+pub fn widths(nodes: &[u8], nbits: usize, side: &[u64], ws: &mut [u64; MAX_NODES]) -> usize
     requires { ⌜ length (now nodes) ≤ 34816 ⌝ }
     ensures { λ r. ⌜ Passed nbits (now (side .entry)) (nodesOf (now (nodes .entry))) r (now (ws .exit)) ⌝ }
 {
@@ -162,22 +164,11 @@ pub fn widths(nodes: &[u8], nbits: usize, side: &[u64], ws: &mut [u64; 2048]) ->
 // The widths to the front of what was lent.
 fn copy(ws: &[u64], out: &mut [u64])
     requires { ⌜ length (now ws) ≤ length (now out) ⌝ }
-    ensures { λ _. ⌜ now (out .exit) ≡ written (now (ws .entry)) (now (out .entry)) ⌝ }
+    ensures { λ _. ⌜ now (out .exit) ≡ atFront (now (ws .entry)) (now (out .entry)) ⌝ }
 {
     let mut i = 0;
     while i < ws.len() {
         out[i] = ws[i];
-        i += 1;
-    }
-}
-
-// All of what was lent becomes 0.
-fn clear(out: &mut [u64])
-    ensures { λ _. ⌜ now (out .exit) ≡ zeroed (now (out .entry)) ⌝ }
-{
-    let mut i = 0;
-    while i < out.len() {
-        out[i] = 0;
         i += 1;
     }
 }
@@ -203,21 +194,21 @@ pub fn ext_wf(nodes: &[u8], bits: &[u8], side: &[u64], out: &mut [u64]) -> Outco
         ≡ ext-wf-answer (now (nodes .entry)) (now (bits .entry)) (now (side .entry)) (now (out .entry)) ⌝ }
 {
     if !blast_kernel::nodes_within(nodes, bits, side) {
-        clear(out);
+        clear_numbers(out);
         return Outcome::Limit;
     }
     if !blast_kernel::encoded(nodes, bits) {
-        clear(out);
+        clear_numbers(out);
         return Outcome::Encoding;
     }
-    let mut ws = [0u64; 2048];
+    let mut ws = [0u64; MAX_NODES];
     let n = widths(nodes, bits.len(), side, &mut ws);
-    if n < blast_kernel::node_count(nodes) {
-        clear(out);
+    if n < lent::node_count(nodes) {
+        clear_numbers(out);
         return Outcome::Refused(n);
     }
     if n > out.len() {
-        clear(out);
+        clear_numbers(out);
         return Outcome::Room;
     }
     copy(&ws[..n], out);

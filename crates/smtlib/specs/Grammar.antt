@@ -1,9 +1,10 @@
--- The grammar of SMT-LIB 2.6 (sections 3.5 to 3.9), as far as document 01's grammar of readings uses it: sorts, operators,
--- terms, declarations and scripts, each with the tokens that it is written with. Definitions only.
+-- The grammar of SMT-LIB 2.6 (identifiers in section 3.3, sorts in 3.5, terms in 3.6, scripts in 3.9), as far as document 01's
+-- grammar of readings uses it: sorts, operators, terms, declarations and scripts, each with the tokens that it is written with.
+-- Definitions only.
 use Prim.Native.Nat.{ℕ}
 use mathlib.Core.List.{List, [], _∷_, _++_}
 use Rattle.lists.specs.Bytes.{bytes}
-use Rattle.smtlib.specs.Lexicon.{Token, open⁽, close⁾, underscore, numeral, binary, symbol}
+use Rattle.smtlib.specs.Lexicon.{Token, open⁽, close⁾, reserved, numeral, binary, symbol}
 
 -- ---------------------------------------------------------------- sorts
 
@@ -13,7 +14,7 @@ pub data Sort : Type 0 where
   array : Sort → Sort → Sort
 
 unfoldable pub sortTokens : Sort → List Token
-sortTokens (bitVec n) = open⁽ ∷ underscore ∷ symbol (bytes "BitVec") ∷ numeral n ∷ close⁾ ∷ []
+sortTokens (bitVec n) = open⁽ ∷ reserved (bytes "_") ∷ symbol (bytes "BitVec") ∷ numeral n ∷ close⁾ ∷ []
 sortTokens (array s t) = open⁽ ∷ symbol (bytes "Array") ∷ (sortTokens s ++ (sortTokens t ++ (close⁾ ∷ [])))
 
 unfoldable pub sortsTokens : List Sort → List Token
@@ -33,14 +34,16 @@ numeralsTokens (k ∷ ks) = numeral k ∷ numeralsTokens ks
 
 unfoldable pub operatorTokens : Operator → List Token
 operatorTokens (plain n) = symbol n ∷ []
-operatorTokens (indexed n k ks) = open⁽ ∷ underscore ∷ symbol n ∷ numeral k ∷ (numeralsTokens ks ++ (close⁾ ∷ []))
+operatorTokens (indexed n k ks) = open⁽ ∷ reserved (bytes "_") ∷ symbol n ∷ numeral k ∷ (numeralsTokens ks ++ (close⁾ ∷ []))
 
--- a `#b` constant, a symbol, or (operator term ..) with one term or more
+-- a `#b` constant, a symbol, (operator term ..) with one term or more, or (let ((symbol term)) term)
 mutual
   pub data Term : Type 0 where
     literal : List ℕ → Term
     identifier : List ℕ → Term
     application : Operator → Term → Terms → Term
+    -- the name, what it is bound to, the body
+    binding : List ℕ → Term → Term → Term
 
   pub data Terms : Type 0 where
     none : Terms
@@ -51,6 +54,8 @@ unfoldable mutual
   termTokens (literal ds) = binary ds ∷ []
   termTokens (identifier n) = symbol n ∷ []
   termTokens (application o t ts) = open⁽ ∷ (operatorTokens o ++ (termTokens t ++ (termsTokens ts ++ (close⁾ ∷ []))))
+  termTokens (binding n t b) =
+      open⁽ ∷ reserved (bytes "let") ∷ open⁽ ∷ open⁽ ∷ symbol n ∷ (termTokens t ++ (close⁾ ∷ close⁾ ∷ (termTokens b ++ (close⁾ ∷ []))))
 
   pub termsTokens : Terms → List Token
   termsTokens none = []
@@ -64,9 +69,9 @@ pub data Declaration : Type 0 where
   declareFun : List ℕ → List Sort → Sort → Declaration
 
 unfoldable pub declarationTokens : Declaration → List Token
-declarationTokens (declareConst n s) = open⁽ ∷ symbol (bytes "declare-const") ∷ symbol n ∷ (sortTokens s ++ (close⁾ ∷ []))
+declarationTokens (declareConst n s) = open⁽ ∷ reserved (bytes "declare-const") ∷ symbol n ∷ (sortTokens s ++ (close⁾ ∷ []))
 declarationTokens (declareFun n ss s) =
-    open⁽ ∷ symbol (bytes "declare-fun") ∷ symbol n ∷ open⁽ ∷ (sortsTokens ss ++ (close⁾ ∷ (sortTokens s ++ (close⁾ ∷ []))))
+    open⁽ ∷ reserved (bytes "declare-fun") ∷ symbol n ∷ open⁽ ∷ (sortsTokens ss ++ (close⁾ ∷ (sortTokens s ++ (close⁾ ∷ []))))
 
 unfoldable pub declarationsTokens : List Declaration → List Token
 declarationsTokens [] = []
@@ -75,7 +80,7 @@ declarationsTokens (d ∷ ds) = declarationTokens d ++ declarationsTokens ds
 -- (assert term), one for each term
 unfoldable pub assertionsTokens : Terms → List Token
 assertionsTokens none = []
-assertionsTokens (more t ts) = open⁽ ∷ symbol (bytes "assert") ∷ (termTokens t ++ (close⁾ ∷ assertionsTokens ts))
+assertionsTokens (more t ts) = open⁽ ∷ reserved (bytes "assert") ∷ (termTokens t ++ (close⁾ ∷ assertionsTokens ts))
 
 -- ---------------------------------------------------------------- scripts
 
@@ -87,5 +92,5 @@ pub record Script : Type 0 where
 
 unfoldable pub scriptTokens : Script → List Token
 scriptTokens s =
-    open⁽ ∷ symbol (bytes "set-logic") ∷ symbol (s .logic) ∷ close⁾
-    ∷ (declarationsTokens (s .declarations) ++ (assertionsTokens (s .assertions) ++ (open⁽ ∷ symbol (bytes "check-sat") ∷ close⁾ ∷ [])))
+    open⁽ ∷ reserved (bytes "set-logic") ∷ symbol (s .logic) ∷ close⁾
+    ∷ (declarationsTokens (s .declarations) ++ (assertionsTokens (s .assertions) ++ (open⁽ ∷ reserved (bytes "check-sat") ∷ close⁾ ∷ [])))

@@ -5,7 +5,7 @@ use mathlib.Core.List.{List, [], _∷_, _++_, append-assoc}
 use lib.ListN.{drop}
 use native.Mathlib.Omega.{arith}
 use Rattle.lists.specs.Bytes.{bytes}
-use Rattle.smtlib.specs.Lexicon.{Token, open⁽, close⁾, symbol}
+use Rattle.smtlib.specs.Lexicon.{Token, open⁽, close⁾, reserved}
 use Rattle.smtlib.specs.Grammar.{
   Sort,
   bitVec,
@@ -21,6 +21,7 @@ use Rattle.smtlib.specs.Grammar.{
   literal,
   identifier,
   application,
+  binding,
   Terms,
   none,
   more,
@@ -96,11 +97,18 @@ unfolding termTokens
 term-no-close (literal ds) r x e = let z : _≡_ {A = ℕ} 0 1 = cc in omega arith
 term-no-close (identifier n) r x e = let z : _≡_ {A = ℕ} 0 1 = cc in omega arith
 term-no-close (application o t ts) r x e = let z : _≡_ {A = ℕ} 0 1 = cc in omega arith
+term-no-close (binding n t b) r x e = let z : _≡_ {A = ℕ} 0 1 = cc in omega arith
+
+-- an operator begins with a symbol or a parenthesis, not with a reserved word
+operator-no-word : (w : List ℕ) (o : Operator) (r x : List Token) → operatorTokens o ++ r ≡ reserved w ∷ x → ⊥
+unfolding operatorTokens
+operator-no-word w (plain n) r x e = let z : _≡_ {A = ℕ} 0 1 = cc in omega arith
+operator-no-word w (indexed n k ks) r x e = let z : _≡_ {A = ℕ} 0 1 = cc in omega arith
 
 mutual
   unfolding termTokens
 
-  term-unique : (t t′ : Term) (r r′ : List Token) → termTokens t ++ r ≡ termTokens t′ ++ r′ → (t ≡ t′) × (r ≡ r′)
+  pub term-unique : (t t′ : Term) (r r′ : List Token) → termTokens t ++ r ≡ termTokens t′ ++ r′ → (t ≡ t′) × (r ≡ r′)
   term-unique (literal ds) (literal ds′) r r′ e = (cc, cc)
   term-unique (literal ds) (identifier n′) r r′ e = (cc, cc)
   term-unique (literal ds) (application o′ t′ ts′) r r′ e = (cc, cc)
@@ -118,6 +126,22 @@ mutual
       let same-t = g .0 in
       let same-ts = h .0 in
       (cc, h .1)
+  term-unique (literal ds) (binding n′ t′ b′) r r′ e = (cc, cc)
+  term-unique (identifier n) (binding n′ t′ b′) r r′ e = (cc, cc)
+  term-unique (binding n t b) (literal ds′) r r′ e = (cc, cc)
+  term-unique (binding n t b) (identifier n′) r r′ e = (cc, cc)
+  term-unique (application o t ts) (binding n′ t′ b′) r r′ e =
+      absurd (operator-no-word _ o _ _ (simp append-assoc at (ap (drop 1) e)))
+  term-unique (binding n t b) (application o′ t′ ts′) r r′ e =
+      absurd (operator-no-word _ o′ _ _ (sym (simp append-assoc at (ap (drop 1) e))))
+  term-unique (binding n t b) (binding n′ t′ b′) r r′ e =
+      let f = term-unique t t′ (close⁾ ∷ close⁾ ∷ (termTokens b ++ (close⁾ ∷ r))) (close⁾ ∷ close⁾ ∷ (termTokens b′ ++ (close⁾ ∷ r′)))
+      (simp append-assoc at (ap (drop 5) e)) in
+      let g = term-unique b b′ (close⁾ ∷ r) (close⁾ ∷ r′) (ap (drop 2) (f .1)) in
+      let same-t = f .0 in
+      let same-b = g .0 in
+      let same-r = g .1 in
+      (cc, cc)
 
   terms-unique : (ts ts′ : Terms) (r r′ : List Token) → termsTokens ts ++ (close⁾ ∷ r) ≡ termsTokens ts′ ++ (close⁾ ∷ r′) → (ts ≡ ts′) × (r ≡ r′)
   terms-unique none none r r′ e = (refl, cc)
@@ -151,7 +175,7 @@ declaration-unique (declareFun n ss s) (declareFun n′ ss′ s′) r r′ e =
 
 -- the tokens behind the declarations
 end : Terms → List Token
-end ts = assertionsTokens ts ++ (open⁽ ∷ symbol (bytes "check-sat") ∷ close⁾ ∷ [])
+end ts = assertionsTokens ts ++ (open⁽ ∷ reserved (bytes "check-sat") ∷ close⁾ ∷ [])
 
 end-unique : (ts ts′ : Terms) → end ts ≡ end ts′ → ts ≡ ts′
 unfolding end assertionsTokens bytes

@@ -7,7 +7,7 @@ use mathlib.Core.Logic.{inl, inr}
 use lib.Dec.{T, eqb, T-not}
 use lib.ListN.{drop}
 use Rattle.lists.specs.Bytes.{bytes}
-use Rattle.lists.specs.Tests.{All, every, same, and-T, and-0, and-1, or-r, not→false, by-test, apart-by, same-refl, all-right}
+use Rattle.lists.specs.Tests.{All, every, same, inList, and-T, and-0, and-1, or-r, not→false, by-test, apart-by, all-right}
 use Rattle.smtlib.specs.Lexicon.{
   blank,
   lineBreak,
@@ -22,13 +22,14 @@ use Rattle.smtlib.specs.Lexicon.{
   Token,
   open⁽,
   close⁾,
-  underscore,
+  reserved,
   numeral,
   binary,
   symbol,
   Begins,
   valueFrom,
   Numeral,
+  reservedWords,
   Simple,
   Binary,
   Spells,
@@ -114,9 +115,16 @@ pub put-close : (r : List ℕ) (us : List Token) → Lex r us → Next (41 ∷ r
 unfolding bytes
 put-close r us l = lex-next (41 ∷ r) (close⁾ ∷ us) tt (put-token close⁾ (41 ∷ []) r us refl (λ q. absurd q) l)
 
-pub put-underscore : (r : List ℕ) (us : List Token) → Next r us → Lex (95 ∷ r) (underscore ∷ us)
-unfolding bytes
-put-underscore r us k = put-word underscore (95 ∷ []) r us refl k
+pub put-reserved : (w r : List ℕ) (us : List Token) → T (inList w reservedWords) → Next r us → Lex (w ++ r) (reserved w ∷ us)
+put-reserved w r us h k = put-word (reserved w) w r us (h, refl) k
+
+pub put-underscore : (r : List ℕ) (us : List Token) → Next r us → Lex (95 ∷ r) (reserved (bytes "_") ∷ us)
+unfolding reservedWords bytes same
+put-underscore r us k = put-reserved (bytes "_") r us tt k
+
+pub put-let : (r : List ℕ) (us : List Token) → Next r us → Lex (bytes "let" ++ r) (reserved (bytes "let") ∷ us)
+unfolding reservedWords bytes same
+put-let r us k = put-reserved (bytes "let") r us tt k
 
 pub put-numeral : (n : ℕ) (s r : List ℕ) (us : List Token) → Numeral n s → Next r us → Lex (s ++ r) (numeral n ∷ us)
 put-numeral n s r us h k = put-word (numeral n) s r us h k
@@ -132,20 +140,20 @@ put-quoted n r us h k = put-word (symbol n) (124 ∷ (n ++ (124 ∷ []))) r us (
 -- ---------------------------------------------------------------- a simple symbol that is written out
 
 unfoldable pub simple-test : List ℕ → Bool
-unfolding bytes same
+unfolding reservedWords bytes same
 simple-test [] = false
-simple-test (c ∷ s) = not (digit c) && (every symbolByte (c ∷ s) && not (same (c ∷ s) (bytes "_")))
+simple-test (c ∷ s) = not (digit c) && (every symbolByte (c ∷ s) && not (inList (c ∷ s) reservedWords))
 
 pub simple-by-test : (s : List ℕ) → T (simple-test s) → Simple s
 unfolding simple-test
 simple-by-test [] h = absurd h
 simple-by-test (c ∷ s) h =
-    let alone : Bool = same (c ∷ s) (bytes "_") in
-    let k : T (every symbolByte (c ∷ s) && not alone) = and-1 (not (digit c)) _ h in
+    let taken : Bool = inList (c ∷ s) reservedWords in
+    let k : T (every symbolByte (c ∷ s) && not taken) = and-1 (not (digit c)) _ h in
     record {
       first = and-0 (not (digit c)) _ h;
-      bytesOk = by-test symbolByte (c ∷ s) (and-0 (every symbolByte (c ∷ s)) (not alone) k);
-      apart = λ e. T-not alone (and-1 (every symbolByte (c ∷ s)) (not alone) k) (subst (λ (z : List ℕ). T (same (c ∷ s) z)) e (same-refl (c ∷ s)));
+      bytesOk = by-test symbolByte (c ∷ s) (and-0 (every symbolByte (c ∷ s)) (not taken) k);
+      apart = and-1 (every symbolByte (c ∷ s)) (not taken) k;
     }
 
 pub put-simple : (w r : List ℕ) (us : List Token) → T (simple-test w) → Next r us → Lex (w ++ r) (symbol w ∷ us)
@@ -169,7 +177,7 @@ unfolding bytes
 zero-one = record { first = tt; digits = by-test binaryDigit (bytes "01") tt }
 
 every-kind : Exactly (bytes "(_ a |b c| #b01 12)")
-    (open⁽ ∷ underscore ∷ symbol (bytes "a") ∷ symbol (bytes "b c") ∷ binary (bytes "01") ∷ numeral 12 ∷ close⁾ ∷ [])
+    (open⁽ ∷ reserved (bytes "_") ∷ symbol (bytes "a") ∷ symbol (bytes "b c") ∷ binary (bytes "01") ∷ numeral 12 ∷ close⁾ ∷ [])
 unfolding bytes simple-test
 every-kind =
     let from-close = put-close _ _ (put-end .0) in
@@ -204,11 +212,17 @@ bars-or-none =
     (exactly _ _ quoted, exactly _ _ (put-simple (bytes "a") _ _ tt put-end))
 
 -- but these are two
-underscore-in-bars : Exactly (bytes "|_|") (symbol (bytes "_") ∷ []) × Exactly (bytes "_") (underscore ∷ [])
+underscore-in-bars : Exactly (bytes "|_|") (symbol (bytes "_") ∷ []) × Exactly (bytes "_") (reserved (bytes "_") ∷ [])
 unfolding bytes
 underscore-in-bars =
     let quoted = put-quoted (bytes "_") _ _ (by-test quotable (bytes "_") tt) put-end in
     (exactly _ _ quoted, exactly _ _ (put-underscore _ _ put-end))
+
+let-in-bars : Exactly (bytes "|let|") (symbol (bytes "let") ∷ []) × Exactly (bytes "let") (reserved (bytes "let") ∷ [])
+unfolding bytes
+let-in-bars =
+    let quoted = put-quoted (bytes "let") _ _ (by-test quotable (bytes "let") tt) put-end in
+    (exactly _ _ quoted, exactly _ _ (put-let _ _ put-end))
 
 -- ---------------------------------------------------------------- examples of bytes that hold none
 
@@ -237,10 +251,10 @@ unfolding bytes
 no-leading-zero n h = h .leading
 
 no-binary-without-digits : (t : Token) → Spells t (bytes "#b") → ⊥
-unfolding bytes
+unfolding reservedWords bytes same
 no-binary-without-digits open⁽ h = subst (Begins (eqb 35)) h tt
 no-binary-without-digits close⁾ h = subst (Begins (eqb 35)) h tt
-no-binary-without-digits underscore h = subst (Begins (eqb 35)) h tt
+no-binary-without-digits (reserved w) h = rw (← h .1) at (h .0)
 no-binary-without-digits (numeral n) h = h .digits .0
 no-binary-without-digits (binary ds) h = subst (Begins binaryDigit) (sym (ap (drop 2) (h .1))) (h .0 .first)
 no-binary-without-digits (symbol n) (inl h) = subst (All symbolByte) (sym (h .1)) (h .0 .bytesOk) .0

@@ -6,7 +6,7 @@ use mathlib.Core.Bool.{Bool, true, false, _&&_, _||_, not}
 use mathlib.Core.Logic.{inl, inr}
 use lib.Dec.{T, eqb, T-not, not-T}
 use Rattle.lists.specs.Bytes.{bytes}
-use Rattle.lists.specs.Tests.{All, same, and-T, and-0, and-1, or-l, or-r, T→true, not→false, all-weaken, among-every, apart-by, same→eq}
+use Rattle.lists.specs.Tests.{All, inList, every, and-T, and-0, and-1, or-l, or-r, T→true, not→false, by-test, all-weaken, among-every, apart-by, every-in}
 use Rattle.smtlib.specs.Lexicon.{
   blank,
   lineBreak,
@@ -22,12 +22,13 @@ use Rattle.smtlib.specs.Lexicon.{
   Token,
   open⁽,
   close⁾,
-  underscore,
+  reserved,
   numeral,
   binary,
   symbol,
   Begins,
   valueFrom,
+  reservedWords,
   Simple,
   Spells,
   word,
@@ -109,7 +110,7 @@ tokenOf c n =
     elim (digit c) [
       | true ↦ numeral (valueFrom 0 (c ∷ n))
       | false ↦ elim (symbolByte c) [
-        | true ↦ elim (same (c ∷ n) (bytes "_")) [ true ↦ underscore | false ↦ symbol (c ∷ n) ]
+        | true ↦ elim (inList (c ∷ n) reservedWords) [ true ↦ reserved (c ∷ n) | false ↦ symbol (c ∷ n) ]
         | false ↦ elim (eqb c 35) [
           | true ↦ binary (tail n)
           | false ↦ elim (eqb c 124) [ true ↦ symbol n | false ↦ elim (eqb c 40) [ true ↦ open⁽ | false ↦ close⁾ ] ]
@@ -198,14 +199,33 @@ bare-read t c n r e h k =
       no-white = not-T (whiteFirst c) λ w. T-not (wordByte c) (whiteFirst-word c w) (h .0);
     }
 
+-- a word that does not begin with a digit is a reserved one or a symbol
 simple-read : (n r : List ℕ) → Simple n → Ends wordByte r → Read (symbol n) (n ++ r) r
 unfolding tokenOf bytes
 simple-read [] r h k = absurd (h .first)
 simple-read (c ∷ n) r h k =
-    let alone : Bool = same (c ∷ n) (bytes "_") in
-    let not-alone : alone ≡ false = not→false alone (not-T alone λ q. h .apart (same→eq (c ∷ n) (bytes "_") q)) in
-    let token : symbol (c ∷ n) ≡ tokenOf c n = rw (not→false (digit c) (h .first), tokenOf, T→true (symbolByte c) (h .bytesOk .0), not-alone) in
+    let free : inList (c ∷ n) reservedWords ≡ false = not→false (inList (c ∷ n) reservedWords) (h .apart) in
+    let token : symbol (c ∷ n) ≡ tokenOf c n = rw (not→false (digit c) (h .first), tokenOf, T→true (symbolByte c) (h .bytesOk .0), free) in
     bare-read (symbol (c ∷ n)) c n r token (all-weaken symbolByte wordByte symbolByte-word (c ∷ n) (h .bytesOk)) k
+
+-- spelled like a symbol without bars
+likeSymbol : List ℕ → Bool
+likeSymbol [] = false
+likeSymbol (c ∷ s) = not (digit c) && every symbolByte (c ∷ s)
+
+reserved-like-symbol : (w : List ℕ) → T (inList w reservedWords) → T (likeSymbol w)
+unfolding likeSymbol reservedWords bytes
+reserved-like-symbol w h = every-in likeSymbol reservedWords w tt h
+
+reserved-read : (w r : List ℕ) → T (inList w reservedWords) → Ends wordByte r → Read (reserved w) (w ++ r) r
+unfolding tokenOf likeSymbol bytes
+reserved-read [] r h k = absurd (reserved-like-symbol [] h)
+reserved-read (c ∷ w) r h k =
+    let like = reserved-like-symbol (c ∷ w) h in
+    let all : All symbolByte (c ∷ w) = by-test symbolByte (c ∷ w) (and-1 (not (digit c)) _ like) in
+    let no-digit = not→false (digit c) (and-0 (not (digit c)) _ like) in
+    let token : reserved (c ∷ w) ≡ tokenOf c w = rw (no-digit, tokenOf, T→true (symbolByte c) (all .0), T→true (inList (c ∷ w) reservedWords) h) in
+    bare-read (reserved (c ∷ w)) c w r token (all-weaken symbolByte wordByte symbolByte-word (c ∷ w) all) k
 
 quoted-read : (n r : List ℕ) → All quotable n → Read (symbol n) ((124 ∷ (n ++ (124 ∷ []))) ++ r) r
 unfolding inner behind tokenOf wordByte bytes
@@ -223,10 +243,10 @@ quoted-read n r h =
     }
 
 spelled-read : (t : Token) (s r : List ℕ) → Spells t s → (T (word t) → Ends wordByte r) → Read t (s ++ r) r
-unfolding bytes inner behind tokenOf wordByte same
+unfolding bytes inner behind tokenOf wordByte
 spelled-read open⁽ s r h k = rw h (single-read 40 r refl refl tt)
 spelled-read close⁾ s r h k = rw h (single-read 41 r refl refl tt)
-spelled-read underscore s r h k = rw h (bare-read underscore 95 [] r refl (tt, tt) (k tt))
+spelled-read (reserved w) s r h k = rw (h .1) (reserved-read w r (h .0) (k tt))
 spelled-read (numeral n) [] r h k = absurd (h .leading)
 spelled-read (numeral n) (c ∷ s) r h k =
     let token : numeral n ≡ tokenOf c s = rw (T→true (digit c) (h .digits .0), tokenOf, h .value) in
@@ -252,7 +272,7 @@ unfolding Lex wordByte bytes
 word-ends r [] l k = subst (Ends wordByte) (append-nil r) (white-ends r [] l tt)
 word-ends r (open⁽ ∷ ts) l k = rw (l .3, l .5) (white-ends (l .0) (40 ∷ l .2) (l .4) tt)
 word-ends r (close⁾ ∷ ts) l k = rw (l .3, l .5) (white-ends (l .0) (41 ∷ l .2) (l .4) tt)
-word-ends r (underscore ∷ ts) l k = begins-ends r (k tt)
+word-ends r (reserved w ∷ ts) l k = begins-ends r (k tt)
 word-ends r (numeral n ∷ ts) l k = begins-ends r (k tt)
 word-ends r (binary ds ∷ ts) l k = begins-ends r (k tt)
 word-ends r (symbol n ∷ ts) l k = begins-ends r (k tt)

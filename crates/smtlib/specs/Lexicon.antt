@@ -1,13 +1,13 @@
--- The lexicon of SMT-LIB 2.6 (section 3.1), as far as document 01's grammar of readings uses it: which bytes hold which
--- tokens. Definitions only.
-use Prim.Native.Nat.{ℕ, zero, suc, _+_, _-_, _*_}
+-- The lexicon of SMT-LIB 2.6 (section 3.1), as far as document 01's grammar of readings uses it, with all reserved words: which
+-- bytes hold which tokens. Definitions only.
+use Prim.Native.Nat.{ℕ, _+_, _-_, _*_}
 use mathlib.Core.Path.{_≡_}
-use mathlib.Core.List.{List, [], _∷_, _++_}
+use mathlib.Core.List.{List, [], _∷_, _++_, map}
 use mathlib.Core.Bool.{Bool, true, false, _&&_, _||_, not}
 use mathlib.Core.Logic.{_⊎_}
 use lib.Dec.{T, leb, eqb}
 use Rattle.lists.specs.Bytes.{bytes}
-use Rattle.lists.specs.Tests.{among, every, All}
+use Rattle.lists.specs.Tests.{among, inList, every, All}
 
 -- ---------------------------------------------------------------- bytes
 
@@ -60,13 +60,27 @@ whiteFirst c = semicolon c || blank c
 
 -- ---------------------------------------------------------------- tokens
 
--- the bars of a quoted symbol are no part of it
+-- a reserved word is no symbol; the bars of a quoted symbol are no part of it
 pub data Token : Type 0 where
-  open⁽ close⁾ underscore : Token
+  open⁽ close⁾ : Token
+  reserved : List ℕ → Token
   numeral : ℕ → Token
   -- the digits of a `#b` constant, as they stand
   binary : List ℕ → Token
   symbol : List ℕ → Token
+
+-- the reserved words: the general ones, and the names of the commands (section 3.9)
+unfoldable pub reservedWords : List (List ℕ)
+reservedWords =
+    map bytes
+    (
+    "!" ∷ "_" ∷ "as" ∷ "BINARY" ∷ "DECIMAL" ∷ "exists" ∷ "HEXADECIMAL" ∷ "forall" ∷ "let" ∷ "match" ∷ "NUMERAL" ∷ "par" ∷ "STRING"
+    -- commands
+    ∷ "assert" ∷ "check-sat" ∷ "check-sat-assuming" ∷ "declare-const" ∷ "declare-datatype" ∷ "declare-datatypes" ∷ "declare-fun" ∷ "declare-sort"
+    ∷ "define-fun" ∷ "define-fun-rec" ∷ "define-funs-rec" ∷ "define-sort" ∷ "echo" ∷ "exit" ∷ "get-assertions" ∷ "get-assignment" ∷ "get-info"
+    ∷ "get-model" ∷ "get-option" ∷ "get-proof" ∷ "get-unsat-assumptions" ∷ "get-unsat-core" ∷ "get-value" ∷ "pop" ∷ "push" ∷ "reset"
+    ∷ "reset-assertions" ∷ "set-info" ∷ "set-logic" ∷ "set-option" ∷ []
+    )
 
 -- the first byte, if there is one, passes the test
 abbrev pub Begins : (ℕ → Bool) → List ℕ → Type 0
@@ -90,11 +104,11 @@ pub record Numeral (n : ℕ) (s : List ℕ) : Type 0 where
   pub leading : NoLeadingZero s
   pub value : valueFrom 0 s ≡ n
 
--- a symbol that needs no bars: not begun by a digit; `_` alone is a token of its own
+-- a symbol that needs no bars: not begun by a digit, and no reserved word
 pub record Simple (n : List ℕ) : Type 0 where
   pub first : Begins (λ c. not (digit c)) n
   pub bytesOk : All symbolByte n
-  pub apart : n ≡ bytes "_" → ⊥
+  pub apart : T (not (inList n reservedWords))
 
 -- a `#b` constant has a digit or more
 pub record Binary (ds : List ℕ) : Type 0 where
@@ -105,7 +119,7 @@ pub record Binary (ds : List ℕ) : Type 0 where
 abbrev pub Spells : Token → List ℕ → Type 0
 Spells open⁽ s = s ≡ bytes "("
 Spells close⁾ s = s ≡ bytes ")"
-Spells underscore s = s ≡ bytes "_"
+Spells (reserved w) s = T (inList w reservedWords) × (s ≡ w)
 Spells (numeral n) s = Numeral n s
 Spells (binary ds) s = Binary ds × (s ≡ bytes "#b" ++ ds)
 Spells (symbol n) s = (Simple n × (s ≡ n)) ⊎ (All quotable n × (s ≡ bytes "|" ++ (n ++ bytes "|")))
@@ -114,7 +128,7 @@ Spells (symbol n) s = (Simple n × (s ≡ n)) ⊎ (All quotable n × (s ≡ byte
 abbrev pub word : Token → Bool
 word open⁽ = false
 word close⁾ = false
-word underscore = true
+word (reserved w) = true
 word (numeral n) = true
 word (binary ds) = true
 word (symbol n) = true

@@ -1,100 +1,25 @@
 -- Computed examples: scripts with two readings, a term for every operator of the table, and sorts.
-use Prim.Native.Nat.{ℕ, suc, _+_}
+use Prim.Native.Nat.{ℕ, suc}
 use Prim.Native.String.{String}
 use mathlib.Core.Path.{_≡_, refl, ap}
 use mathlib.Core.List.{List, [], _∷_, _++_, map}
-use mathlib.Core.Bool.{Bool, true, false, _&&_, not}
+use mathlib.Core.Bool.{Bool, false, _&&_}
 use mathlib.Core.Option.{Option, none, some}
-use mathlib.Core.Logic.{inl}
 use native.Mathlib.Omega.{arith}
-use lib.Dec.{T, leb, ltb, eqb, ltb→lt, le→leb, T-not}
+use lib.Dec.{T, eqb}
 use lib.ListN.{length}
 use Rattle.lists.specs.Bytes.{bytes}
-use Rattle.lists.specs.Tests.{same, inList, every, by-test, and-0, and-1, and-T, same-refl}
+use Rattle.lists.specs.Tests.{same, inList, every, by-test, and-0, and-1}
 use Rattle.reading.specs.Trees.{Name, Tree, variable, constant, apply, select, call, Trees, none as noTrees, more as moreTrees, base, store}
 use Rattle.reading.specs.Trees.{Declarations, Reading}
-use Rattle.smtlib.specs.Lexicon.{Token, open⁽, close⁾, underscore, numeral, binary, symbol, Lex, Spells, Begins, whiteFirst, word, wordFirst}
-use Rattle.smtlib.specs.Lexicon.{white, digit, symbolByte, binaryDigit, valueFrom}
+use Rattle.smtlib.specs.LexTests.{lexemes, lexable, lex-text}
 use Rattle.smtlib.specs.Grammar.{bitVec, array, Operator, plain, indexed, Term, literal, identifier, application, Terms, none as noTerms}
 use Rattle.smtlib.specs.Grammar.{more as moreTerms, declareConst, declareFun, Script, scriptTokens, declarationsTokens, declarationTokens}
 use Rattle.smtlib.specs.Grammar.{sortTokens, sortsTokens, assertionsTokens, termTokens, operatorTokens}
 use Rattle.smtlib.specs.Readings.{Row, operators, listed, rowNames, aTree, anArray, asMeanings, Names, isVariable, isArray, isConstant}
-use Rattle.smtlib.specs.Readings.{Applies, isCall, isSelect, isStore, isOperator, Means, MeansAll, ScriptMeans, Reads}
+use Rattle.smtlib.specs.Readings.{Applies, isCall, isSelect, isStore, isOperator, MeansIn, Means, MeansAll, ScriptMeans, Reads}
 use Rattle.smtlib.specs.Sorts.{TermSort, sameSort, sameSorts, bool, bits, bitsArray, rankAmong, Instance, instanceOf, ranks, resultOf, rank}
-use Rattle.smtlib.specs.Sorts.{bothSorts, sortOver, sortApplied, sortOf, nameOf, theorySymbols, free, sensibleDeclaration, logics, admits, WellSorted}
-
--- ---------------------------------------------------------------- text of tokens, a blank before each
-
-letters : Token → List ℕ
-letters open⁽ = bytes "("
-letters close⁾ = bytes ")"
-letters underscore = bytes "_"
-letters (numeral n) = (48 + n) ∷ []
-letters (binary ds) = bytes "#b" ++ ds
-letters (symbol n) = n
-
-spaced : List Token → List ℕ
-spaced [] = []
-spaced (t ∷ ts) = 32 ∷ (letters t ++ spaced ts)
-
-begins : (ℕ → Bool) → List ℕ → Bool
-begins p [] = false
-begins p (c ∷ s) = p c
-
--- one digit for a numeral, and no bars around a symbol
-bare : Token → Bool
-bare open⁽ = true
-bare close⁾ = true
-bare underscore = true
-bare (numeral n) = ltb n 10
-bare (binary ds) = begins binaryDigit ds && every binaryDigit ds
-bare (symbol n) = begins (λ c. not (digit c)) n && (every symbolByte n && not (same n (bytes "_")))
-
-begins-by-test : (p : ℕ → Bool) (s : List ℕ) → T (begins p s) → Begins p s
-unfolding begins
-begins-by-test p [] h = h
-begins-by-test p (c ∷ s) h = h
-
-spells-bare : (t : Token) → T (bare t) → Spells t (letters t)
-unfolding bare letters
-spells-bare open⁽ h = refl
-spells-bare close⁾ h = refl
-spells-bare underscore h = refl
-spells-bare (numeral n) h =
-    let l = ltb→lt n 10 h in
-    record {
-      digits = (and-T (leb 48 (48 + n)) (leb (48 + n) 57) (le→leb 48 (48 + n) (omega arith)) (le→leb (48 + n) 57 (omega arith)), tt);
-      leading = tt;
-      value = unfold valueFrom in omega arith;
-    }
-spells-bare (binary ds) h = (
-  record {
-    first = begins-by-test binaryDigit ds (and-0 (begins binaryDigit ds) _ h);
-    digits = by-test binaryDigit ds (and-1 (begins binaryDigit ds) _ h);
-  },
-  refl,
-)
-spells-bare (symbol n) h =
-    let k = and-1 (begins (λ c. not (digit c)) n) (every symbolByte n && not (same n (bytes "_"))) h in
-    inl (
-      record {
-        first = begins-by-test (λ c. not (digit c)) n (and-0 (begins (λ c. not (digit c)) n) _ h);
-        bytesOk = by-test symbolByte n (and-0 (every symbolByte n) _ k);
-        apart = λ e. T-not (same n (bytes "_")) (and-1 (every symbolByte n) _ k) (rw e (same-refl (bytes "_")));
-      },
-      refl,
-    )
-
-lex-spaced : (ts : List Token) → T (every bare ts) → Lex (spaced ts) ts
-unfolding Lex spaced white
-lex-spaced [] h = tt
-lex-spaced (t ∷ ts) h =
-    let rest = and-1 (bare t) (every bare ts) h in
-    (32 ∷ [], letters t, spaced ts, refl, tt, spells-bare t (and-0 (bare t) (every bare ts) h), apart ts, lex-spaced ts rest)
-  where
-    apart : (us : List Token) → T (word t && wordFirst us) → Begins whiteFirst (spaced us)
-    apart [] k = and-1 (word t) false k
-    apart (u ∷ us) k = tt
+use Rattle.smtlib.specs.Sorts.{bothSorts, sortOver, sortApplied, sortIn, nameOf, theorySymbols, free, sensibleDeclaration, logics, admits, WellSorted}
 
 -- ---------------------------------------------------------------- scripts with two readings
 
@@ -102,15 +27,8 @@ lex-spaced (t ∷ ts) h =
 abbrev TwoReadings : List ℕ → Reading → Reading → Type 0
 TwoReadings b r r′ = Reads b r × Reads b r′ × (r ≡ r′ → ⊥)
 
--- a script's text, a blank before each token
-textOf : Script → List ℕ
-unfolding scriptTokens declarationsTokens declarationTokens sortTokens sortsTokens assertionsTokens termTokens operatorTokens spaced letters
-textOf s = spaced (scriptTokens s)
-
-reads-spaced : (b : List ℕ) (s : Script) (r : Reading) → b ≡ textOf s → T (every bare (scriptTokens s)) → ScriptMeans s r → Reads b r
-unfolding textOf
-reads-spaced b s r e h m =
-    record { tokens = scriptTokens s; script = s; lexed = rw e (lex-spaced (scriptTokens s) h); parsed = refl; means = m }
+reads-text : (b : List ℕ) (s : Script) (r : Reading) → T (lexable b) → lexemes b ≡ scriptTokens s → ScriptMeans s r → Reads b r
+reads-text b s r h e m = record { tokens = lexemes b; script = s; lexed = lex-text b h; parsed = e; means = m }
 
 -- a term of two operands, and its tree
 abbrev term₂ : String → Term → Term → Term
@@ -123,8 +41,7 @@ trees₂ t u = moreTrees t (moreTrees u noTrees)
 
 pub twiceText : List ℕ
 twiceText =
-    bytes
-    " ( set-logic QF_AUFBV ) ( declare-const c ( _ BitVec 8 ) ) ( declare-fun c ( ) ( _ BitVec 8 ) ) ( assert ( = c #b00000101 ) ) ( check-sat )"
+    bytes "(set-logic QF_AUFBV) (declare-const c (_ BitVec 8)) (declare-fun c () (_ BitVec 8)) (assert (= c #b00000101)) (check-sat)"
 
 twiceScript : Script
 twiceScript =
@@ -151,13 +68,14 @@ twiceReading t =
     }
 
 pub declared-twice : TwoReadings twiceText (twiceReading (variable (bytes "c"))) (twiceReading (call (bytes "c") noTrees))
-unfolding twiceText twiceScript twiceReading textOf bare begins bytes same symbolByte Means operators
+unfolding twiceText twiceScript twiceReading lexable scriptTokens declarationsTokens declarationTokens sortTokens sortsTokens assertionsTokens termTokens
+    operatorTokens MeansIn operators
 declared-twice =
     (reading (variable (bytes "c")) (isVariable tt refl), reading (call (bytes "c") noTrees) (isConstant tt refl), differ)
   where
     reading : (t : Tree) → Names (twiceReading t .declarations) (bytes "c") (aTree t) → Reads twiceText (twiceReading t)
     reading t h =
-        reads-spaced twiceText twiceScript (twiceReading t) refl tt
+        reads-text twiceText twiceScript (twiceReading t) tt refl
         (record { declares = refl; asserts = ((aTree t, aTree five ∷ [], h, (refl, tt), isOperator 19 (trees₂ t five) tt refl refl), tt) })
 
     differ : twiceReading (variable (bytes "c")) ≡ twiceReading (call (bytes "c") noTrees) → ⊥
@@ -167,8 +85,8 @@ declared-twice =
 
 pub builtInText : List ℕ
 builtInText =
-    bytes " ( set-logic QF_AUFBV ) ( declare-const x ( _ BitVec 8 ) )"
-    ++ bytes " ( declare-fun bvadd ( ( _ BitVec 8 ) ( _ BitVec 8 ) ) ( _ BitVec 8 ) ) ( assert ( = ( bvadd x x ) x ) ) ( check-sat )"
+    bytes "(set-logic QF_AUFBV) (declare-const x (_ BitVec 8)) (declare-fun bvadd ((_ BitVec 8) (_ BitVec 8)) (_ BitVec 8))"
+    ++ bytes " (assert (= (bvadd x x) x)) (check-sat)"
 
 builtInScript : Script
 builtInScript =
@@ -194,7 +112,8 @@ builtInReading t =
     }
 
 pub declared-built-in : TwoReadings builtInText (builtInReading (apply 2 [] xs)) (builtInReading (call (bytes "bvadd") xs))
-unfolding builtInText builtInScript builtInReading textOf bare begins bytes same symbolByte Means operators
+unfolding builtInText builtInScript builtInReading lexable scriptTokens declarationsTokens declarationTokens sortTokens sortsTokens assertionsTokens termTokens
+    operatorTokens MeansIn operators
 declared-built-in =
     (reading (apply 2 [] xs) (isOperator 2 xs tt refl refl), reading (call (bytes "bvadd") xs) (isCall (bytes "bvadd") xs refl tt refl refl), differ)
   where
@@ -207,7 +126,7 @@ declared-built-in =
         let d = builtInReading t .declarations in
         let w : Means d (identifier (bytes "x")) (aTree v) = isVariable tt refl in
         let sum : Means d (term₂ "bvadd" (identifier (bytes "x")) (identifier (bytes "x"))) (aTree t) = (aTree v, aTree v ∷ [], w, (w, tt), h) in
-        reads-spaced builtInText builtInScript (builtInReading t) refl tt
+        reads-text builtInText builtInScript (builtInReading t) tt refl
         (record { declares = refl; asserts = ((aTree t, aTree v ∷ [], sum, (w, tt), isOperator 19 (trees₂ t v) tt refl refl), tt) })
 
     differ : builtInReading (apply 2 [] xs) ≡ builtInReading (call (bytes "bvadd") xs) → ⊥
@@ -231,16 +150,16 @@ record Operand : Type 0 where
   means : Means scope term (aTree tree)
 
 x : Operand
-unfolding Means bytes same
+unfolding MeansIn bytes same
 x = record { term = identifier (bytes "x"); tree = variable (bytes "x"); means = isVariable tt refl }
 
 y : Operand
-unfolding Means bytes same
+unfolding MeansIn bytes same
 y = record { term = identifier (bytes "y"); tree = variable (bytes "y"); means = isVariable tt refl }
 
 -- (= x y), of sort Bool
 p : Operand
-unfolding Means bytes same operators x y
+unfolding MeansIn bytes same operators x y
 p =
     record {
       term = term₂ "=" (x .term) (y .term);
@@ -257,7 +176,7 @@ trees [] = noTrees
 trees (o ∷ os) = moreTrees (o .tree) (trees os)
 
 operands-mean : (os : List Operand) → MeansAll scope (terms os) (asMeanings (trees os))
-unfolding Means
+unfolding MeansIn
 operands-mean [] = tt
 operands-mean (o ∷ os) = (o .means, operands-mean os)
 
@@ -342,7 +261,7 @@ operator-applies n [] k ts h = isOperator k ts h refl refl
 operator-applies n (j ∷ ks) k ts h = isOperator k ts h refl refl
 
 means-by-row : (e : Example) → T (rowListed e) → Means scope (written e) (aTree (meant e))
-unfolding Means rowListed
+unfolding MeansIn rowListed
 means-by-row e h =
     let us = asMeanings (trees (e .others)) in
     let ts = moreTrees (e .first .tree) (trees (e .others)) in (
@@ -375,7 +294,7 @@ stored t i v = application (plain (bytes "store")) t (moreTerms (i .term) (moreT
 -- (select (store (store a x y) y x) x): the outermost store is the first pair
 stores-mean : Means scope (term₂ "select" (stored (stored (identifier (bytes "a")) x y) y x) (x .term))
     (aTree (select (bytes "a") (x .tree) (store (y .tree) (x .tree) (store (x .tree) (y .tree) base))))
-unfolding Means bytes same x y
+unfolding MeansIn bytes same x y
 stores-mean =
     let inner = store (x .tree) (y .tree) base in
     let outer = store (y .tree) (x .tree) inner in
@@ -491,7 +410,7 @@ sortedScript =
     selected = term₂ "select" (application (plain (bytes "store")) (name "a") (moreTerms (name "i") (moreTerms (name "x") noTerms))) (name "i")
 
 sorted-script : WellSorted sortedScript
-unfolding sortedScript sortOf bothSorts sortOver sortApplied rank ranks resultOf sameSorts sameSort theorySymbols logics bytes same
+unfolding sortedScript sortIn bothSorts sortOver sortApplied rank ranks resultOf sameSorts sameSort theorySymbols logics bytes same
 sorted-script =
     record {
       logicKnown = tt;

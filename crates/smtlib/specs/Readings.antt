@@ -5,7 +5,7 @@ use Prim.Native.Nat.{ℕ, _-_}
 use Prim.Native.String.{String}
 use mathlib.Core.Path.{_≡_}
 use mathlib.Core.List.{List, [], _∷_, _++_, map}
-use mathlib.Core.Bool.{Bool, false, _&&_, _||_, not}
+use mathlib.Core.Bool.{Bool, true, false, _&&_, _||_, not}
 use mathlib.Core.Option.{Option, none, some}
 use lib.Dec.{T, eqb}
 use lib.ListN.{length}
@@ -16,7 +16,8 @@ use Rattle.reading.specs.Kinds.{Ule, Ugt, Uge, Slt, Sle, Sgt, Sge, Not, BoolAnd
 use Rattle.reading.specs.Trees.{Name, Tree, variable, constant, apply, select, call, Trees, none as noTrees, more as moreTrees, Stores, base, store}
 use Rattle.reading.specs.Trees.{Declarations, Reading}
 use Rattle.smtlib.specs.Lexicon.{Token, Lex}
-use Rattle.smtlib.specs.Grammar.{Sort, bitVec, array, Operator, plain, indexed, Term, literal, identifier, application, Terms}
+use Rattle.smtlib.specs.Grammar.{Sort, bitVec, array, Operator, plain, indexed, Term, literal, identifier, application, binding, Terms}
+use Rattle.smtlib.specs.Scopes.{Scope, bind, boundTo, symbolOf, hides}
 use Rattle.smtlib.specs.Grammar.{none as noTerms, more as moreTerms, Declaration, declareConst, declareFun, Script, scriptTokens}
 
 -- ---------------------------------------------------------------- the operators of the theories
@@ -159,10 +160,6 @@ abbrev pub bitsOf : List ℕ → List ℕ
 bitsOf [] = []
 bitsOf (c ∷ s) = bitsOf s ++ ((c - 48) ∷ [])
 
-abbrev pub symbolOf : Operator → Name
-symbolOf (plain n) = n
-symbolOf (indexed n k ks) = n
-
 abbrev pub numeralsOf : Operator → List ℕ
 numeralsOf (plain n) = []
 numeralsOf (indexed n k ks) = k ∷ ks
@@ -188,19 +185,38 @@ pub data Applies (d : Declarations) (o : Operator) (us : List Meaning) (m : Mean
       → T (listed (symbolOf o) k (length (numeralsOf o)) (length us) operators) → us ≡ asMeanings ts
       → m ≡ aTree (apply k (numeralsOf o) ts) → Applies d o us m
 
--- what a term may mean under the declarations d
+-- ---------------------------------------------------------------- terms under bound names
+
+-- a bound name means what it is bound to, and nothing that is declared
+abbrev pub NamesIn : Declarations → Scope Meaning → Name → Meaning → Type 0
+NamesIn d e n m = elim (boundTo e n) as (λ _. Type 0) [ none ↦ Names d n m | some u ↦ m ≡ u ]
+
+abbrev pub AppliesIn : Declarations → Scope Meaning → Operator → List Meaning → Meaning → Type 0
+AppliesIn d e o us m = elim (hides e o) as (λ _. Type 0) [ true ↦ ⊥ | false ↦ Applies d o us m ]
+
+-- what a term may mean under the declarations d and the bound names e
 unfoldable mutual
-  pub Means : Declarations → Term → Meaning → Type 0
-  Means d (literal ds) m = m ≡ aTree (constant (bitsOf ds))
-  Means d (identifier n) m = Names d n m
-  Means d (application o t ts) m = (u : Meaning) × (us : List Meaning) × Means d t u × MeansAll d ts us × Applies d o (u ∷ us) m
+  pub MeansIn : Declarations → Scope Meaning → Term → Meaning → Type 0
+  MeansIn d e (literal ds) m = m ≡ aTree (constant (bitsOf ds))
+  MeansIn d e (identifier n) m = NamesIn d e n m
+  MeansIn d e (application o t ts) m =
+      (u : Meaning) × (us : List Meaning) × MeansIn d e t u × MeansAllIn d e ts us × AppliesIn d e o (u ∷ us) m
+  -- the bound term is read outside, the body inside
+  MeansIn d e (binding n t b) m = (u : Meaning) × MeansIn d e t u × MeansIn d (bind n u e) b m
 
   -- term by term
-  pub MeansAll : Declarations → Terms → List Meaning → Type 0
-  MeansAll d noTerms [] = Unit
-  MeansAll d noTerms (m ∷ ms) = ⊥
-  MeansAll d (moreTerms t ts) [] = ⊥
-  MeansAll d (moreTerms t ts) (m ∷ ms) = Means d t m × MeansAll d ts ms
+  pub MeansAllIn : Declarations → Scope Meaning → Terms → List Meaning → Type 0
+  MeansAllIn d e noTerms [] = Unit
+  MeansAllIn d e noTerms (m ∷ ms) = ⊥
+  MeansAllIn d e (moreTerms t ts) [] = ⊥
+  MeansAllIn d e (moreTerms t ts) (m ∷ ms) = MeansIn d e t m × MeansAllIn d e ts ms
+
+-- what a term may mean where no name is bound
+abbrev pub Means : Declarations → Term → Meaning → Type 0
+Means d t m = MeansIn d [] t m
+
+abbrev pub MeansAll : Declarations → Terms → List Meaning → Type 0
+MeansAll d ts ms = MeansAllIn d [] ts ms
 
 -- ---------------------------------------------------------------- scripts
 

@@ -2,7 +2,8 @@
 use Prim.Native.Nat.{ℕ}
 use mathlib.Core.Path.{_≡_, refl, ap, sym, _∙_}
 use mathlib.Core.List.{List, [], _∷_, _++_}
-use mathlib.Core.Bool.{Bool, false, _&&_, not, cond}
+use mathlib.Core.Bool.{Bool, true, false, _&&_, not, cond}
+use mathlib.Core.Option.{Option, none, some}
 use lib.Dec.{T, T-not, eqb, eqb→eq}
 use lib.ListN.{length}
 use Rattle.lists.specs.Bytes.{bytes}
@@ -10,13 +11,14 @@ use Rattle.lists.specs.Tests.{same, inList, distinct, and-0, and-1, or-l, or-r,
 use Rattle.lists.specs.Tests.{distinct-right, distinct-apart, every-in}
 use Rattle.reading.specs.Trees.{Name, Tree, apply, select, call, Trees, none as noTrees, more as moreTrees, Stores, store, Declarations, Reading}
 use Rattle.smtlib.specs.Lexicon.{Token, Lex}
-use Rattle.smtlib.specs.Grammar.{Operator, Term, literal, identifier, application, Terms, none as noTerms, more as moreTerms, Script}
+use Rattle.smtlib.specs.Grammar.{Operator, Term, literal, identifier, application, binding, Terms, none as noTerms, more as moreTerms, Script}
 use Rattle.smtlib.specs.Grammar.{scriptTokens}
+use Rattle.smtlib.specs.Scopes.{Scope, bind, boundTo, symbolOf, hides}
 use Rattle.smtlib.specs.LexUnique.{lex-unique}
 use Rattle.smtlib.specs.GrammarUnique.{script-unique}
 use Rattle.smtlib.specs.Readings.{Row, operators, listed, rowNames, builtIn, variableNames, arrayNames, functionNames, declaredNames, Apart}
-use Rattle.smtlib.specs.Readings.{Meaning, aTree, anArray, asMeanings, symbolOf, numeralsOf, Names, isVariable, isArray, isConstant, Applies}
-use Rattle.smtlib.specs.Readings.{isCall, isSelect, isStore, isOperator, Means, MeansAll, ScriptMeans, Reads}
+use Rattle.smtlib.specs.Readings.{Meaning, aTree, anArray, asMeanings, numeralsOf, Names, isVariable, isArray, isConstant, Applies}
+use Rattle.smtlib.specs.Readings.{isCall, isSelect, isStore, isOperator, NamesIn, AppliesIn, MeansIn, Means, MeansAllIn, MeansAll, ScriptMeans, Reads}
 
 -- ---------------------------------------------------------------- the table of operators
 
@@ -180,27 +182,52 @@ module _ (d : Declarations) (apart : Apart d) where
   applies-unique : (o : Operator) (us : List Meaning) (m m′ : Meaning) → Applies d o us m → Applies d o us m′ → m ≡ m′
   applies-unique o us m m′ h h′ = applies-as-unique (role (symbolOf o)) o us m m′ (applies-as o us m h) (applies-as o us m′ h′)
 
+  names-in-unique : (e : Scope Meaning) (n : Name) (m m′ : Meaning) → NamesIn d e n m → NamesIn d e n m′ → m ≡ m′
+  names-in-unique e n m m′ h h′ = by-bound (boundTo e n) h h′
+    where
+      by-bound : (o : Option Meaning) → elim o as (λ _. Type 0) [ none ↦ Names d n m | some u ↦ m ≡ u ]
+          → elim o as (λ _. Type 0) [ none ↦ Names d n m′ | some u ↦ m′ ≡ u ] → m ≡ m′
+      by-bound none h h′ = names-unique n m m′ h h′
+      by-bound (some u) h h′ = h ∙ sym h′
+
+  applies-in-unique : (e : Scope Meaning) (o : Operator) (us : List Meaning) (m m′ : Meaning) → AppliesIn d e o us m → AppliesIn d e o us m′ → m ≡ m′
+  applies-in-unique e o us m m′ h h′ = by-hidden (hides e o) h h′
+    where
+      by-hidden : (b : Bool) → elim b as (λ _. Type 0) [ true ↦ ⊥ | false ↦ Applies d o us m ]
+          → elim b as (λ _. Type 0) [ true ↦ ⊥ | false ↦ Applies d o us m′ ] → m ≡ m′
+      by-hidden true h h′ = absurd h
+      by-hidden false h h′ = applies-unique o us m m′ h h′
+
   mutual
-    unfolding Means
+    unfolding MeansIn
 
-    pub means-unique : (t : Term) (m m′ : Meaning) → Means d t m → Means d t m′ → m ≡ m′
-    means-unique (literal ds) m m′ h h′ = h ∙ sym h′
-    means-unique (identifier n) m m′ h h′ = names-unique n m m′ h h′
-    means-unique (application o t ts) m m′ (u, us, x, xs, h) (u′, us′, x′, xs′, h′) =
-        let p : u ≡ u′ = means-unique t u u′ x x′ in
-        let q : us ≡ us′ = means-all-unique ts us us′ xs xs′ in
-        applies-unique o (u′ ∷ us′) m m′ (rw (p, q) at h) h′
+    pub means-in-unique : (e : Scope Meaning) (t : Term) (m m′ : Meaning) → MeansIn d e t m → MeansIn d e t m′ → m ≡ m′
+    means-in-unique e (literal ds) m m′ h h′ = h ∙ sym h′
+    means-in-unique e (identifier n) m m′ h h′ = names-in-unique e n m m′ h h′
+    means-in-unique e (application o t ts) m m′ (u, us, x, xs, h) (u′, us′, x′, xs′, h′) =
+        let p : u ≡ u′ = means-in-unique e t u u′ x x′ in
+        let q : us ≡ us′ = means-all-in-unique e ts us us′ xs xs′ in
+        applies-in-unique e o (u′ ∷ us′) m m′ (rw (p, q) at h) h′
+    means-in-unique e (binding n t b) m m′ (u, x, h) (u′, x′, h′) =
+        let p : u ≡ u′ = means-in-unique e t u u′ x x′ in
+        means-in-unique (bind n u′ e) b m m′ (rw p at h) h′
 
-    pub means-all-unique : (ts : Terms) (us us′ : List Meaning) → MeansAll d ts us → MeansAll d ts us′ → us ≡ us′
-    means-all-unique noTerms [] [] h h′ = refl
-    means-all-unique noTerms [] (u ∷ us) h h′ = absurd h′
-    means-all-unique noTerms (u ∷ us) us′ h h′ = absurd h
-    means-all-unique (moreTerms t ts) [] us′ h h′ = absurd h
-    means-all-unique (moreTerms t ts) (u ∷ us) [] h h′ = absurd h′
-    means-all-unique (moreTerms t ts) (u ∷ us) (v ∷ vs) h h′ =
-        let p : u ≡ v = means-unique t u v (h .0) (h′ .0) in
-        let q : us ≡ vs = means-all-unique ts us vs (h .1) (h′ .1) in
+    pub means-all-in-unique : (e : Scope Meaning) (ts : Terms) (us us′ : List Meaning) → MeansAllIn d e ts us → MeansAllIn d e ts us′ → us ≡ us′
+    means-all-in-unique e noTerms [] [] h h′ = refl
+    means-all-in-unique e noTerms [] (u ∷ us) h h′ = absurd h′
+    means-all-in-unique e noTerms (u ∷ us) us′ h h′ = absurd h
+    means-all-in-unique e (moreTerms t ts) [] us′ h h′ = absurd h
+    means-all-in-unique e (moreTerms t ts) (u ∷ us) [] h h′ = absurd h′
+    means-all-in-unique e (moreTerms t ts) (u ∷ us) (v ∷ vs) h h′ =
+        let p : u ≡ v = means-in-unique e t u v (h .0) (h′ .0) in
+        let q : us ≡ vs = means-all-in-unique e ts us vs (h .1) (h′ .1) in
         cc
+
+  pub means-unique : (t : Term) (m m′ : Meaning) → Means d t m → Means d t m′ → m ≡ m′
+  means-unique = means-in-unique []
+
+  pub means-all-unique : (ts : Terms) (us us′ : List Meaning) → MeansAll d ts us → MeansAll d ts us′ → us ≡ us′
+  means-all-unique = means-all-in-unique []
 
 -- ---------------------------------------------------------------- scripts
 

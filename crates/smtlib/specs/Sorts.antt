@@ -12,7 +12,8 @@ use lib.ListN.{length, getD}
 use Rattle.lists.specs.Bytes.{bytes}
 use Rattle.lists.specs.Tests.{same, inList, among, every, All, distinct}
 use Rattle.reading.specs.Trees.{Name}
-use Rattle.smtlib.specs.Grammar.{Sort, bitVec, array, Operator, plain, indexed, Term, literal, identifier, application, Terms}
+use Rattle.smtlib.specs.Grammar.{Sort, bitVec, array, Operator, plain, indexed, Term, literal, identifier, application, binding, Terms}
+use Rattle.smtlib.specs.Scopes.{Scope, bind, boundTo, hides}
 use Rattle.smtlib.specs.Grammar.{none as noTerms, more as moreTerms, Declaration, declareConst, declareFun, Script}
 
 -- ---------------------------------------------------------------- sorts of terms
@@ -202,17 +203,25 @@ unfoldable pub sortOver : List Declaration → Operator → Option (List TermSor
 sortOver ds o none = none
 sortOver ds o (some us) = sortApplied ds o us
 
--- the sort of a term
+-- the sort of a term under the bound names
 unfoldable mutual
-  pub sortOf : List Declaration → Term → Option TermSort
-  sortOf ds (literal cs) = cond (ltb 0 (length cs)) (some (bits (length cs))) none
-  sortOf ds (identifier n) = sortApplied ds (plain n) []
-  sortOf ds (application o t ts) = sortOver ds o (bothSorts (sortOf ds t) (sortsOf ds ts))
+  pub sortIn : List Declaration → Scope TermSort → Term → Option TermSort
+  sortIn ds e (literal cs) = cond (ltb 0 (length cs)) (some (bits (length cs))) none
+  sortIn ds e (identifier n) = elim (boundTo e n) [ none ↦ sortApplied ds (plain n) [] | some s ↦ some s ]
+  sortIn ds e (application o t ts) = cond (hides e o) none (sortOver ds o (bothSorts (sortIn ds e t) (sortsIn ds e ts)))
+  sortIn ds e (binding n t b) = elim (sortIn ds e t) [ none ↦ none | some s ↦ sortIn ds (bind n s e) b ]
 
   -- term by term
-  pub sortsOf : List Declaration → Terms → Option (List TermSort)
-  sortsOf ds noTerms = some []
-  sortsOf ds (moreTerms t ts) = bothSorts (sortOf ds t) (sortsOf ds ts)
+  pub sortsIn : List Declaration → Scope TermSort → Terms → Option (List TermSort)
+  sortsIn ds e noTerms = some []
+  sortsIn ds e (moreTerms t ts) = bothSorts (sortIn ds e t) (sortsIn ds e ts)
+
+-- the sort of a term where no name is bound
+abbrev pub sortOf : List Declaration → Term → Option TermSort
+sortOf ds t = sortIn ds [] t
+
+abbrev pub sortsOf : List Declaration → Terms → Option (List TermSort)
+sortsOf ds ts = sortsIn ds [] ts
 
 -- every term is of sort Bool
 abbrev pub AllBool : List Declaration → Terms → Type 0

@@ -1,7 +1,7 @@
 -- The printer's answer taken apart: what an acceptance and what each refusal says.
-use Prim.Native.Nat.{ℕ, zero, suc, _+_, _≤_, _<_}
+use Prim.Native.Nat.{ℕ, zero, suc, _≤_, _<_}
 use mathlib.Core.Path.{_≡_, refl, ap, sym, _∙_, subst}
-use mathlib.Core.List.{List, [], _∷_, _++_}
+use mathlib.Core.List.{List, [], _++_}
 use mathlib.Core.Bool.{Bool, true, false, not}
 use mathlib.Core.Logic.{_↔_, _≢_}
 use native.Mathlib.Omega.{arith}
@@ -9,7 +9,7 @@ use lib.Dec.{T, leb, leb→le, le→leb, nleb→lt}
 use lib.ListN.{length, drop, replicate}
 use Rattle.lists.specs.Tests.{T→true, no→false}
 use Rattle.reading.specs.Trees.{Reading}
-use Rattle.smtlib.specs.Lexicon.{Token, Lex}
+use Rattle.smtlib.specs.Lexicon.{Lex}
 use Rattle.smtlib.specs.Grammar.{Script, scriptTokens}
 use Rattle.smtlib.specs.GrammarUnique.{script-unique}
 use Rattle.smtlib.specs.LexUnique.{lex-unique}
@@ -19,152 +19,232 @@ use Rattle.smtlib.specs.Sorts.{WellSorted}
 use Rattle.echo_spec.specs.Refusals.{unless, _orElse_}
 use Rattle.echo_spec.specs.Input.{Problem, withinLimits, encoded, nodesOf, dagOf, queryOf}
 use Rattle.echo_spec.specs.Widths.{ext-wf}
-use Rattle.echo_spec.specs.Trees.{readingOf}
-use Rattle.echo_spec.specs.Walk.{refusal, refusalWith}
+use Rattle.echo_spec.specs.Walk.{refusal}
 use Rattle.echo_spec.specs.Render.{render}
-use Rattle.echo_spec.specs.Answers.{Answer, widthRefusal, widthAnswer, ext-wf-answer, script, echoRefusal, echoAnswer, echo-ext-answer}
-use Rattle.echo_spec.specs.Accepted.{unless-passed, orElse-passed, orElse-either, unless-bound, refusal-bound}
+use Rattle.echo_spec.specs.Answers.{
+  widthRefusal,
+  widthAnswer,
+  ext-wf-answer,
+  reading,
+  script,
+  endlessWith,
+  endlessRefusal,
+  textRefusal,
+  echoAnswer,
+  textAnswer,
+  echo-ext-answer,
+}
+use Rattle.echo_spec.specs.Accepted.{unless-passed, orElse-passed, in-orElse, in-unless, refusal-bound}
+use Rattle.echo_spec.specs.EncodingLaws.{encoded-binary}
 use Rattle.theorems.specs.Scripts.{scriptOf, Sound, lex-script, script-well-sorted, render-reads}
-use Rattle.theorems.specs.Printed.{widthsOf, reading, reading-sound}
+use Rattle.theorems.specs.Printed.{reading-sound}
 
--- every check but the one for room
-pub record Whole (p : Problem) : Type 0 where
-  pub limits : T (withinLimits p)
-  pub encoding : T (encoded (p .nodes) (p .bits))
-  pub query : refusal (dagOf p) (length (p .bits)) (p .roots) ≡ 0
-
--- the problem's script
-abbrev pub scriptText : Problem → List ℕ
-scriptText p = script (queryOf p)
-
--- ---------------------------------------------------------------- the answer by its number
+-- ---------------------------------------------------------------- a text by its number with endless room
 
 answer-number : (n : ℕ) (result lent : List ℕ) → echoAnswer n result lent .number ≡ n
 unfolding echoAnswer
 answer-number zero result lent = refl
 answer-number (suc n) result lent = refl
 
-pub number-is : (p : Problem) (lent : List ℕ) → echo-ext-answer p lent .number ≡ echoRefusal p (length lent)
-unfolding echo-ext-answer
-number-is p lent = answer-number (echoRefusal p (length lent)) (scriptText p) lent
+-- for any way to print: n is the number with endless room
+module _ (n : ℕ) (text lent : List ℕ) where
+  pub text-number : textAnswer n text lent .number ≡ textRefusal n text (length lent)
+  unfolding textAnswer
+  text-number = answer-number (textRefusal n text (length lent)) text lent
 
--- number, length and whole output of an acceptance
-pub acceptance : (p : Problem) (lent : List ℕ) → echo-ext-answer p lent .number ≡ 0
-    → echo-ext-answer p lent ≡ record { number = 0; count = length (scriptText p); output = scriptText p ++ drop (length (scriptText p)) lent }
-unfolding echo-ext-answer echoAnswer
-acceptance p lent e =
-    let r : echoRefusal p (length lent) ≡ 0 = sym (number-is p lent) ∙ e in
-    rw r
+  -- number, length and whole output of an acceptance
+  pub text-acceptance : textAnswer n text lent .number ≡ 0
+      → textAnswer n text lent ≡ record { number = 0; count = length text; output = text ++ drop (length text) lent }
+  unfolding textAnswer echoAnswer
+  text-acceptance e =
+      let r : textRefusal n text (length lent) ≡ 0 = sym text-number ∙ e in
+      rw r
 
--- number, length and whole output of a refusal
-pub refused : (p : Problem) (lent : List ℕ) (n : ℕ) → echo-ext-answer p lent .number ≡ suc n
-    → echo-ext-answer p lent ≡ record { number = suc n; count = 0; output = replicate (length lent) 0 }
-unfolding echo-ext-answer echoAnswer
-refused p lent n e =
-    let r : echoRefusal p (length lent) ≡ suc n = sym (number-is p lent) ∙ e in
-    rw r
+  -- number, length and whole output of a refusal
+  pub text-refused : (k : ℕ) → textAnswer n text lent .number ≡ suc k
+      → textAnswer n text lent ≡ record { number = suc k; count = 0; output = replicate (length lent) 0 }
+  unfolding textAnswer echoAnswer
+  text-refused k e =
+      let r : textRefusal n text (length lent) ≡ suc k = sym text-number ∙ e in
+      rw r
 
-refusal-at-most : (p : Problem) (room : ℕ) → echoRefusal p room ≤ 10
-unfolding echoRefusal
-refusal-at-most p room =
-    let q : refusal (dagOf p) (length (p .bits)) (p .roots) ≤ 7 = refusal-bound (dagOf p) _ (p .roots) in
-    orElse-either (unless (withinLimits p) 9) _ 10 (unless-bound (withinLimits p) 9 10 (omega arith))
-    (orElse-either (unless (encoded (p .nodes) (p .bits)) 8) _ 10 (unless-bound (encoded (p .nodes) (p .bits)) 8 10 (omega arith))
-    (orElse-either (refusal (dagOf p) (length (p .bits)) (p .roots)) _ 10 (omega arith)
-    (unless-bound (leb (length (scriptText p)) room) 10 10 (omega arith))))
+  -- accepted exactly where nothing is refused with endless room and the text fits
+  pub text-accepted : (textAnswer n text lent .number ≡ 0) ↔ ((n ≡ 0) × (length text ≤ length lent))
+  unfolding textRefusal
+  text-accepted = (
+    λ e.
+        let h = orElse-passed n (unless (leb (length text) (length lent)) 10) (sym text-number ∙ e) in
+        (h .0, leb→le (length text) (length lent) (unless-passed (leb (length text) (length lent)) 9 (h .1))),
+    λ h. text-number ∙ rw (h .0, T→true (leb (length text) (length lent)) (le→leb (length text) (length lent) (h .1))),
+  )
+
+  -- 10 is for room alone, where it is no number with endless room
+  pub text-room : n ≢ 10 → (textAnswer n text lent .number ≡ 10) ↔ ((n ≡ 0) × (length lent < length text))
+  unfolding textRefusal
+  text-room far = (
+    λ e. let h = orElse-told n (unless (leb (length text) (length lent)) 10) far (sym text-number ∙ e) in (h .0, by-room (length text) (length lent) (h .1)),
+    λ h.
+        let long : leb (length text) (length lent) ≡ false =
+        no→false (leb (length text) (length lent)) (λ t. let l = leb→le (length text) (length lent) t in let m : length lent < length text = h .1 in omega arith) in
+        text-number ∙ rw (h .0, long),
+  )
+    where
+      orElse-told : (m k : ℕ) → m ≢ 10 → (m orElse k) ≡ 10 → (m ≡ 0) × (k ≡ 10)
+      orElse-told zero k far e = (refl, e)
+      orElse-told (suc m) k far e = absurd (far e)
+
+      by-room : (k room : ℕ) → (unless (leb k room) 10 ≡ 10) → room < k
+      by-room k room e = nleb→lt k room (not-passed (leb k room) e)
+        where
+          not-passed : (b : Bool) → unless b 10 ≡ 10 → T (not b)
+          not-passed true e = absurd (omega arith)
+          not-passed false e = tt
+
+  -- a number that is neither 0 nor 10 is the one with endless room
+  pub text-told : (k : ℕ) → suc k ≢ 10 → (textAnswer n text lent .number ≡ suc k) ↔ (n ≡ suc k)
+  unfolding textRefusal
+  text-told k far = (λ e. told n (leb (length text) (length lent)) (sym text-number ∙ e), λ e. text-number ∙ rw e)
+    where
+      told : (m : ℕ) (b : Bool) → (m orElse unless b 10) ≡ suc k → m ≡ suc k
+      told zero true e = absurd (omega arith)
+      told zero false e = absurd (far (sym e))
+      told (suc m) b e = e
+
+-- what holds of every number with endless room, and of 10, holds of the answer's
+pub text-listed : (q : ℕ → Bool) (n : ℕ) (text lent : List ℕ) → T (q 0) → T (q 10) → T (q n) → T (q (textAnswer n text lent .number))
+unfolding textRefusal
+text-listed q n text lent z t h = rw (text-number n text lent) (in-orElse q n _ h (in-unless q (leb (length text) (length lent)) 10 z t))
+
+-- ---------------------------------------------------------------- a problem that passes every check but the one for room
+
+-- within the limits, encoded, and its query not refused; `asked` is the query's refusal by the way in which it is printed
+pub record Passes (p : Problem) (asked : ℕ) : Type 0 where
+  pub limits : T (withinLimits p)
+  pub encoding : T (encoded (p .nodes) (p .bits))
+  pub query : asked ≡ 0
+
+pub endless-passes : (p : Problem) (asked : ℕ) → (endlessWith p asked ≡ 0) ↔ Passes p asked
+unfolding endlessWith
+endless-passes p asked = (
+  λ e.
+      let e₁ = orElse-passed (unless (withinLimits p) 9) _ e in
+      let e₂ = orElse-passed (unless (encoded (p .nodes) (p .bits)) 8) asked (e₁ .1) in
+      record {
+        limits = unless-passed (withinLimits p) 8 (e₁ .0);
+        encoding = unless-passed (encoded (p .nodes) (p .bits)) 7 (e₂ .0);
+        query = e₂ .1;
+      },
+  λ w. rw (T→true (withinLimits p) (w .limits), T→true (encoded (p .nodes) (p .bits)) (w .encoding), w .query),
+)
+
+pub endless-listed : (t : ℕ → Bool) (p : Problem) (asked : ℕ) → T (t 0) → T (t 8) → T (t 9) → T (t asked) → T (t (endlessWith p asked))
+unfolding endlessWith
+endless-listed t p asked z e n h =
+    in-orElse t (unless (withinLimits p) 9) _ (in-unless t (withinLimits p) 9 z n)
+    (in-orElse t (unless (encoded (p .nodes) (p .bits)) 8) asked (in-unless t (encoded (p .nodes) (p .bits)) 8 z e) h)
+
+-- a number other than 9 and 8 is the query's
+pub endless-told : (p : Problem) (asked k : ℕ) → 9 ≢ suc k → 8 ≢ suc k
+    → (endlessWith p asked ≡ suc k) ↔ (T (withinLimits p) × T (encoded (p .nodes) (p .bits)) × (asked ≡ suc k))
+unfolding endlessWith
+endless-told p asked k a b = (
+  λ e.
+      let (l, e₁) = past (withinLimits p) 8 _ a e in
+      let (n, e₂) = past (encoded (p .nodes) (p .bits)) 7 _ b e₁ in
+      (l, n, e₂),
+  λ h. rw (T→true (withinLimits p) (h .0), T→true (encoded (p .nodes) (p .bits)) (h .1), h .2),
+)
+  where
+    past : (b : Bool) (n x : ℕ) → suc n ≢ suc k → (unless b (suc n) orElse x) ≡ suc k → T b × (x ≡ suc k)
+    past true n x h e = (tt, e)
+    past false n x h e = absurd (h e)
+
+-- ---------------------------------------------------------------- the plain printer
+
+-- every check but the one for room
+abbrev pub Whole : Problem → Type 0
+Whole p = Passes p (refusal (dagOf p) (length (p .bits)) (p .roots))
+
+-- the problem's script
+abbrev pub printed : Problem → List ℕ
+printed p = script (queryOf p)
+
+pub endless-whole : (p : Problem) → (endlessRefusal p ≡ 0) ↔ Whole p
+unfolding endlessRefusal
+endless-whole p = endless-passes p _
+
+-- acceptance or one of 1 to 9
+pub endless-number : (p : Problem) → T (leb (endlessRefusal p) 9)
+unfolding endlessRefusal
+endless-number p =
+    let r : ℕ = refusal (dagOf p) (length (p .bits)) (p .roots) in
+    let q : r ≤ 7 = refusal-bound (dagOf p) _ (p .roots) in
+    endless-listed (λ n. leb n 9) p r tt tt tt (le→leb r 9 (omega arith))
 
 -- acceptance or a listed number
 pub number-bound : (p : Problem) (lent : List ℕ) → echo-ext-answer p lent .number ≤ 10
-number-bound p lent = rw (number-is p lent) (refusal-at-most p (length lent))
+unfolding echo-ext-answer
+number-bound p lent =
+    leb→le _ 10
+    (text-listed (λ n. leb n 10) (endlessRefusal p) (printed p) lent tt tt
+    (let l : endlessRefusal p ≤ 9 = leb→le (endlessRefusal p) 9 (endless-number p) in le→leb (endlessRefusal p) 10 (omega arith)))
 
--- ---------------------------------------------------------------- what was passed
+pub acceptance : (p : Problem) (lent : List ℕ) → echo-ext-answer p lent .number ≡ 0
+    → echo-ext-answer p lent ≡ record { number = 0; count = length (printed p); output = printed p ++ drop (length (printed p)) lent }
+unfolding echo-ext-answer
+acceptance p lent e = text-acceptance (endlessRefusal p) (printed p) lent e
 
--- a number that the first refusal cannot be is the second's
-orElse-last : (m n k : ℕ) → m < k → (m orElse n) ≡ k → (m ≡ 0) × (n ≡ k)
-orElse-last zero n k l e = (refl, e)
-orElse-last (suc m) n k l e = absurd (omega arith)
+pub refused : (p : Problem) (lent : List ℕ) (n : ℕ) → echo-ext-answer p lent .number ≡ suc n
+    → echo-ext-answer p lent ≡ record { number = suc n; count = 0; output = replicate (length lent) 0 }
+unfolding echo-ext-answer
+refused p lent n e = text-refused (endlessRefusal p) (printed p) lent n e
 
-whole : (p : Problem) (room : ℕ) → echoRefusal p room ≡ 0 → Whole p × (length (scriptText p) ≤ room)
-unfolding echoRefusal
-whole p room e =
-    let e₁ = orElse-passed (unless (withinLimits p) 9) _ e in
-    let e₂ = orElse-passed (unless (encoded (p .nodes) (p .bits)) 8) _ (e₁ .1) in
-    let e₃ = orElse-passed (refusal (dagOf p) (length (p .bits)) (p .roots)) _ (e₂ .1) in (
-      record {
-        limits = unless-passed (withinLimits p) 8 (e₁ .0);
-        encoding = unless-passed (encoded (p .nodes) (p .bits)) 7 (e₂ .0);
-        query = e₃ .0;
-      },
-      leb→le (length (scriptText p)) room (unless-passed (leb (length (scriptText p)) room) 9 (e₃ .1)),
-    )
+-- 0 is answered exactly where every check passes and the script fits
+pub accepted-exactly : (p : Problem) (lent : List ℕ) → (echo-ext-answer p lent .number ≡ 0) ↔ (Whole p × (length (printed p) ≤ length lent))
+unfolding echo-ext-answer
+accepted-exactly p lent =
+    let a = text-accepted (endlessRefusal p) (printed p) lent in
+    (λ e. let h = a .0 e in (endless-whole p .0 (h .0), h .1), λ h. a .1 (endless-whole p .1 (h .0), h .1))
 
--- the test for room alone
-by-room : (n room : ℕ) → (unless (leb n room) 10 ≡ 10) → room < n
-by-room n room e = nleb→lt n room (not-passed (leb n room) e)
-  where
-    not-passed : (b : Bool) → unless b 10 ≡ 10 → T (not b)
-    not-passed true e = absurd (omega arith)
-    not-passed false e = tt
-
-too-long : (p : Problem) (room : ℕ) → Whole p → room < length (scriptText p) → echoRefusal p room ≡ 10
-unfolding echoRefusal
-too-long p room w l =
-    let long : leb (length (scriptText p)) room ≡ false = no→false (leb (length (scriptText p)) room) (λ t. let h = leb→le (length (scriptText p)) room t in omega arith) in
-    rw (T→true (withinLimits p) (w .limits), T→true (encoded (p .nodes) (p .bits)) (w .encoding), w .query, long)
-
-short : (p : Problem) (room : ℕ) → echoRefusal p room ≡ 10 → Whole p × (room < length (scriptText p))
-unfolding echoRefusal
-short p room e =
-    let b₁ : unless (withinLimits p) 9 ≤ 9 = unless-bound (withinLimits p) 9 9 (omega arith) in
-    let b₂ : unless (encoded (p .nodes) (p .bits)) 8 ≤ 9 = unless-bound (encoded (p .nodes) (p .bits)) 8 9 (omega arith) in
-    let q : refusal (dagOf p) (length (p .bits)) (p .roots) ≤ 7 = refusal-bound (dagOf p) _ (p .roots) in
-    let e₁ = orElse-last (unless (withinLimits p) 9) _ 10 (omega arith) e in
-    let e₂ = orElse-last (unless (encoded (p .nodes) (p .bits)) 8) _ 10 (omega arith) (e₁ .1) in
-    let e₃ = orElse-last (refusal (dagOf p) (length (p .bits)) (p .roots)) _ 10 (omega arith) (e₂ .1) in (
-      record {
-        limits = unless-passed (withinLimits p) 8 (e₁ .0);
-        encoding = unless-passed (encoded (p .nodes) (p .bits)) 7 (e₂ .0);
-        query = e₃ .0;
-      },
-      by-room (length (scriptText p)) room (e₃ .1),
-    )
-
-pub accepted-whole : (p : Problem) (lent : List ℕ) → echo-ext-answer p lent .number ≡ 0 → Whole p × (length (scriptText p) ≤ length lent)
-accepted-whole p lent e = whole p (length lent) (sym (number-is p lent) ∙ e)
+pub accepted-whole : (p : Problem) (lent : List ℕ) → echo-ext-answer p lent .number ≡ 0 → Whole p × (length (printed p) ≤ length lent)
+accepted-whole p lent = accepted-exactly p lent .0
 
 -- 10 is answered exactly where every other check passes and the script is longer than the room
-pub room-refusal : (p : Problem) (lent : List ℕ) → (echo-ext-answer p lent .number ≡ 10) ↔ (Whole p × (length lent < length (scriptText p)))
+pub room-refusal : (p : Problem) (lent : List ℕ) → (echo-ext-answer p lent .number ≡ 10) ↔ (Whole p × (length lent < length (printed p)))
+unfolding echo-ext-answer
 room-refusal p lent =
-    (λ e. short p (length lent) (sym (number-is p lent) ∙ e), λ h. number-is p lent ∙ too-long p (length lent) (h .0) (h .1))
+    let l : endlessRefusal p ≤ 9 = leb→le (endlessRefusal p) 9 (endless-number p) in
+    let a = text-room (endlessRefusal p) (printed p) lent (λ e. omega arith) in
+    (λ e. let h = a .0 e in (endless-whole p .0 (h .0), h .1), λ h. a .1 (endless-whole p .1 (h .0), h .1))
 
 -- ---------------------------------------------------------------- the script of a problem that passes every check
 
 module _ (p : Problem) (w : Whole p) where
-  sound : Sound (reading p)
+  pub sound : Sound (reading p)
   unfolding dagOf
-  sound = reading-sound p (w .encoding) (w .query)
+  sound = reading-sound (queryOf p) (encoded-binary p (w .encoding)) (w .query)
 
-  text-is : scriptText p ≡ render (reading p)
-  unfolding script dagOf
+  text-is : printed p ≡ render (reading p)
+  unfolding script
   text-is = refl
 
-  pub script-lexed : Lex (scriptText p) (scriptTokens (scriptOf (reading p)))
+  pub script-lexed : Lex (printed p) (scriptTokens (scriptOf (reading p)))
   script-lexed = rw text-is (lex-script (reading p) sound)
 
   pub script-sorted : WellSorted (scriptOf (reading p))
   script-sorted = script-well-sorted (reading p) sound
 
-  pub script-reads : Reads (scriptText p) (reading p)
+  pub script-reads : Reads (printed p) (reading p)
   script-reads = rw text-is (render-reads (reading p) sound)
 
-  pub script-reads-only : (r : Reading) → Reads (scriptText p) r → r ≡ reading p
-  script-reads-only r h = sym (reads-unique (scriptText p) (reading p) r script-reads h (sound .apart))
+  pub script-reads-only : (r : Reading) → Reads (printed p) r → r ≡ reading p
+  script-reads-only r h = sym (reads-unique (printed p) (reading p) r script-reads h (sound .declarations .apart))
 
-  pub script-only : (s : Script) → Lex (scriptText p) (scriptTokens s) → s ≡ scriptOf (reading p)
-  script-only s h = script-unique s (scriptOf (reading p)) (lex-unique (scriptText p) (scriptTokens s) (scriptTokens (scriptOf (reading p))) h script-lexed)
+  pub script-only : (s : Script) → Lex (printed p) (scriptTokens s) → s ≡ scriptOf (reading p)
+  script-only s h = script-unique s (scriptOf (reading p)) (lex-unique (printed p) (scriptTokens s) (scriptTokens (scriptOf (reading p))) h script-lexed)
 
 -- equal scripts have equal readings, and equal readings equal scripts
-pub scripts-equal : (p p′ : Problem) → Whole p → Whole p′ → (scriptText p ≡ scriptText p′) ↔ (reading p ≡ reading p′)
+pub scripts-equal : (p p′ : Problem) → Whole p → Whole p′ → (printed p ≡ printed p′) ↔ (reading p ≡ reading p′)
 scripts-equal p p′ w w′ = (
   λ e. script-reads-only p′ w′ (reading p) (subst (λ (b : List ℕ). Reads b (reading p)) e (script-reads p w)),
   λ e. text-is p w ∙ ap render e ∙ sym (text-is p′ w′),

@@ -5,18 +5,19 @@ use mathlib.Core.Path.{_≡_, refl, ap, sym, _∙_, subst}
 use mathlib.Core.List.{List, [], _∷_, _++_, map, append-assoc, append-nil}
 use mathlib.Core.Bool.{Bool, true, false, _&&_, not}
 use mathlib.Core.Option.{Option, none as nothing, some}
-use lib.Dec.{T, ltb}
+use lib.Dec.{T, leb, ltb}
 use lib.ListN.{length}
 use Rattle.lists.specs.Bytes.{bytes}
-use Rattle.lists.specs.Tests.{same, inList, every, All, distinct, and-T, and-0, and-1, or-l, or-r, all-append, same-refl, T→true, in-left, in-right}
+use Rattle.lists.specs.Tests.{same, inList, every, All, distinct, and-T, and-0, and-1, or-l, or-r, all-append, all-map, all-always, same-refl, T→true, in-left, in-right}
 use Rattle.reading.specs.Trees.{Name, Tree, Trees, none, more, Variable, Array, Function, Declarations, Reading}
-use Rattle.smtlib.specs.Lexicon.{quotable, Token, open⁽, close⁾, underscore, numeral, symbol, Lex}
+use Rattle.smtlib.specs.Lexicon.{quotable, Token, open⁽, close⁾, reserved, reservedWords, symbol, Lex}
 use Rattle.smtlib.specs.Grammar.{
   Sort,
   bitVec,
   array,
   sortTokens,
   sortsTokens,
+  Terms,
   termTokens,
   Declaration,
   declareConst,
@@ -27,7 +28,7 @@ use Rattle.smtlib.specs.Grammar.{
   Script,
   scriptTokens,
 }
-use Rattle.smtlib.specs.LexText.{Next, lex-next, put-open, put-close, put-space, put-line-feed, put-underscore, put-numeral, simple-test, put-simple, put-end}
+use Rattle.smtlib.specs.LexText.{Next, lex-next, put-open, put-close, put-space, put-line-feed, put-reserved, put-underscore, simple-test, put-simple, put-end}
 use Rattle.smtlib.specs.Readings.{
   widths,
   declaring,
@@ -41,6 +42,7 @@ use Rattle.smtlib.specs.Readings.{
   functionNames,
   declaredNames,
   Apart,
+  asMeanings,
   MeansAll,
   ScriptMeans,
   Reads,
@@ -75,20 +77,21 @@ use Rattle.echo_spec.specs.Render.{
   logicOf,
   logicText,
   declarationsText,
+  frame,
   render,
 }
-use Rattle.theorems.specs.Terms.{termOf, termsOf, Fits, FitsAll}
+use Rattle.theorems.specs.Terms.{termOf, termsOf, Fits, FitsAll, fresh-none}
 use Rattle.theorems.specs.Meanings.{means-terms}
 use Rattle.theorems.specs.Texts.{Holds, decimal-numeral, put-decimal, put-name, lex-term}
 use Rattle.theorems.specs.Sorting.{bitVecs, declareVariable, declareArray, declareFunction, commandsOf, names-of-commands, sort-of-term}
 
+-- the script of these declarations and assertions
+abbrev pub scriptWith : Declarations → Terms → Script
+scriptWith D ts = record { logic = logicOf (D .functions) (D .arrays); declarations = commandsOf D; assertions = ts }
+
 -- the script that a reading is printed as
 unfoldable pub scriptOf : Reading → Script
-scriptOf r = record {
-  logic = logicOf (r .declarations .functions) (r .declarations .arrays);
-  declarations = commandsOf (r .declarations);
-  assertions = termsOf (r .assertions);
-}
+scriptOf r = scriptWith (r .declarations) (termsOf (r .assertions))
 
 -- as many times Bool as there are trees
 abbrev pub bools : Trees → List TermSort
@@ -98,11 +101,11 @@ bools (more t ts) = bool ∷ bools ts
 -- ---------------------------------------------------------------- lines
 
 -- a text that ends its line
-abbrev Line : List ℕ → List Token → Type 0
+abbrev pub Line : List ℕ → List Token → Type 0
 Line text tokens = (r : List ℕ) (us : List Token) → Lex r us → Lex (text ++ r) (tokens ++ us)
 
 -- the end of a command
-put-end-of-line : (r : List ℕ) (us : List Token) → Lex r us → Next (41 ∷ 10 ∷ r) (close⁾ ∷ us)
+pub put-end-of-line : (r : List ℕ) (us : List Token) → Lex r us → Next (41 ∷ 10 ∷ r) (close⁾ ∷ us)
 put-end-of-line r us l = put-close (10 ∷ r) us (put-line-feed r us l .0)
 
 put-sort : (w : ℕ) → Holds (sortText w) (sortTokens (bitVec w))
@@ -122,30 +125,30 @@ put-sorts (w ∷ v ∷ ws) r us k =
     simp append-assoc l
 
 put-variable : (v : Variable) → All quotable (v .name) → Line (variableText v) (declarationTokens (declareVariable v))
-unfolding variableText declarationTokens bytes simple-test
+unfolding variableText declarationTokens reservedWords bytes same
 put-variable v q r us l =
     let l₁ = put-space _ _ (put-sort (v .width) _ _ (put-end-of-line r us l)) in
     let l₂ = put-space _ _ (put-name (v .name) q _ _ l₁) in
-    let l₃ = put-open _ _ (put-simple (bytes "declare-const") _ _ tt l₂) in
+    let l₃ = put-open _ _ (put-reserved (bytes "declare-const") _ _ tt l₂) in
     simp append-assoc l₃
 
 put-array : (a : Array) → All quotable (a .name) → Line (arrayText a) (declarationTokens (declareArray a))
-unfolding arrayText declarationTokens sortTokens bytes simple-test
+unfolding arrayText declarationTokens sortTokens reservedWords bytes same simple-test
 put-array a q r us l =
     let l₀ = put-space _ _ (put-sort (a .value) _ _ (put-close _ _ (put-end-of-line r us l .0))) in
     let l₁ = put-space _ _ (put-sort (a .index) _ _ l₀) in
     let l₂ = put-space _ _ (put-open _ _ (put-simple (bytes "Array") _ _ tt l₁)) in
     let l₃ = put-space _ _ (put-name (a .name) q _ _ l₂) in
-    let l₄ = put-open _ _ (put-simple (bytes "declare-const") _ _ tt l₃) in
+    let l₄ = put-open _ _ (put-reserved (bytes "declare-const") _ _ tt l₃) in
     simp append-assoc l₄
 
 put-function : (f : Function) → All quotable (f .name) → Line (functionText f) (declarationTokens (declareFunction f))
-unfolding functionText declarationTokens bytes simple-test
+unfolding functionText declarationTokens reservedWords bytes same
 put-function f q r us l =
     let l₀ = put-space _ _ (put-sort (f .width) _ _ (put-end-of-line r us l)) in
     let l₁ = put-open _ _ (put-sorts (f .arguments) _ _ (put-close _ _ (l₀ .0))) in
     let l₂ = put-space _ _ (put-name (f .name) q _ _ (put-space _ _ l₁)) in
-    let l₃ = put-open _ _ (put-simple (bytes "declare-fun") _ _ tt l₂) in
+    let l₃ = put-open _ _ (put-reserved (bytes "declare-fun") _ _ tt l₂) in
     simp append-assoc l₃
 
 -- each element has it
@@ -174,26 +177,26 @@ logic-simple (f ∷ fs) rs = tt
 logic-simple [] (a ∷ rs) = tt
 logic-simple [] [] = tt
 
-put-logic : (D : Declarations) → Line (logicText D) (open⁽ ∷ symbol (bytes "set-logic") ∷ symbol (logicOf (D .functions) (D .arrays)) ∷ close⁾ ∷ [])
-unfolding logicText bytes simple-test
+put-logic : (D : Declarations) → Line (logicText D) (open⁽ ∷ reserved (bytes "set-logic") ∷ symbol (logicOf (D .functions) (D .arrays)) ∷ close⁾ ∷ [])
+unfolding logicText reservedWords bytes same simple-test
 put-logic D r us l =
     let l₁ = put-simple (logicOf (D .functions) (D .arrays)) _ _ (logic-simple (D .functions) (D .arrays)) (put-end-of-line r us l) in
-    let l₂ = put-open _ _ (put-simple (bytes "set-logic") _ _ tt (put-space _ _ l₁)) in
+    let l₂ = put-open _ _ (put-reserved (bytes "set-logic") _ _ tt (put-space _ _ l₁)) in
     simp append-assoc l₂
 
-put-check-sat : Lex (bytes "(check-sat)\n") (open⁽ ∷ symbol (bytes "check-sat") ∷ close⁾ ∷ [])
-unfolding bytes simple-test
-put-check-sat = put-open _ _ (put-simple (bytes "check-sat") _ _ tt (put-end-of-line [] [] (put-end .0)))
+put-check-sat : Lex (bytes "(check-sat)\n") (open⁽ ∷ reserved (bytes "check-sat") ∷ close⁾ ∷ [])
+unfolding reservedWords bytes same
+put-check-sat = put-open _ _ (put-reserved (bytes "check-sat") _ _ tt (put-end-of-line [] [] (put-end .0)))
 
 module _ (D : Declarations) (quotes : (n : Name) → T (inList n (declaredNames D)) → All quotable n) where
   put-assertions : (ts : Trees) (us : List TermSort) → FitsAll D ts us → Line (assertionsText ts) (assertionsTokens (termsOf ts))
-  unfolding assertionsText assertionsTokens termOf bytes simple-test
+  unfolding assertionsText assertionsTokens termOf reservedWords bytes same
   put-assertions none [] h r us l = l
   put-assertions none (v ∷ vs) h r us l = absurd h
   put-assertions (more t ts) [] h r us l = absurd h
   put-assertions (more t ts) (v ∷ vs) h r us l =
-      let l₁ = lex-term D quotes t v (h .0) _ _ (put-end-of-line _ _ (put-assertions ts vs (h .1) r us l)) in
-      let l₂ = put-open _ _ (put-simple (bytes "assert") _ _ tt (put-space _ _ l₁)) in
+      let l₁ = lex-term D quotes [] (fresh-none D) t v (h .0) _ _ (put-end-of-line _ _ (put-assertions ts vs (h .1) r us l)) in
+      let l₂ = put-open _ _ (put-reserved (bytes "assert") _ _ tt (put-space _ _ l₁)) in
       simp append-assoc l₂
 
 -- what is known of each name is known of each that a list declares
@@ -209,25 +212,28 @@ names-known P name (x ∷ xs) h = (
 abbrev pub wide : ℕ → Bool
 wide w = ltb 0 w
 
-pub record Sound (r : Reading) : Type 0 where
+-- the declarations, whatever is asserted
+pub record SoundDeclarations (D : Declarations) : Type 0 where
   -- every declared name may stand between bars
-  pub quotes : (n : Name) → T (inList n (declaredNames (r .declarations))) → All quotable n
+  pub quotes : (n : Name) → T (inList n (declaredNames D)) → All quotable n
+  -- and holds no line break: no byte is below 32
+  pub printable : (n : Name) → T (inList n (declaredNames D)) → All (leb 32) n
   -- no name is declared twice, none is built in, none is the theories' or a solver's
-  pub apart : Apart (r .declarations)
-  pub names : All free (declaredNames (r .declarations))
+  pub apart : Apart D
+  pub names : All free (declaredNames D)
   -- no width is 0
-  pub variables : All (λ (v : Variable). wide (v .width)) (r .declarations .variables)
-  pub arrays : All (λ (a : Array). wide (a .index) && wide (a .value)) (r .declarations .arrays)
-  pub functions : All (λ (f : Function). every wide (f .arguments) && wide (f .width)) (r .declarations .functions)
+  pub variables : All (λ (v : Variable). wide (v .width)) (D .variables)
+  pub arrays : All (λ (a : Array). wide (a .index) && wide (a .value)) (D .arrays)
+  pub functions : All (λ (f : Function). every wide (f .arguments) && wide (f .width)) (D .functions)
+
+pub record Sound (r : Reading) : Type 0 where
+  pub declarations : SoundDeclarations (r .declarations)
   -- every assertion is a Bool over what is declared
   pub assertions : FitsAll (r .declarations) (r .assertions) (bools (r .assertions))
 
 -- ---------------------------------------------------------------- the text holds the script's tokens
 
-module _ (r : Reading) (ok : Sound r) where
-  abbrev D : Declarations
-  D = r .declarations
-
+module _ (D : Declarations) (ok : SoundDeclarations D) where
   quotes-in-variables : (n : Name) → T (inList n (variableNames D)) → All quotable n
   quotes-in-variables n h = ok .quotes n (in-left n (variableNames D) (arrayNames D ++ functionNames D) h)
 
@@ -252,10 +258,9 @@ module _ (r : Reading) (ok : Sound r) where
       )
       (simp append-assoc l₃)
 
-  pub lex-script : Lex (render r) (scriptTokens (scriptOf r))
-  unfolding render scriptTokens scriptOf
-  lex-script =
-      put-logic D _ _ (put-declarations _ _ (put-assertions D (ok .quotes) (r .assertions) (bools (r .assertions)) (ok .assertions) _ _ put-check-sat))
+  pub lex-with : (text : List ℕ) (ts : Terms) → Line text (assertionsTokens ts) → Lex (frame D text) (scriptTokens (scriptWith D ts))
+  unfolding scriptTokens
+  lex-with text ts line = put-logic D _ _ (put-declarations _ _ (line _ _ put-check-sat))
 
 -- ---------------------------------------------------------------- the script declares what the reading has
 
@@ -301,14 +306,6 @@ declared-commands D =
     ∙ λ i. some (record { variables = append-nil (D .variables) i; arrays = append-nil (D .arrays) i; functions = append-nil (D .functions) i })
 
 -- ---------------------------------------------------------------- the script is well sorted
-
-all-map : {A B : Type 0} (p : B → Bool) (f : A → B) (xs : List A) → All (λ x. p (f x)) xs → All p (map f xs)
-all-map p f [] h = tt
-all-map p f (x ∷ xs) h = (h .0, all-map p f xs (h .1))
-
-all-always : {A : Type 0} (p : A → Bool) → ((x : A) → T (p x)) → (xs : List A) → All p xs
-all-always p h [] = tt
-all-always p h (x ∷ xs) = (h x, all-always p h xs)
 
 sensible-sorts : (ws : List ℕ) → T (every wide ws) → T (every sensibleSort (bitVecs ws))
 sensible-sorts [] h = tt
@@ -357,40 +354,52 @@ logic-known (f ∷ fs) rs = tt
 logic-known [] (a ∷ rs) = tt
 logic-known [] [] = tt
 
-module _ (r : Reading) (ok : Sound r) where
-  assertions-bool : (ts : Trees) → FitsAll (r .declarations) ts (bools ts) → AllBool (commandsOf (r .declarations)) (termsOf ts)
-  unfolding termOf
-  assertions-bool none h = tt
-  assertions-bool (more t ts) h = (sort-of-term (r .declarations) (ok .apart) t bool (h .0), assertions-bool ts (h .1))
-
-  sensible-commands : All sensibleDeclaration (commandsOf (r .declarations))
+module _ (D : Declarations) (ok : SoundDeclarations D) where
+  sensible-commands : All sensibleDeclaration (commandsOf D)
   unfolding commandsOf
   sensible-commands =
-      let D : Declarations = r .declarations in
       all-append sensibleDeclaration (map declareVariable (D .variables)) (map declareArray (D .arrays) ++ map declareFunction (D .functions))
       (all-map sensibleDeclaration declareVariable (D .variables) (ok .variables))
       (all-append sensibleDeclaration (map declareArray (D .arrays)) (map declareFunction (D .functions))
       (all-map sensibleDeclaration declareArray (D .arrays) (ok .arrays)) (sensible-functions (D .functions) (ok .functions)))
 
+  pub sorted-with : (ts : Terms) → AllBool (commandsOf D) ts → WellSorted (scriptWith D ts)
+  sorted-with ts h = record {
+    logicKnown = logic-known (D .functions) (D .arrays);
+    admitted = unfold commandsOf in admitted (D .variables) (D .arrays) (D .functions);
+    sensibleSorts = sensible-commands;
+    declaredOnce = rw (names-of-commands D) (ok .apart .once);
+    namesFree = rw (names-of-commands D) (ok .names);
+    assertionsBool = h;
+  }
+
+pub means-with : (r : Reading) (ts : Terms) → MeansAll (r .declarations) ts (asMeanings (r .assertions)) → ScriptMeans (scriptWith (r .declarations) ts) r
+means-with r ts h = record { declares = declared-commands (r .declarations); asserts = h }
+
+-- ---------------------------------------------------------------- the plain script
+
+module _ (r : Reading) (ok : Sound r) where
+  assertions-bool : (ts : Trees) → FitsAll (r .declarations) ts (bools ts) → AllBool (commandsOf (r .declarations)) (termsOf ts)
+  unfolding termOf
+  assertions-bool none h = tt
+  assertions-bool (more t ts) h =
+      (sort-of-term (r .declarations) (ok .declarations .apart) [] (fresh-none (r .declarations)) t bool (h .0), assertions-bool ts (h .1))
+
+  pub lex-script : Lex (render r) (scriptTokens (scriptOf r))
+  unfolding render scriptOf
+  lex-script =
+      lex-with (r .declarations) (ok .declarations) (assertionsText (r .assertions)) (termsOf (r .assertions))
+      (put-assertions (r .declarations) (ok .declarations .quotes) (r .assertions) (bools (r .assertions)) (ok .assertions))
+
   pub script-well-sorted : WellSorted (scriptOf r)
   unfolding scriptOf
-  script-well-sorted = record {
-    logicKnown = logic-known (r .declarations .functions) (r .declarations .arrays);
-    admitted = unfold commandsOf in admitted (r .declarations .variables) (r .declarations .arrays) (r .declarations .functions);
-    sensibleSorts = sensible-commands;
-    declaredOnce = rw (names-of-commands (r .declarations)) (ok .apart .once);
-    namesFree = rw (names-of-commands (r .declarations)) (ok .names);
-    assertionsBool = assertions-bool (r .assertions) (ok .assertions);
-  }
+  script-well-sorted = sorted-with (r .declarations) (ok .declarations) (termsOf (r .assertions)) (assertions-bool (r .assertions) (ok .assertions))
 
   -- ---------------------------------------------------------------- the text is read as the reading
 
   pub script-means : ScriptMeans (scriptOf r) r
   unfolding scriptOf
-  script-means = record {
-    declares = declared-commands (r .declarations);
-    asserts = means-terms (r .declarations) (r .assertions) (bools (r .assertions)) (ok .assertions);
-  }
+  script-means = means-with r (termsOf (r .assertions)) (means-terms (r .declarations) (r .assertions) (bools (r .assertions)) (ok .assertions))
 
   pub render-reads : Reads (render r) r
-  render-reads = record { tokens = scriptTokens (scriptOf r); script = scriptOf r; lexed = lex-script r ok; parsed = refl; means = script-means }
+  render-reads = record { tokens = scriptTokens (scriptOf r); script = scriptOf r; lexed = lex-script; parsed = refl; means = script-means }

@@ -1,10 +1,10 @@
 -- The term of a tree that fits has the tree's sort by the standard's ranks.
-use Prim.Native.Nat.{ℕ, zero, suc, _+_, _-_, _<_}
+use Prim.Native.Nat.{ℕ}
 use mathlib.Core.Path.{_≡_, refl, ap, sym, _∙_, subst}
-use mathlib.Core.List.{List, [], _∷_, _++_, map}
-use mathlib.Core.Bool.{Bool, true, false, _&&_, not, cond}
+use mathlib.Core.List.{List, [], _∷_, _++_, map, map-map, map-append}
+use mathlib.Core.Bool.{true, false, _&&_, not}
 use mathlib.Core.Option.{Option, none, some}
-use mathlib.Core.Logic.{_⊎_, inl, inr}
+use mathlib.Core.Logic.{inl, inr}
 use lib.Dec.{T, ltb, eqb, eqb-refl, lt→ltb, T-not}
 use lib.ListN.{length, getD}
 use Rattle.lists.specs.Bytes.{bytes}
@@ -29,22 +29,10 @@ use Rattle.reading.specs.Trees.{
   Function,
   Declarations,
 }
-use Rattle.smtlib.specs.Grammar.{
-  bitVec,
-  array,
-  Sort,
-  Operator,
-  plain,
-  indexed,
-  Term,
-  Terms,
-  none as noTerms,
-  more as moreTerms,
-  Declaration,
-  declareConst,
-  declareFun,
-}
-use Rattle.smtlib.specs.Readings.{builtIn, operators, listed, variableNames, arrayNames, functionNames, declaredNames, Apart}
+use Rattle.smtlib.specs.Grammar.{bitVec, array, Sort, Operator, plain, indexed, Declaration, declareConst, declareFun}
+use Rattle.smtlib.specs.Scopes.{Scope, boundTo, boundNames, hides}
+use Rattle.smtlib.specs.ScopeLaws.{bound-none, not-hidden}
+use Rattle.smtlib.specs.Readings.{builtIn, functionNames, declaredNames, Apart}
 use Rattle.smtlib.specs.ReadsUnique.{select-built-in, store-built-in, operator-built-in}
 use Rattle.smtlib.specs.Sorts.{
   TermSort,
@@ -70,11 +58,26 @@ use Rattle.smtlib.specs.Sorts.{
   sortApplied,
   bothSorts,
   sortOver,
-  sortOf,
-  sortsOf,
+  sortIn,
+  sortsIn,
 }
-use Rattle.echo_spec.specs.Render.{symbolOf, binaryDigits}
-use Rattle.theorems.specs.Terms.{operatorOf, applied, termOf, termsOf, arrayTerm, Fits, FitsAll, FitsStores}
+use Rattle.echo_spec.specs.Render.{symbolOf}
+use Rattle.theorems.specs.Terms.{
+  operatorOf,
+  applied,
+  termOf,
+  termsOf,
+  arrayTerm,
+  FitsVariable,
+  FitsIn,
+  FitsAllIn,
+  FitsStoresIn,
+  Fresh,
+  array-declared,
+  function-declared,
+  in-arrays,
+  in-functions,
+}
 use Rattle.theorems.specs.Texts.{length-digits}
 
 -- ---------------------------------------------------------------- declarations, as a script has them
@@ -112,23 +115,15 @@ declaration-missing (x ∷ ds) n f =
     rw (no→false (same n (nameOf x)) (λ q. f (or-l (same n (nameOf x)) (inList n (map nameOf ds)) q)))
     (declaration-missing ds n (λ q. f (or-r (same n (nameOf x)) (inList n (map nameOf ds)) q)))
 
-map-map : {A B C : Type 0} (f : A → B) (g : B → C) (xs : List A) → map g (map f xs) ≡ map (λ (x : A). g (f x)) xs
-map-map f g [] = refl
-map-map f g (x ∷ xs) = ap (λ (ys : List _). g (f x) ∷ ys) (map-map f g xs)
-
-map-append : {A B : Type 0} (f : A → B) (xs ys : List A) → map f (xs ++ ys) ≡ map f xs ++ map f ys
-map-append f [] ys = refl
-map-append f (x ∷ xs) ys = ap (λ (zs : List _). f x ∷ zs) (map-append f xs ys)
-
 pub names-of-commands : (D : Declarations) → map nameOf (commandsOf D) ≡ declaredNames D
 unfolding commandsOf
 names-of-commands D =
     rw (
       map-append nameOf (map declareVariable (D .variables)) (map declareArray (D .arrays) ++ map declareFunction (D .functions)),
       map-append nameOf (map declareArray (D .arrays)) (map declareFunction (D .functions)),
-      map-map declareVariable nameOf (D .variables),
-      map-map declareArray nameOf (D .arrays),
-      map-map declareFunction nameOf (D .functions),
+      map-map nameOf declareVariable (D .variables),
+      map-map nameOf declareArray (D .arrays),
+      map-map nameOf declareFunction (D .functions),
     )
 
 -- ---------------------------------------------------------------- sorts
@@ -229,39 +224,68 @@ module _ (D : Declarations) (apart : Apart D) where
       ∙ result-sort storing [] (bitsArray i v ∷ bits i ∷ bits v ∷ []) refl refl
       (and-T (sensible (bitsArray i v)) _ h (and-T (ltb 0 i) _ (and-0 (ltb 0 i) (ltb 0 v) h) (and-T (ltb 0 v) true (and-1 (ltb 0 i) (ltb 0 v) h) tt))) tt
 
-  mutual
-    unfolding sortOf bothSorts sortOver termOf applied
+  module _ (E : Scope TermSort) (fresh : Fresh D (boundNames E)) where
+    theory-shown : (w : Name) (ks : List ℕ) → T (inList w builtIn) → hides E (operatorOf w ks) ≡ false
+    unfolding operatorOf
+    theory-shown w [] h = not-hidden E (plain w) (λ q. fresh .foreign w q h)
+    theory-shown w (k ∷ ks) h = not-hidden E (indexed w k ks) (λ q. fresh .foreign w q h)
 
-    pub sort-of-term : (t : Tree) (s : TermSort) → Fits D t s → sortOf ds (termOf t) ≡ some s
-    sort-of-term (variable n) s h = sort-of-name n (declareConst n (bitVec (h .0))) [] (found-variable n (h .0) (h .1)) ∙ ap some (sym (h .2))
-    sort-of-term (constant bs) s h = rw (length-digits bs, T→true (ltb 0 (length bs)) (lt→ltb 0 (length bs) (h .0))) (ap some (sym (h .2)))
-    sort-of-term (apply k ks ts) s h =
-        sort-of-applied ts (h .0) (h .1) [] (operatorOf (symbolOf k) ks) (h .2)
-        ∙ theory-sort (symbolOf k) ks (h .0 ∷ h .1) (operator-built-in (symbolOf k) k (length ks) _ (h .4)) ∙ h .5
-    sort-of-term (select a j ss) s h =
-        rw (sort-of-array ss a (h .0) (h .1) (h .2) (h .3) (h .5), sort-of-term j (bits (h .0)) (h .4)) (select-sort (h .0) (h .1) (h .3) ∙ ap some (sym (h .6)))
-    sort-of-term (call n ts) s h = sort-of-call ts (h .0) n (h .1) (h .2) (h .3) ∙ ap some (sym (h .4))
+    symbol-shown : (w : Name) → T (inList w builtIn) → hides E (plain w) ≡ false
+    symbol-shown w h = not-hidden E (plain w) (λ q. fresh .foreign w q h)
 
-    pub sort-of-applied : (ts : Trees) (u : TermSort) (us : List TermSort) (n : Name) (o : Operator) → FitsAll D ts (u ∷ us)
-        → sortOf ds (applied n o (termsOf ts)) ≡ sortApplied ds o (u ∷ us)
-    sort-of-applied noTrees u us n o h = absurd h
-    sort-of-applied (more t ts) u us n o h = rw (sort-of-term t u (h .0), sort-of-terms ts us (h .1))
+    function-shown : (n : Name) → T (inList n (functionNames D)) → hides E (plain n) ≡ false
+    function-shown n h = not-hidden E (plain n) (λ q. fresh .undeclared n q (in-functions D n h))
 
-    pub sort-of-call : (ts : Trees) (ws : List ℕ) (n : Name) (w : ℕ) → Member (record { name = n; arguments = ws; width = w }) (D .functions)
-        → FitsAll D ts (map bits ws) → sortOf ds (applied n (plain n) (termsOf ts)) ≡ some (bits w)
-    sort-of-call noTrees [] n w q h = function-sort n [] w q
-    sort-of-call noTrees (v ∷ ws) n w q h = absurd h
-    sort-of-call (more t ts) [] n w q h = absurd h
-    sort-of-call (more t ts) (v ∷ ws) n w q h = rw (sort-of-term t (bits v) (h .0), sort-of-terms ts (map bits ws) (h .1)) (function-sort n (v ∷ ws) w q)
+    name-unbound : (n : Name) → T (inList n (declaredNames D)) → boundTo E n ≡ none
+    name-unbound n h = bound-none E n (λ q. fresh .undeclared n q h)
 
-    pub sort-of-terms : (ts : Trees) (us : List TermSort) → FitsAll D ts us → sortsOf ds (termsOf ts) ≡ some us
-    sort-of-terms noTrees [] h = refl
-    sort-of-terms noTrees (u ∷ us) h = absurd h
-    sort-of-terms (more t ts) [] h = absurd h
-    sort-of-terms (more t ts) (u ∷ us) h = rw (sort-of-term t u (h .0), sort-of-terms ts us (h .1))
+    sort-of-unbound : (n : Name) (s : TermSort) → boundTo E n ≡ none → sortApplied ds (plain n) [] ≡ some s
+        → elim (boundTo E n) [ none ↦ sortApplied ds (plain n) [] | some u ↦ some u ] ≡ some s
+    sort-of-unbound n s e h =
+        subst (λ (o : Option TermSort). elim o [ none ↦ sortApplied ds (plain n) [] | some u ↦ some u ] ≡ some s) (sym e) h
 
-    pub sort-of-array : (ss : Stores) (a : Name) (i v : ℕ) → Member (record { name = a; index = i; value = v }) (D .arrays) → T (sensible (bitsArray i v))
-        → FitsStores D ss i v → sortOf ds (arrayTerm a ss) ≡ some (bitsArray i v)
-    sort-of-array base a i v q g h = array-sort a i v q
-    sort-of-array (store x y ss) a i v q g h =
-        rw (sort-of-array ss a i v q g (h .2), sort-of-term x (bits i) (h .0), sort-of-term y (bits v) (h .1)) (store-sort i v g)
+    sort-of-variable : (n : Name) (s : TermSort) → FitsIn D E (variable n) s
+        → elim (boundTo E n) [ none ↦ sortApplied ds (plain n) [] | some u ↦ some u ] ≡ some s
+    sort-of-variable n s h = by-bound (boundTo E n) h
+      where
+        by-bound : (o : Option TermSort) → elim o as (λ _. Type 0) [ none ↦ FitsVariable D n s | some u ↦ s ≡ u ]
+            → elim o [ none ↦ sortApplied ds (plain n) [] | some u ↦ some u ] ≡ some s
+        by-bound none h = sort-of-name n (declareConst n (bitVec (h .0))) [] (found-variable n (h .0) (h .1)) ∙ ap some (sym (h .2))
+        by-bound (some u) h = ap some (sym h)
+
+    mutual
+      unfolding sortIn bothSorts sortOver termOf applied
+
+      pub sort-of-term : (t : Tree) (s : TermSort) → FitsIn D E t s → sortIn ds E (termOf t) ≡ some s
+      sort-of-term (variable n) s h = sort-of-variable n s h
+      sort-of-term (constant bs) s h = rw (length-digits bs, T→true (ltb 0 (length bs)) (lt→ltb 0 (length bs) (h .0))) (ap some (sym (h .2)))
+      sort-of-term (apply k ks ts) s h =
+          sort-of-applied ts (h .0) (h .1) [] (operatorOf (symbolOf k) ks) (theory-shown (symbolOf k) ks (operator-built-in (symbolOf k) k (length ks) _ (h .4))) (h .2)
+          ∙ theory-sort (symbolOf k) ks (h .0 ∷ h .1) (operator-built-in (symbolOf k) k (length ks) _ (h .4)) ∙ h .5
+      sort-of-term (select a j ss) s h =
+          rw (symbol-shown (bytes "select") select-built-in, sort-of-array ss a (h .0) (h .1) (h .2) (h .3) (h .5), sort-of-term j (bits (h .0)) (h .4)) (select-sort (h .0) (h .1) (h .3) ∙ ap some (sym (h .6)))
+      sort-of-term (call n ts) s h = sort-of-call ts (h .0) n (h .1) (h .2) (h .3) ∙ ap some (sym (h .4))
+
+      pub sort-of-applied : (ts : Trees) (u : TermSort) (us : List TermSort) (n : Name) (o : Operator) → hides E o ≡ false → FitsAllIn D E ts (u ∷ us)
+          → sortIn ds E (applied n o (termsOf ts)) ≡ sortApplied ds o (u ∷ us)
+      sort-of-applied noTrees u us n o z h = absurd h
+      sort-of-applied (more t ts) u us n o z h = rw (z, sort-of-term t u (h .0), sort-of-terms ts us (h .1))
+
+      pub sort-of-call : (ts : Trees) (ws : List ℕ) (n : Name) (w : ℕ) → Member (record { name = n; arguments = ws; width = w }) (D .functions)
+          → FitsAllIn D E ts (map bits ws) → sortIn ds E (applied n (plain n) (termsOf ts)) ≡ some (bits w)
+      sort-of-call noTrees [] n w q h = sort-of-unbound n (bits w) (name-unbound n (in-functions D n (function-declared D n [] w q))) (function-sort n [] w q)
+      sort-of-call noTrees (v ∷ ws) n w q h = absurd h
+      sort-of-call (more t ts) [] n w q h = absurd h
+      sort-of-call (more t ts) (v ∷ ws) n w q h = rw (function-shown n (function-declared D n (v ∷ ws) w q), sort-of-term t (bits v) (h .0), sort-of-terms ts (map bits ws) (h .1)) (function-sort n (v ∷ ws) w q)
+
+      pub sort-of-terms : (ts : Trees) (us : List TermSort) → FitsAllIn D E ts us → sortsIn ds E (termsOf ts) ≡ some us
+      sort-of-terms noTrees [] h = refl
+      sort-of-terms noTrees (u ∷ us) h = absurd h
+      sort-of-terms (more t ts) [] h = absurd h
+      sort-of-terms (more t ts) (u ∷ us) h = rw (sort-of-term t u (h .0), sort-of-terms ts us (h .1))
+
+      pub sort-of-array : (ss : Stores) (a : Name) (i v : ℕ) → Member (record { name = a; index = i; value = v }) (D .arrays) → T (sensible (bitsArray i v))
+          → FitsStoresIn D E ss i v → sortIn ds E (arrayTerm a ss) ≡ some (bitsArray i v)
+      sort-of-array base a i v q g h = sort-of-unbound a (bitsArray i v) (name-unbound a (in-arrays D a (array-declared D a i v q))) (array-sort a i v q)
+      sort-of-array (store x y ss) a i v q g h =
+          rw (symbol-shown (bytes "store") store-built-in, sort-of-array ss a i v q g (h .2), sort-of-term x (bits i) (h .0), sort-of-term y (bits v) (h .1)) (store-sort i v g)

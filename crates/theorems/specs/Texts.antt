@@ -3,7 +3,7 @@ use Prim.Native.Nat.{ℕ, zero, suc, _+_, _-_, _*_, _/_, _%_, _≤_, _<_}
 use mathlib.Core.Path.{_≡_, refl, ap, sym, _∙_, subst}
 use mathlib.Core.List.{List, [], _∷_, _++_, map, append-assoc}
 use mathlib.Core.Bool.{Bool, true, false, not}
-use mathlib.Core.Option.{some}
+use mathlib.Core.Option.{Option, none as nothing, some}
 use native.Mathlib.Nat.{div-add-mod'}
 use native.Mathlib.Omega.{arith}
 use lib.Dec.{T, leb, ltb, eqb, le→leb, leb→le, ltb→lt, nltb→le, not-T, eqb→eq}
@@ -12,7 +12,7 @@ use Rattle.lists.specs.Bytes.{bytes}
 use Rattle.lists.specs.Tests.{inList, All, and-T, all-append, true→T, in-left, in-right}
 use Rattle.lists.specs.Member.{Member}
 use Rattle.reading.specs.Trees.{Name, Tree, variable, constant, apply, select, call, Trees, none, more, Stores, base, store, Variable, Array, Function, Declarations}
-use Rattle.smtlib.specs.Lexicon.{digit, quotable, binaryDigit, Token, open⁽, close⁾, underscore, numeral, binary, symbol, Begins, valueFrom, NoLeadingZero, Numeral, Binary, Lex}
+use Rattle.smtlib.specs.Lexicon.{digit, quotable, binaryDigit, Token, open⁽, close⁾, numeral, binary, symbol, Begins, valueFrom, NoLeadingZero, Numeral, Binary, Lex}
 use Rattle.smtlib.specs.Grammar.{
   Operator,
   plain,
@@ -26,10 +26,12 @@ use Rattle.smtlib.specs.Grammar.{
   termsTokens,
 }
 use Rattle.smtlib.specs.LexText.{Next, put-open, put-close, put-space, put-underscore, put-numeral, put-binary, put-quoted, simple-test, put-simple}
+use Rattle.smtlib.specs.Scopes.{Scope, boundTo, boundNames}
+use Rattle.smtlib.specs.ScopeLaws.{bound-some}
 use Rattle.smtlib.specs.Readings.{variableNames, arrayNames, functionNames, declaredNames}
 use Rattle.smtlib.specs.Sorts.{TermSort, bits}
 use Rattle.echo_spec.specs.Render.{symbolOf, decimalDigits, decimal, binaryDigits, quoted, numeralsText, operatorText, callText, term, terms, stores}
-use Rattle.theorems.specs.Terms.{operatorOf, applied, termOf, termsOf, arrayTerm, Fits, FitsAll, FitsStores, variable-declared, array-declared, function-declared}
+use Rattle.theorems.specs.Terms.{operatorOf, applied, termOf, termsOf, arrayTerm, FitsVariable, FitsIn, FitsAllIn, FitsStoresIn, Fresh, variable-declared, array-declared, function-declared}
 
 -- ---------------------------------------------------------------- decimal numerals
 
@@ -153,7 +155,7 @@ put-operator w (n ∷ ks) h r us k =
 
 -- ---------------------------------------------------------------- terms
 
-module _ (D : Declarations) (quotes : (n : Name) → T (inList n (declaredNames D)) → All quotable n) where
+module _ (D : Declarations) (quotes : (n : Name) → T (inList n (declaredNames D)) → All quotable n) (E : Scope TermSort) (fresh : Fresh D (boundNames E)) where
   quotes-variable : (n : Name) → T (inList n (variableNames D)) → All quotable n
   quotes-variable n h = quotes n (in-left n (variableNames D) (arrayNames D ++ functionNames D) h)
 
@@ -163,7 +165,14 @@ module _ (D : Declarations) (quotes : (n : Name) → T (inList n (declaredNames 
   quotes-function : (n : Name) → T (inList n (functionNames D)) → All quotable n
   quotes-function n h = quotes n (in-right n (variableNames D) (arrayNames D ++ functionNames D) (in-right n (arrayNames D) (functionNames D) h))
 
-  lex-applied : (w : Name) (ks : List ℕ) (ts : Trees) (u : TermSort) (us : List TermSort) → FitsAll D ts (u ∷ us) → T (simple-test w)
+  quotes-named : (n : Name) (s : TermSort) → FitsIn D E (variable n) s → All quotable n
+  quotes-named n s h = by-bound (boundTo E n) refl h
+    where
+      by-bound : (o : Option TermSort) → boundTo E n ≡ o → elim o as (λ _. Type 0) [ nothing ↦ FitsVariable D n s | some u ↦ s ≡ u ] → All quotable n
+      by-bound nothing e h = quotes-variable n (variable-declared D n (h .0) (h .1))
+      by-bound (some u) e h = fresh .quotes n (bound-some E n u e)
+
+  lex-applied : (w : Name) (ks : List ℕ) (ts : Trees) (u : TermSort) (us : List TermSort) → FitsAllIn D E ts (u ∷ us) → T (simple-test w)
       → HoldsNext (terms ts) (termsTokens (termsOf ts))
       → Holds (bytes "(" ++ (operatorText w ks ++ (terms ts ++ bytes ")"))) (termTokens (applied [] (operatorOf w ks) (termsOf ts)))
   unfolding bytes termOf applied termTokens
@@ -211,8 +220,8 @@ module _ (D : Declarations) (quotes : (n : Name) → T (inList n (declaredNames 
   mutual
     unfolding term termOf termTokens
 
-    pub lex-term : (t : Tree) (s : TermSort) → Fits D t s → (r : List ℕ) (us : List Token) → Next r us → Lex (term t ++ r) (termTokens (termOf t) ++ us)
-    lex-term (variable n) s h r us k = put-name n (quotes-variable n (variable-declared D n (h .0) (h .1))) r us k
+    pub lex-term : (t : Tree) (s : TermSort) → FitsIn D E t s → (r : List ℕ) (us : List Token) → Next r us → Lex (term t ++ r) (termTokens (termOf t) ++ us)
+    lex-term (variable n) s h r us k = put-name n (quotes-named n s h) r us k
     lex-term (constant bs) s h r us k = simp append-assoc (put-binary (binaryDigits bs) r us (constant-binary bs (h .0) (h .1)) k)
     lex-term (apply m ks ts) s h r us k =
         lex-applied (symbolOf m) ks ts (h .0) (h .1) (h .2) (h .3) (λ r us k. lex-terms ts (h .0 ∷ h .1) (h .2) r us k) r us k
@@ -221,13 +230,13 @@ module _ (D : Declarations) (quotes : (n : Name) → T (inList n (declaredNames 
     lex-term (call n ts) s h r us k =
         lex-call n ts (quotes-function n (function-declared D n (h .0) (h .1) (h .2))) (λ r us k. lex-terms ts (map bits (h .0)) (h .3) r us k) r us k
 
-    pub lex-terms : (ts : Trees) (vs : List TermSort) → FitsAll D ts vs → (r : List ℕ) (us : List Token) → Next r us → Next (terms ts ++ r) (termsTokens (termsOf ts) ++ us)
+    pub lex-terms : (ts : Trees) (vs : List TermSort) → FitsAllIn D E ts vs → (r : List ℕ) (us : List Token) → Next r us → Next (terms ts ++ r) (termsTokens (termsOf ts) ++ us)
     lex-terms none [] h r us k = k
     lex-terms none (v ∷ vs) h r us k = absurd h
     lex-terms (more t ts) [] h r us k = absurd h
     lex-terms (more t ts) (v ∷ vs) h r us k = lex-more t ts (λ r us k. lex-term t v (h .0) r us k) (λ r us k. lex-terms ts vs (h .1) r us k) r us k
 
-    pub lex-stores : (ss : Stores) (a : Name) (i v : ℕ) → Member (record { name = a; index = i; value = v }) (D .arrays) → FitsStores D ss i v
+    pub lex-stores : (ss : Stores) (a : Name) (i v : ℕ) → Member (record { name = a; index = i; value = v }) (D .arrays) → FitsStoresIn D E ss i v
         → (r : List ℕ) (us : List Token) → Next r us → Lex (stores a ss ++ r) (termTokens (arrayTerm a ss) ++ us)
     lex-stores base a i v q h r us k = put-name a (quotes-array a (array-declared D a i v q)) r us k
     lex-stores (store x y ss) a i v q h r us k =

@@ -11,9 +11,10 @@ use Rattle.lists.specs.Tests.{every}
 use Rattle.echo_spec.specs.Shapes.{shapeOf, operandCount}
 use Rattle.echo_spec.specs.Input.{Node, shape, nodeEncoded}
 use Rattle.blast_kernel.specs.Codes.{counted, at-most-four}
-use Rattle.blast_kernel.specs.Every.{and-true}
-use Rattle.blast_kernel.proofs.Tables.{has-one}
-use Rattle.blast_kernel.specs.Records.{nodeOf, unused}
+use Rattle.lists.specs.Tests.{and-true}
+use Rattle.blast_kernel.proofs.KindTables.{has-one}
+use Rattle.lent.specs.Records.{nodeOf}
+use Rattle.blast_kernel.specs.Records.{unused}
 use borrow.Author.Needs.{needs}
 use Rattle.blast_kernel.proofs.node_encoded.Statement.{statement}
 use Rattle.blast_kernel.proofs.node_encoded.Tie as tie

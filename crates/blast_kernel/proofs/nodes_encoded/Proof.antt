@@ -8,7 +8,7 @@ use borrow.Author.Tests.{not-true, not-false}
 use lib.ListN.{length, getD}
 use Rattle.echo_spec.specs.Input.{no-node, nodesOf, nodeEncoded}
 use Rattle.blast_kernel.specs.Every.{Left, left-start, left-next, left-fails, left-ends}
-use Rattle.blast_kernel.specs.Records.{nodes-length, nodes-at}
+use Rattle.lent.specs.Records.{nodes-length, nodes-at}
 use Rattle.blast_kernel.proofs.nodes_encoded.Statement.{statement}
 use Rattle.blast_kernel.proofs.nodes_encoded.Tie as tie
 

@@ -1,6 +1,6 @@
 -- `blast_kernel::operand_count` meets its contract, an arm at a time. Assumes nothing.
 use Rattle.echo_spec.specs.Shapes.{operandCount}
-use Rattle.blast_kernel.proofs.Tables.{count-at, count-past}
+use Rattle.blast_kernel.proofs.KindTables.{count-at, count-past}
 use Rattle.blast_kernel.proofs.operand_count.Statement.{statement}
 use Rattle.blast_kernel.proofs.operand_count.Tie as tie
 

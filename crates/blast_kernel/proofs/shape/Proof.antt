@@ -1,7 +1,7 @@
 -- `blast_kernel::shape` meets its contract, an arm at a time. Assumes nothing.
 use Rattle.echo_spec.specs.Shapes.{shapes}
 use Rattle.blast_kernel.specs.Codes.{codeOf}
-use Rattle.blast_kernel.proofs.Tables.{shape-at, shape-past}
+use Rattle.blast_kernel.proofs.KindTables.{shape-at, shape-past}
 use Rattle.blast_kernel.proofs.shape.Statement.{statement}
 use Rattle.blast_kernel.proofs.shape.Tie as tie
 

@@ -1,7 +1,7 @@
 use mathlib.Core.Path.{refl, sym}
 use lib.Dec.{eqb}
 use borrow.Author.Tests.{eq-eqb, ne-eqb}
-use Rattle.blast_kernel.specs.Every.{and-true}
+use Rattle.lists.specs.Tests.{and-true}
 use Rattle.blast_kernel.proofs.two_zero.Statement.{statement}
 use Rattle.blast_kernel.proofs.two_zero.Tie as tie
 

@@ -20,21 +20,21 @@ abbrev μ-loop : tie.MeasureT-loop
 loop-holds : tie.Need-loop-holds Inv-loop μ-loop
 loop-holds c = left-start _ _
 
-mul-width-at : tie.Need-mul-width-at Inv-loop μ-loop
-mul-width-at c = search needs
+mul-get : tie.Need-mul-get Inv-loop μ-loop
+mul-get c = search needs
 
-shared-slice-read-width-at : tie.Need-shared-slice-read-width-at Inv-loop μ-loop
-shared-slice-read-width-at c = search needs
+shared-slice-read-get : tie.Need-shared-slice-read-get Inv-loop μ-loop
+shared-slice-read-get c = search needs
 
-width-at-requires : tie.Need-width-at-requires Inv-loop μ-loop
-width-at-requires c κs = search needs
+get-requires : tie.Need-get-requires Inv-loop μ-loop
+get-requires c κs = search needs
 
 returns : tie.Need-returns Inv-loop μ-loop
 returns c =
     let args = c .before .before .before .before .before .before .before .args in
-    let width-at = c .before .width-at in
+    let get = c .before .get in
     sym
-    (left-fails (hasWidth (args .ws .now)) 0 (c .before .before .before .before .loop .inv) (search needs) (ap (ltb 0) (sym (width-at .ensures)) ∙ le-ltb 0 (width-at .result) (omega arith)))
+    (left-fails (hasWidth (args .ws .now)) 0 (c .before .before .before .before .loop .inv) (search needs) (ap (ltb 0) (sym (get .ensures)) ∙ le-ltb 0 (get .result) (omega arith)))
 
 add-i : tie.Need-add-i Inv-loop μ-loop
 add-i c = search needs
@@ -45,9 +45,9 @@ loop-less c = search needs
 loop-again : tie.Need-loop-again Inv-loop μ-loop
 loop-again c =
     let args = c .before .before .before .before .before .before .before .args in
-    let width-at = c .before .width-at in
+    let get = c .before .get in
     left-next (hasWidth (args .ws .now)) 0 (c .before .before .before .before .loop .inv) (search needs)
-    (ap (ltb 0) (sym (width-at .ensures)) ∙ lt-ltb 0 (width-at .result) (omega arith))
+    (ap (ltb 0) (sym (get .ensures)) ∙ lt-ltb 0 (get .result) (omega arith))
 
 returns-2 : tie.Need-returns-2 Inv-loop μ-loop
 returns-2 c = sym (left-ends (hasWidth (c .before .before .before .before .args .ws .now)) 0 (c .before .loop .inv) (search needs))
@@ -59,9 +59,9 @@ have-widths-spec =
     Inv-loop
     μ-loop
     loop-holds
-    mul-width-at
-    shared-slice-read-width-at
-    width-at-requires
+    mul-get
+    shared-slice-read-get
+    get-requires
     returns
     add-i
     loop-less

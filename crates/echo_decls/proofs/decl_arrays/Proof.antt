@@ -1,46 +1,55 @@
 -- `echo_decls::decl_arrays` meets its contract: at the loop's test, the lines of the first k arrays are written. Assumes nothing.
 use Prim.Native.Nat.{_-_, _≤_}
-use mathlib.Core.Path.{_≡_, sym, ap, _∙_}
+use mathlib.Core.Path.{_≡_}
 use native.Mathlib.Omega.{arith}
-use borrow.Author.Needs.{needs}
 use lib.ListN.{length}
-use Rattle.echo_bytes.specs.Laws.{written-nil, written-then, length-written}
-use Rattle.echo_bytes.specs.Page.{Page, page, written}
-use Rattle.echo_decls.specs.Lines.{linesTo, lines-more}
-use Rattle.echo_decls.specs.Tables.{arrayLine, arrayLines}
+use Rattle.echo_spec.specs.Input.{dagOf}
+use Rattle.echo_bytes.specs.Page.{page}
+use Rattle.lent.specs.Lent.{problemAt, dagAt}
+use Rattle.echo_decls.specs.NumberedLines.{LinesWritten, none-written, more-written, length-kept}
+use Rattle.echo_decls.specs.DeclaredLines.{arrayLine, arrays-written}
+use borrow.Author.Needs.{needs}
 use Rattle.echo_decls.proofs.decl_arrays.Statement.{statement}
 use Rattle.echo_decls.proofs.decl_arrays.Tie as tie
 
 abbrev Inv-loop : tie.InvT-loop
-Inv-loop anames aname-start aname-len out₀ n q₀ k₀ out q k = (page q out ≡ written (page q₀ out₀) (linesTo (arrayLine anames aname-start aname-len) k)) × (k ≤ length aname-start)
+Inv-loop bytes numbers out₀ n q₀ k₀ out q k = (n ≡ length (problemAt bytes numbers .aname-start)) × (k ≤ n) × LinesWritten (arrayLine (dagAt bytes numbers)) k (page q₀ out₀) (page q out)
 
 abbrev μ-loop : tie.MeasureT-loop
-μ-loop anames aname-start aname-len out₀ n q₀ k₀ out q k = length aname-start - k
+μ-loop bytes numbers out₀ n q₀ k₀ out q k = n - k
+
+element-copy-out-count : tie.Need-element-copy-out-count Inv-loop μ-loop
+element-copy-out-count c = search needs
+
+count-requires : tie.Need-count-requires Inv-loop μ-loop
+count-requires c κs = search needs
 
 loop-holds : tie.Need-loop-holds Inv-loop μ-loop
-unfolding linesTo
-loop-holds c = (sym (written-nil _ (omega arith)), omega arith)
+loop-holds c = (c .count .ensures, omega arith, none-written _ _ (omega arith))
 
 push-array-requires : tie.Need-push-array-requires Inv-loop μ-loop
-push-array-requires c κs = search needs
+push-array-requires c κs = omega (arith, c .before .before .loop .inv .0)
 
 add-k : tie.Need-add-k Inv-loop μ-loop
-add-k c = omega arith
+add-k c = search needs
 
 loop-less : tie.Need-loop-less Inv-loop μ-loop
-loop-less c = omega arith
+loop-less c = search needs
 
 loop-again : tie.Need-loop-again Inv-loop μ-loop
-loop-again c = (written-then _ _ _ (c .before .before .before .before .before .loop .inv .0) (c .before .before .push-array .ensures) ∙ ap (written _) (lines-more _ _), omega arith)
+loop-again c =
+    let inv = c .before .before .before .before .before .loop .inv in
+    (inv .0, omega arith, more-written (inv .2) (c .before .before .push-array .ensures))
 
 same-length : tie.Need-same-length Inv-loop μ-loop
-same-length c = ap (λ (r : Page). length (r .bytes)) (c .before .loop .inv .0) ∙ length-written _ _
+same-length c = length-kept (c .before .loop .inv .2)
 
 returns : tie.Need-returns Inv-loop μ-loop
-unfolding arrayLines
+unfolding dagOf
 returns c =
-    let e : c .before .loop .k ≡ length (c .before .before .before .before .before .before .args .aname-start .now) = omega arith in
-    c .before .loop .inv .0 ∙ ap (written _) (ap (linesTo _) e)
+    let args = c .before .before .before .before .before .args in
+    let loop = c .before .loop in
+    arrays-written (dagAt (args .bytes .now) (args .numbers .now)) (loop .inv .2) (omega (arith, loop .inv .0))
 
 pub decl-arrays-spec : {M : Type 1} → statement M
 decl-arrays-spec =
@@ -48,6 +57,8 @@ decl-arrays-spec =
     (tie.spec
     Inv-loop
     μ-loop
+    element-copy-out-count
+    count-requires
     loop-holds
     push-array-requires
     add-k

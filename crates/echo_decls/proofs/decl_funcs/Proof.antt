@@ -1,47 +1,55 @@
 -- `echo_decls::decl_funcs` meets its contract: at the loop's test, the lines of the first g functions are written. Assumes nothing.
 use Prim.Native.Nat.{_-_, _≤_}
-use mathlib.Core.Path.{_≡_, sym, ap, _∙_}
+use mathlib.Core.Path.{_≡_}
 use native.Mathlib.Omega.{arith}
 use lib.ListN.{length}
-use Rattle.echo_bytes.specs.Laws.{written-nil, written-then, length-written}
-use Rattle.echo_bytes.specs.Page.{Page, page, written}
-use Rattle.echo_decls.specs.Lines.{linesTo, lines-more}
-use Rattle.echo_decls.specs.Tables.{functionLine, functionLines}
+use Rattle.echo_spec.specs.Input.{dagOf}
+use Rattle.echo_bytes.specs.Page.{page}
+use Rattle.lent.specs.Lent.{problemAt, dagAt}
+use Rattle.echo_decls.specs.NumberedLines.{LinesWritten, none-written, more-written, length-kept}
+use Rattle.echo_decls.specs.DeclaredLines.{functionLine, functions-written}
+use borrow.Author.Needs.{needs}
 use Rattle.echo_decls.proofs.decl_funcs.Statement.{statement}
 use Rattle.echo_decls.proofs.decl_funcs.Tie as tie
 
 abbrev Inv-loop : tie.InvT-loop
-Inv-loop nodes side ws fnames fname-start fname-len func-width first out₀ n q₀ g₀ out q g = (page q out ≡ written (page q₀ out₀) (linesTo (functionLine nodes side ws fnames fname-start fname-len func-width) g)) × (g ≤ length fname-start)
+Inv-loop bytes numbers ws first out₀ n q₀ g₀ out q g = (n ≡ length (problemAt bytes numbers .fname-start)) × (g ≤ n) × LinesWritten (functionLine (dagAt bytes numbers) ws) g (page q₀ out₀) (page q out)
 
 abbrev μ-loop : tie.MeasureT-loop
-μ-loop nodes side ws fnames fname-start fname-len func-width first out₀ n q₀ g₀ out q g = length fname-start - g
+μ-loop bytes numbers ws first out₀ n q₀ g₀ out q g = n - g
+
+element-copy-out-count : tie.Need-element-copy-out-count Inv-loop μ-loop
+element-copy-out-count c = search needs
+
+count-requires : tie.Need-count-requires Inv-loop μ-loop
+count-requires c κs = search needs
 
 loop-holds : tie.Need-loop-holds Inv-loop μ-loop
-unfolding linesTo
-loop-holds c = (sym (written-nil _ (omega arith)), omega arith)
+loop-holds c = (c .count .ensures, omega arith, none-written _ _ (omega arith))
 
 push-func-requires : tie.Need-push-func-requires Inv-loop μ-loop
-push-func-requires c κs =
-    let pre = c .before .before .before .before .before .before .before .before .before .before .before .pre in
-    ((omega arith, pre .0), pre .1)
+push-func-requires c κs = (omega (arith, c .before .before .loop .inv .0), c .before .before .before .before .before .before .before .pre)
 
 add-g : tie.Need-add-g Inv-loop μ-loop
-add-g c = omega arith
+add-g c = search needs
 
 loop-less : tie.Need-loop-less Inv-loop μ-loop
-loop-less c = omega arith
+loop-less c = search needs
 
 loop-again : tie.Need-loop-again Inv-loop μ-loop
-loop-again c = (written-then _ _ _ (c .before .before .before .before .before .loop .inv .0) (c .before .before .push-func .ensures) ∙ ap (written _) (lines-more _ _), omega arith)
+loop-again c =
+    let inv = c .before .before .before .before .before .loop .inv in
+    (inv .0, omega arith, more-written (inv .2) (c .before .before .push-func .ensures))
 
 same-length : tie.Need-same-length Inv-loop μ-loop
-same-length c = ap (λ (r : Page). length (r .bytes)) (c .before .loop .inv .0) ∙ length-written _ _
+same-length c = length-kept (c .before .loop .inv .2)
 
 returns : tie.Need-returns Inv-loop μ-loop
-unfolding functionLines
+unfolding dagOf
 returns c =
-    let e : c .before .loop .g ≡ length (c .before .before .before .before .before .before .before .before .before .before .args .fname-start .now) = omega arith in
-    c .before .loop .inv .0 ∙ ap (written _) (ap (linesTo _) e)
+    let args = c .before .before .before .before .before .before .args in
+    let loop = c .before .loop in
+    functions-written (dagAt (args .bytes .now) (args .numbers .now)) (args .ws .now) (loop .inv .2) (omega (arith, loop .inv .0))
 
 pub decl-funcs-spec : {M : Type 1} → statement M
 decl-funcs-spec =
@@ -49,6 +57,8 @@ decl-funcs-spec =
     (tie.spec
     Inv-loop
     μ-loop
+    element-copy-out-count
+    count-requires
     loop-holds
     push-func-requires
     add-g

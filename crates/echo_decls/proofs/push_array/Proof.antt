@@ -1,25 +1,24 @@
--- `echo_decls::push_array` meets its contract: the name is entry k of the table's names. Assumes nothing.
+-- `echo_decls::push_array` meets its contract. Assumes nothing.
 use mathlib.Core.Path.{ap, _∙_}
-use borrow.Author.Needs.{needs}
+use Rattle.echo_spec.specs.Input.{dagOf}
 use Rattle.echo_bytes.specs.Page.{written}
-use Rattle.echo_decls.proofs.Entries.{array-line}
+use Rattle.lent.specs.Lent.{dagAt}
+use Rattle.echo_decls.specs.DeclaredLines.{array-line}
+use borrow.Author.Needs.{needs}
 use Rattle.echo_decls.proofs.push_array.Statement.{statement}
 use Rattle.echo_decls.proofs.push_array.Tie as tie
 
-mul-part : tie.Need-mul-part
-mul-part c = search needs
+element-copy-out-entry-name : tie.Need-element-copy-out-entry-name
+element-copy-out-entry-name c = search needs
 
-shared-slice-read-part : tie.Need-shared-slice-read-part
-shared-slice-read-part c = search needs
+element-copy-out-entry-name-2 : tie.Need-element-copy-out-entry-name-2
+element-copy-out-entry-name-2 c = search needs
 
-mul-part-2 : tie.Need-mul-part-2
-mul-part-2 c = search needs
+element-copy-out-entry-name-3 : tie.Need-element-copy-out-entry-name-3
+element-copy-out-entry-name-3 c = search needs
 
-shared-slice-read-part-2 : tie.Need-shared-slice-read-part-2
-shared-slice-read-part-2 c = search needs
-
-part-requires : tie.Need-part-requires
-part-requires c κs = search needs
+entry-name-requires : tie.Need-entry-name-requires
+entry-name-requires c κs = search needs
 
 index-width-requires : tie.Need-index-width-requires
 index-width-requires c κs = search needs
@@ -34,22 +33,25 @@ same-length : tie.Need-same-length
 same-length c = search needs
 
 returns : tie.Need-returns
+unfolding dagOf
 returns c =
-    let args = c .before .before .before .before .before .before .before .before .before .before .before .before .before .args in
-    c .before .before .decl-array .ensures
-    ∙ ap (written _)
-    (array-line (args .anames .now) (args .aname-start .now) (args .aname-len .now) (args .k) (c .before .before .before .before .before .before .before .before .before .before .before .before .before .pre .0) (c .before .before .before .before .before .before .part .ensures)
-    (c .before .before .before .before .before .index-width .ensures) (c .before .before .before .before .value-width .ensures))
+    let line = c .before .before in
+    let value = line .before .before in
+    let index = value .before in
+    let name = index .before in
+    let args = name .before .before .before .before .before .args in
+    let d = dagAt (args .bytes .now) (args .numbers .now) in
+    line .decl-array .ensures
+    ∙ ap (written _) (array-line d (args .k) (name .entry-name .ensures) (index .index-width .ensures) (value .value-width .ensures))
 
 pub push-array-spec : {M : Type 1} → statement M
 push-array-spec =
     tie.close
     (tie.spec
-    mul-part
-    shared-slice-read-part
-    mul-part-2
-    shared-slice-read-part-2
-    part-requires
+    element-copy-out-entry-name
+    element-copy-out-entry-name-2
+    element-copy-out-entry-name-3
+    entry-name-requires
     index-width-requires
     value-width-requires
     decl-array-requires

@@ -1,76 +1,99 @@
--- `echo_decls::push_func` meets its contract: the name is entry g of the table's names, and the arguments are those of its first call.
--- Assumes nothing.
-use Prim.Native.Nat.{_+_, _≤_}
-use mathlib.Core.Path.{sym, ap, _∙_, subst}
-use native.Mathlib.Omega.{arith}
-use borrow.Author.Needs.{needs}
-use lib.ListN.{length}
-use Rattle.echo_spec.specs.Input.{Node}
-use Rattle.echo_spec.specs.Tables.{argumentWidths}
+-- `echo_decls::push_func` meets its contract: the arguments are those of the first call, which there is. Assumes nothing.
+use mathlib.Core.Path.{ap, _∙_}
+use Rattle.echo_spec.specs.Input.{dagOf}
 use Rattle.echo_bytes.specs.Page.{written}
-use Rattle.echo_decls.proofs.Entries.{function-line}
+use Rattle.lent.specs.Lent.{dagAt}
+use Rattle.echo_decls.specs.Declarable.{never-absent, call-at, arguments-in}
+use Rattle.echo_decls.specs.DeclaredLines.{function-line}
+use borrow.Author.Needs.{needs}
 use Rattle.echo_decls.proofs.push_func.Statement.{statement}
 use Rattle.echo_decls.proofs.push_func.Tie as tie
 
-mul-part : tie.Need-mul-part
-mul-part c = search needs
+looked-up-requires : tie.Need-looked-up-requires
+looked-up-requires c κs = search needs
 
-shared-slice-read-part : tie.Need-shared-slice-read-part
-shared-slice-read-part c = search needs
+enum-known-c : tie.Need-enum-known-c
+enum-known-c c = search needs
 
-mul-part-2 : tie.Need-mul-part-2
-mul-part-2 c = search needs
+enum-told : tie.Need-enum-told
+enum-told c = search needs
 
-shared-slice-read-part-2 : tie.Need-shared-slice-read-part-2
-shared-slice-read-part-2 c = search needs
+returns : tie.Need-returns
+returns c =
+    let start = c .before .before .before .before .before .before in
+    absurd (never-absent (start .pre .1) (start .args .g) (start .pre .0) _ (c .before .before .looked-up .ensures) (c .enum-told .given .1))
 
-part-requires : tie.Need-part-requires
-part-requires c κs = search needs
+element-copy-out-node-of : tie.Need-element-copy-out-node-of
+element-copy-out-node-of c = search needs
 
-first-call-requires : tie.Need-first-call-requires
-first-call-requires c κs =
-    let args = c .before .before .before .before .before .before .before .before .before .before .before .args in
-    let pre = c .before .before .before .before .before .before .before .before .before .before .before .pre in
-    (omega (arith, pre .0 .0, pre .0 .1), (pre .1 .1 .0, pre .1 .1 .1 .found _ (omega (arith, pre .0 .0))))
+node-of-requires : tie.Need-node-of-requires
+node-of-requires c κs = search needs
 
-mul-decl-func : tie.Need-mul-decl-func
-mul-decl-func c = search needs
+element-copy-out-entry-name : tie.Need-element-copy-out-entry-name
+element-copy-out-entry-name c = search needs
 
-shared-slice-read-decl-func : tie.Need-shared-slice-read-decl-func
-shared-slice-read-decl-func c = search needs
+element-copy-out-entry-name-2 : tie.Need-element-copy-out-entry-name-2
+element-copy-out-entry-name-2 c = search needs
+
+element-copy-out-entry-name-3 : tie.Need-element-copy-out-entry-name-3
+element-copy-out-entry-name-3 c = search needs
+
+entry-name-requires : tie.Need-entry-name-requires
+entry-name-requires c κs = search needs
+
+element-copy-out-decl-func : tie.Need-element-copy-out-decl-func
+element-copy-out-decl-func c = search needs
+
+element-copy-out-get : tie.Need-element-copy-out-get
+element-copy-out-get c = search needs
+
+get-requires : tie.Need-get-requires
+get-requires c κs = search needs
 
 decl-func-requires : tie.Need-decl-func-requires
 decl-func-requires c κs =
-    let args = c .before .before .before .before .before .before .before .before .before .before .before .before .before .before .args in
-    let pre = c .before .before .before .before .before .before .before .before .before .before .before .before .before .before .pre in
-    subst (λ (n : Node). n .c + n .d ≤ length (args .side .now)) (sym (c .before .before .first-call .ensures))
-    (pre .1 .1 .1 .inside _ (omega (arith, pre .0 .0)))
+    let node = c .before .before .before .before .before .before .before .before in
+    let found = node .before .before .before in
+    let looked = found .before .before in
+    let start = looked .before .before .before .before in
+    arguments-in (start .pre .1) (start .args .g) (start .pre .0) _ (looked .looked-up .ensures) (found .c .given .1) (node .node-of .ensures)
 
 same-length : tie.Need-same-length
 same-length c = search needs
 
-returns : tie.Need-returns
-unfolding argumentWidths
-returns c =
-    let args = c .before .before .before .before .before .before .before .before .before .before .before .before .before .before .before .before .before .args in
-    let pre = c .before .before .before .before .before .before .before .before .before .before .before .before .before .before .before .before .before .pre in
-    c .before .before .decl-func .ensures
+returns-2 : tie.Need-returns-2
+unfolding dagOf
+returns-2 c =
+    let line = c .before .before in
+    let width = line .before .before in
+    let name = width .before .before .before in
+    let node = name .before .before .before .before in
+    let found = node .before .before .before in
+    let looked = found .before .before in
+    let start = looked .before .before .before .before in
+    let d = dagAt (start .args .bytes .now) (start .args .numbers .now) in
+    let call = call-at (start .pre .1) (start .args .g) (start .pre .0) _ (looked .looked-up .ensures) (found .c .given .1) in
+    line .decl-func .ensures
     ∙ ap (written _)
-    (function-line (args .fnames .now) (args .fname-start .now) (args .fname-len .now) (args .g) (pre .0 .0) (c .before .before .before .before .before .before .part .ensures)
-    (args .nodes .now) (args .side .now) (args .ws .now) (args .func-width .now) (c .before .before .before .before .before .first-call .ensures))
+    (function-line d (start .args .g) (start .args .ws .now) call (node .node-of .ensures) (name .entry-name .ensures) (width .get .ensures))
 
 pub push-func-spec : {M : Type 1} → statement M
 push-func-spec =
     tie.close
     (tie.spec
-    mul-part
-    shared-slice-read-part
-    mul-part-2
-    shared-slice-read-part-2
-    part-requires
-    first-call-requires
-    mul-decl-func
-    shared-slice-read-decl-func
+    looked-up-requires
+    enum-known-c
+    enum-told
+    returns
+    element-copy-out-node-of
+    node-of-requires
+    element-copy-out-entry-name
+    element-copy-out-entry-name-2
+    element-copy-out-entry-name-3
+    entry-name-requires
+    element-copy-out-decl-func
+    element-copy-out-get
+    get-requires
     decl-func-requires
     same-length
-    returns)
+    returns-2)

@@ -1,56 +1,124 @@
-use mathlib.Core.Path.{refl}
-use native.Mathlib.Omega.{arith}
-use Rattle.lists.specs.Tests.{true→T}
-use Rattle.echo_spec.specs.Input.{Problem}
-use Rattle.sliver_kernel.specs.Pass.{passed-length, passed-within}
-use Rattle.echo_checks.specs.Given.{problemOf}
-use Rattle.echo_kernel.proofs.Checking.{failed, passed, bounds, over-limit, ill-encoded, ill-formed, formed, checks-passed}
 use borrow.Author.Needs.{needs}
 use Rattle.echo_kernel.proofs.checked.Statement.{statement}
 use Rattle.echo_kernel.proofs.checked.Tie as tie
+use native.Mathlib.Omega.{arith}
+use Rattle.lists.specs.Tests.{true→T}
+use Rattle.echo_spec.specs.Input.{Problem}
+use Rattle.lent.specs.Lent.{problemAt}
+use Rattle.sliver_kernel.specs.Pass.{passed-length, passed-within}
+use Rattle.echo_checks.specs.Answered.{passed, failed}
+use Rattle.echo_checks.specs.Limits.{bounds}
+use Rattle.echo_kernel.proofs.Checking.{over-limit, ill-encoded, ill-formed, formed, checks-passed}
 
 -- the problem that is lent
 abbrev P : tie.Start → Problem
-P s =
-    problemOf (s .args .nodes .now) (s .args .bits .now) (s .args .side .now) (s .args .roots .now) (s .args .names .now) (s .args .name-start .now)
-    (s .args .name-len .now) (s .args .var-node .now) (s .args .var-width .now) (s .args .anames .now) (s .args .aname-start .now)
-    (s .args .aname-len .now) (s .args .fnames .now) (s .args .fname-start .now) (s .args .fname-len .now) (s .args .func-width .now)
+P s = problemAt (s .args .bytes .now) (s .args .numbers .now)
 
 within-limits-requires : tie.Need-within-limits-requires
 within-limits-requires c κs = search needs
 
 returns : tie.Need-returns
-returns c = over-limit (P (c .before .before .before .before .before .before .before .before .before .before .before .before .before .before .before .before .before .before .before)) (failed (c .before .within-limits .ensures) refl (c .if1 .taken))
+returns c =
+    let start = c .before .before .before in
+    let within-limits = c .before .within-limits in
+    let if1 = c .if1 in
+    over-limit (P start) (failed (within-limits .ensures) (if1 .taken))
+
+element-copy-out-encoded : tie.Need-element-copy-out-encoded
+element-copy-out-encoded c = search needs
+
+element-copy-out-encoded-2 : tie.Need-element-copy-out-encoded-2
+element-copy-out-encoded-2 c = search needs
 
 encoded-requires : tie.Need-encoded-requires
 encoded-requires c κs = search needs
 
 returns-2 : tie.Need-returns-2
-returns-2 c = ill-encoded (P (c .before .before .before .before .before .before .before .before .before .before .before .before .before .before .before .before .before .before .before .before .before)) (passed (c .before .before .before .within-limits .ensures) refl (c .before .before .if1 .left)) (failed (c .before .encoded .ensures) refl (c .if2 .taken))
+returns-2 c =
+    let start = c .before .before .before .before .before .before .before in
+    let within-limits = c .before .before .before .before .before .within-limits in
+    let if1 = c .before .before .before .before .if1 in
+    let encoded = c .before .encoded in
+    let if2 = c .if2 in
+    ill-encoded (P start) (passed (within-limits .ensures) (if1 .left)) (failed (encoded .ensures) (if2 .taken))
+
+element-copy-out-widths : tie.Need-element-copy-out-widths
+element-copy-out-widths c = search needs
+
+element-copy-out-size : tie.Need-element-copy-out-size
+element-copy-out-size c = search needs
+
+size-requires : tie.Need-size-requires
+size-requires c κs = search needs
+
+element-copy-out-widths-2 : tie.Need-element-copy-out-widths-2
+element-copy-out-widths-2 c = search needs
 
 widths-requires : tie.Need-widths-requires
-widths-requires c κs = bounds (P (c .before .before .before .before .before .before .before .before .before .before .before .before .before .before .before .before .before .before .before .before .before .before)) (true→T (passed (c .before .before .before .before .within-limits .ensures) refl (c .before .before .before .if1 .left))) .nodes
+widths-requires c κs =
+    let start = c .before .before .before .before .before .before .before .before .before .before .before .before in
+    let within-limits = c .before .before .before .before .before .before .before .before .before .before .within-limits in
+    let if1 = c .before .before .before .before .before .before .before .before .before .if1 in
+    bounds (P start) (true→T (passed (within-limits .ensures) (if1 .left))) .nodes
+
+element-copy-out-node-count : tie.Need-element-copy-out-node-count
+element-copy-out-node-count c = search needs
 
 node-count-requires : tie.Need-node-count-requires
 node-count-requires c κs = search needs
 
 returns-3 : tie.Need-returns-3
-returns-3 c = ill-formed (P (c .before .before .before .before .before .before .before .before .before .before .before .before .before .before .before .before .before .before .before .before .before .before .before .before .before)) (passed (c .before .before .before .before .before .before .before .within-limits .ensures) refl (c .before .before .before .before .before .before .if1 .left)) (passed (c .before .before .before .before .before .encoded .ensures) refl (c .before .before .before .before .if2 .left)) (c .before .before .widths .ensures) (omega (arith, c .if3 .taken, c .before .node-count .ensures))
+returns-3 c =
+    let start = c .before .before .before .before .before .before .before .before .before .before .before .before .before .before .before .before in
+    let within-limits = c .before .before .before .before .before .before .before .before .before .before .before .before .before .before .within-limits in
+    let if1 = c .before .before .before .before .before .before .before .before .before .before .before .before .before .if1 in
+    let encoded = c .before .before .before .before .before .before .before .before .before .before .encoded in
+    let if2 = c .before .before .before .before .before .before .before .before .before .if2 in
+    let size = c .before .before .before .before .before .before .size in
+    let widths = c .before .before .before .widths in
+    let node-count = c .before .node-count in
+    let if3 = c .if3 in
+    ill-formed (P start) (passed (within-limits .ensures) (if1 .left)) (passed (encoded .ensures) (if2 .left)) (rw (size .ensures) at (widths .ensures)) (omega (arith, if3 .taken, node-count .ensures))
 
 array-share-prefix-ws : tie.Need-array-share-prefix-ws
-array-share-prefix-ws c = passed-within (c .before .before .widths .ensures)
+array-share-prefix-ws c =
+    let widths = c .before .before .before .widths in
+    passed-within (widths .ensures)
 
 slice-aggregate-tables : tie.Need-slice-aggregate-tables
-slice-aggregate-tables c = passed-length (c .before .before .before .widths .ensures)
+slice-aggregate-tables c =
+    let widths = c .before .before .before .before .widths in
+    passed-length (widths .ensures)
 
 tables-requires : tie.Need-tables-requires
-tables-requires c κs = formed (P (c .before .before .before .before .before .before .before .before .before .before .before .before .before .before .before .before .before .before .before .before .before .before .before .before .before .before .before)) (c .before .before .before .before .widths .ensures) (omega (arith, c .before .before .if3 .left, c .before .before .before .node-count .ensures)) (passed (c .before .before .before .before .before .before .before .before .before .within-limits .ensures) refl (c .before .before .before .before .before .before .before .before .if1 .left)) (passed (c .before .before .before .before .before .before .before .encoded .ensures) refl (c .before .before .before .before .before .before .if2 .left))
+tables-requires c κs =
+    let start = c .before .before .before .before .before .before .before .before .before .before .before .before .before .before .before .before .before .before in
+    let within-limits = c .before .before .before .before .before .before .before .before .before .before .before .before .before .before .before .before .within-limits in
+    let if1 = c .before .before .before .before .before .before .before .before .before .before .before .before .before .before .before .if1 in
+    let encoded = c .before .before .before .before .before .before .before .before .before .before .before .before .encoded in
+    let if2 = c .before .before .before .before .before .before .before .before .before .before .before .if2 in
+    let size = c .before .before .before .before .before .before .before .before .size in
+    let widths = c .before .before .before .before .before .widths in
+    let node-count = c .before .before .before .node-count in
+    let if3 = c .before .before .if3 in
+    formed (P start) (rw (size .ensures) at (widths .ensures)) (omega (arith, if3 .left, node-count .ensures)) (passed (within-limits .ensures) (if1 .left)) (passed (encoded .ensures) (if2 .left))
 
 same-length : tie.Need-same-length
 same-length c = search needs
 
 returns-4 : tie.Need-returns-4
-returns-4 c = checks-passed (P (c .before .before .before .before .before .before .before .before .before .before .before .before .before .before .before .before .before .before .before .before .before .before .before .before .before .before .before .before .before .before)) (passed (c .before .before .before .before .before .before .before .before .before .before .before .before .within-limits .ensures) refl (c .before .before .before .before .before .before .before .before .before .before .before .if1 .left)) (passed (c .before .before .before .before .before .before .before .before .before .before .encoded .ensures) refl (c .before .before .before .before .before .before .before .before .before .if2 .left)) (c .before .before .before .before .before .before .before .widths .ensures) (omega (arith, c .before .before .before .before .before .if3 .left, c .before .before .before .before .before .before .node-count .ensures)) (c .before .before .tables .ensures)
+returns-4 c =
+    let start = c .before .before .before .before .before .before .before .before .before .before .before .before .before .before .before .before .before .before .before .before .before in
+    let within-limits = c .before .before .before .before .before .before .before .before .before .before .before .before .before .before .before .before .before .before .before .within-limits in
+    let if1 = c .before .before .before .before .before .before .before .before .before .before .before .before .before .before .before .before .before .before .if1 in
+    let encoded = c .before .before .before .before .before .before .before .before .before .before .before .before .before .before .before .encoded in
+    let if2 = c .before .before .before .before .before .before .before .before .before .before .before .before .before .before .if2 in
+    let size = c .before .before .before .before .before .before .before .before .before .before .before .size in
+    let widths = c .before .before .before .before .before .before .before .before .widths in
+    let node-count = c .before .before .before .before .before .before .node-count in
+    let if3 = c .before .before .before .before .before .if3 in
+    let tables = c .before .before .tables in
+    checks-passed (P start) (passed (within-limits .ensures) (if1 .left)) (passed (encoded .ensures) (if2 .left)) (rw (size .ensures) at (widths .ensures)) (omega (arith, if3 .left, node-count .ensures)) (tables .ensures)
 
 pub checked-spec : {M : Type 1} → statement M
 checked-spec =
@@ -58,9 +126,16 @@ checked-spec =
     (tie.spec
     within-limits-requires
     returns
+    element-copy-out-encoded
+    element-copy-out-encoded-2
     encoded-requires
     returns-2
+    element-copy-out-widths
+    element-copy-out-size
+    size-requires
+    element-copy-out-widths-2
     widths-requires
+    element-copy-out-node-count
     node-count-requires
     returns-3
     array-share-prefix-ws

@@ -1,23 +1,20 @@
-use Rattle.echo_walk.specs.WroteLaws.{last, both, stop}
-use Rattle.echo_kernel.proofs.Laws.{root-in}
 use borrow.Author.Needs.{needs}
+use Rattle.lists.specs.Bytes.{bytes}
+use Rattle.echo_kernel.proofs.Laws.{root-in}
 use Rattle.echo_kernel.proofs.echo_root.Statement.{statement}
 use Rattle.echo_kernel.proofs.echo_root.Tie as tie
 
 start-requires : tie.Need-start-requires
 start-requires c κs = search needs
 
-open-assert-requires : tie.Need-open-assert-requires
-open-assert-requires c κs = search needs
+slice-aggregate-word : tie.Need-slice-aggregate-word
+slice-aggregate-word c = search needs
+
+word-requires : tie.Need-word-requires
+word-requires c κs = search needs
 
 echo-node-requires : tie.Need-echo-node-requires
-echo-node-requires c κs = c .before .before .before .before .before .before .before .pre
-
-enum-known-e : tie.Need-enum-known-e
-enum-known-e c = search needs
-
-enum-known-r : tie.Need-enum-known-r
-enum-known-r c = search needs
+echo-node-requires c κs = c .before .before .before .before .before .before .before .before .pre
 
 close-line-requires : tie.Need-close-line-requires
 close-line-requires c κs = search needs
@@ -26,25 +23,22 @@ same-length : tie.Need-same-length
 same-length c = search needs
 
 returns : tie.Need-returns
-returns c = root-in _ _ (c .before .before .before .before .before .before .before .before .before .before .before .start .ensures) (c .before .before .before .before .before .before .before .before .before .open-assert .ensures) (stop _ _ (c .before .before .before .before .before .echo-node .ensures) (c .before .e .given .1))
-
-same-length-2 : tie.Need-same-length-2
-same-length-2 c = search needs
-
-returns-2 : tie.Need-returns-2
-returns-2 c = root-in _ _ (c .before .before .before .before .before .before .before .before .before .before .before .before .before .before .before .start .ensures) (c .before .before .before .before .before .before .before .before .before .before .before .before .before .open-assert .ensures) (both _ _ (c .before .before .before .before .before .before .before .before .before .echo-node .ensures) (c .before .before .before .before .before .r .given .1) (last _ (c .before .before .close-line .ensures)))
+unfolding bytes
+returns c =
+    let begun = c .before .before .before .before .before .before .before .before .before .before .before .before .before .start in
+    let word = c .before .before .before .before .before .before .before .before .before .before .word in
+    let node = c .before .before .before .before .before .before .echo-node in
+    let close = c .before .before .close-line in
+    root-in _ _ _ (begun .ensures) (word .ensures) (node .ensures) (close .ensures)
 
 pub echo-root-spec : {M : Type 1} → statement M
 echo-root-spec =
     tie.close
     (tie.spec
     start-requires
-    open-assert-requires
+    slice-aggregate-word
+    word-requires
     echo-node-requires
-    enum-known-e
-    enum-known-r
     close-line-requires
     same-length
-    returns
-    same-length-2
-    returns-2)
+    returns)

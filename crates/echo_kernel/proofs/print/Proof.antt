@@ -1,20 +1,26 @@
-use Rattle.echo_walk.specs.WroteLaws.{last, both, stop}
-use Rattle.echo_kernel.proofs.Printing.{ready, declarable, opened-inside, print-in}
 use borrow.Author.Needs.{needs}
 use Rattle.echo_kernel.proofs.print.Statement.{statement}
 use Rattle.echo_kernel.proofs.print.Tie as tie
+use Rattle.lists.specs.Bytes.{bytes}
+use Rattle.echo_kernel.proofs.Printing.{ready, all-fine, opened-inside, print-in}
+
+symbol-table-requires : tie.Need-symbol-table-requires
+symbol-table-requires c κs = search needs
 
 declare-requires : tie.Need-declare-requires
-declare-requires c κs = declarable (c .before .before .before .before .before .before .before .before .before .before .before .before .before .before .before .before .before .before .before .pre)
+declare-requires c κs =
+    let start = c .before .before .before .before in
+    start .pre .declarable
+
+element-copy-out-echo-roots : tie.Need-element-copy-out-echo-roots
+element-copy-out-echo-roots c = search needs
 
 echo-roots-requires : tie.Need-echo-roots-requires
-echo-roots-requires c κs = (ready (c .before .before .before .before .before .before .before .before .before .before .before .before .before .before .before .before .before .before .before .before .before .before .before .before .before .before .before .before .pre), opened-inside _ _ (c .before .before .before .before .before .before .before .before .declare .ensures))
-
-enum-known-e : tie.Need-enum-known-e
-enum-known-e c = search needs
-
-enum-known-q : tie.Need-enum-known-q
-enum-known-q c = search needs
+echo-roots-requires c κs =
+    let start = c .before .before .before .before .before .before .before .before .before .before .before .before .before in
+    let symbol-table = c .before .before .before .before .before .before .before .before .before .before .symbol-table in
+    let declare = c .before .before .before .before .before .before .before .before .declare in
+    (ready _ _ _ (start .pre) (symbol-table .ensures), all-fine _ _ _ (start .pre), opened-inside _ _ (declare .ensures))
 
 check-sat-requires : tie.Need-check-sat-requires
 check-sat-requires c κs = search needs
@@ -23,24 +29,22 @@ same-length : tie.Need-same-length
 same-length c = search needs
 
 returns : tie.Need-returns
-returns c = print-in _ _ (c .before .before .before .before .before .before .before .before .before .before .before .before .before .before .declare .ensures) (stop _ _ (c .before .before .before .before .before .echo-roots .ensures) (c .before .e .given .1))
-
-same-length-2 : tie.Need-same-length-2
-same-length-2 c = search needs
-
-returns-2 : tie.Need-returns-2
-returns-2 c = print-in _ _ (c .before .before .before .before .before .before .before .before .before .before .before .before .before .before .before .before .before .before .declare .ensures) (both _ _ (c .before .before .before .before .before .before .before .before .before .echo-roots .ensures) (c .before .before .before .before .before .q .given .1) (last _ (c .before .before .check-sat .ensures)))
+returns c =
+    let start = c .before .before .before .before .before .before .before .before .before .before .before .before .before .before .before .before .before .before .before .before in
+    let symbol-table = c .before .before .before .before .before .before .before .before .before .before .before .before .before .before .before .before .before .symbol-table in
+    let declare = c .before .before .before .before .before .before .before .before .before .before .before .before .before .before .before .declare in
+    let echo-roots = c .before .before .before .before .before .before .echo-roots in
+    let check-sat = c .before .before .check-sat in
+    print-in (start .args .ws) (start .args .entries) (start .args .codes) (start .pre) (symbol-table .ensures) _ (declare .ensures) (echo-roots .ensures) (check-sat .ensures)
 
 pub print-spec : {M : Type 1} → statement M
 print-spec =
     tie.close
     (tie.spec
+    symbol-table-requires
     declare-requires
+    element-copy-out-echo-roots
     echo-roots-requires
-    enum-known-e
-    enum-known-q
     check-sat-requires
     same-length
-    returns
-    same-length-2
-    returns-2)
+    returns)

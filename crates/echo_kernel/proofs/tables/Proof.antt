@@ -1,87 +1,196 @@
-use mathlib.Core.Path.{refl}
-use Rattle.lists.specs.Tests.{true→T}
-use Rattle.echo_spec.specs.Input.{Problem, dagOf}
-use Rattle.echo_tables.specs.Asked.{parts-of}
-use Rattle.echo_decls.specs.Calls.{called-of}
-use Rattle.echo_checks.specs.Given.{problemOf}
-use Rattle.echo_checks.specs.Aligned.{columns-of, aligned-of, aligned-names}
-use Rattle.echo_checks.specs.Named.{names-of}
-use Rattle.echo_checks.specs.Declared.{vars-of, functions-of}
-use Rattle.echo_kernel.proofs.Checking.{failed, passed, bounds, bits-binary, bad-columns, bad-names, shared-node, bad-variables, bad-functions, tables-passed}
 use borrow.Author.Needs.{needs}
 use Rattle.echo_kernel.proofs.tables.Statement.{statement}
 use Rattle.echo_kernel.proofs.tables.Tie as tie
+use native.Mathlib.Omega.{arith}
+use Rattle.lists.specs.Tests.{true→T}
+use Rattle.echo_spec.specs.Input.{Problem, dagOf}
+use Rattle.echo_spec.specs.ColumnLaws.{columns-aligned}
+use Rattle.lent.specs.Lent.{problemAt}
+use Rattle.lent.specs.Clearing.{replicate-zeros}
+use Rattle.echo_checks.specs.Answered.{passed, failed}
+use Rattle.echo_checks.specs.Limits.{bounds}
+use Rattle.echo_decls.specs.Declarable.{each-called}
+use Rattle.echo_kernel.proofs.Checking.{bad-columns, bad-names, shared-node, bad-variables, bad-functions, bad-root, walked, tables-passed}
 
 -- the problem that is lent
 abbrev P : tie.Start → Problem
-P s =
-    problemOf (s .args .nodes .now) (s .args .bits .now) (s .args .side .now) (s .args .roots .now) (s .args .names .now) (s .args .name-start .now)
-    (s .args .name-len .now) (s .args .var-node .now) (s .args .var-width .now) (s .args .anames .now) (s .args .aname-start .now)
-    (s .args .aname-len .now) (s .args .fnames .now) (s .args .fname-start .now) (s .args .fname-len .now) (s .args .func-width .now)
+P s = problemAt (s .args .bytes .now) (s .args .numbers .now)
 
 columns-ok-requires : tie.Need-columns-ok-requires
 columns-ok-requires c κs = search needs
 
 returns : tie.Need-returns
-returns c = bad-columns (P (c .before .before .before .before .before .before .before .before .before .before .before .before .before .before .before .before .before .before .before .before)) _ (failed (c .before .columns-ok .ensures) (columns-of (P (c .before .before .before .before .before .before .before .before .before .before .before .before .before .before .before .before .before .before .before .before))) (c .if1 .taken))
+returns c =
+    let start = c .before .before .before .before in
+    let columns-ok = c .before .columns-ok in
+    let if1 = c .if1 in
+    bad-columns (P start) _ (failed (columns-ok .ensures) (if1 .taken))
 
 names-ok-requires : tie.Need-names-ok-requires
-names-ok-requires c κs = aligned-names (P (c .before .before .before .before .before .before .before .before .before .before .before .before .before .before .before .before .before .before .before .before)) (aligned-of (P (c .before .before .before .before .before .before .before .before .before .before .before .before .before .before .before .before .before .before .before .before)) (passed (c .before .columns-ok .ensures) (columns-of (P (c .before .before .before .before .before .before .before .before .before .before .before .before .before .before .before .before .before .before .before .before))) (c .if1 .left)))
+names-ok-requires c κs =
+    let columns-ok = c .before .columns-ok in
+    let if1 = c .if1 in
+    columns-aligned _ (true→T (passed (columns-ok .ensures) (if1 .left)))
 
 returns-2 : tie.Need-returns-2
-returns-2 c = bad-names (P (c .before .before .before .before .before .before .before .before .before .before .before .before .before .before .before .before .before .before .before .before .before .before)) _ (passed (c .before .before .before .columns-ok .ensures) (columns-of (P (c .before .before .before .before .before .before .before .before .before .before .before .before .before .before .before .before .before .before .before .before .before .before))) (c .before .before .if1 .left)) (failed (c .before .names-ok .ensures) (names-of (P (c .before .before .before .before .before .before .before .before .before .before .before .before .before .before .before .before .before .before .before .before .before .before))) (c .if2 .taken))
+returns-2 c =
+    let start = c .before .before .before .before .before .before in
+    let columns-ok = c .before .before .before .columns-ok in
+    let if1 = c .before .before .if1 in
+    let names-ok = c .before .names-ok in
+    let if2 = c .if2 in
+    bad-names (P start) _ (passed (columns-ok .ensures) (if1 .left)) (failed (names-ok .ensures) (if2 .taken))
+
+element-copy-out-unshared : tie.Need-element-copy-out-unshared
+element-copy-out-unshared c = search needs
+
+element-copy-out-unshared-2 : tie.Need-element-copy-out-unshared-2
+element-copy-out-unshared-2 c = search needs
+
+element-copy-out-unshared-3 : tie.Need-element-copy-out-unshared-3
+element-copy-out-unshared-3 c = search needs
 
 unshared-requires : tie.Need-unshared-requires
-unshared-requires c κs = (bounds (P (c .before .before .before .before .before .before .before .before .before .before .before .before .before .before .before .before .before .before .before .before .before .before)) (c .before .before .before .before .before .before .before .before .before .before .before .before .before .before .before .before .before .before .before .before .before .before .pre .within)) .nodes
+unshared-requires c κs =
+    let start = c .before .before .before .before .before .before .before .before .before in
+    bounds (P start) (start .pre .within) .nodes
 
 returns-3 : tie.Need-returns-3
-returns-3 c = shared-node (P (c .before .before .before .before .before .before .before .before .before .before .before .before .before .before .before .before .before .before .before .before .before .before .before .before)) _ (passed (c .before .before .before .before .before .columns-ok .ensures) (columns-of (P (c .before .before .before .before .before .before .before .before .before .before .before .before .before .before .before .before .before .before .before .before .before .before .before .before))) (c .before .before .before .before .if1 .left)) (passed (c .before .before .before .names-ok .ensures) (names-of (P (c .before .before .before .before .before .before .before .before .before .before .before .before .before .before .before .before .before .before .before .before .before .before .before .before))) (c .before .before .if2 .left)) (failed (c .before .unshared .ensures) refl (c .if3 .taken))
+returns-3 c =
+    let start = c .before .before .before .before .before .before .before .before .before .before .before in
+    let columns-ok = c .before .before .before .before .before .before .before .before .columns-ok in
+    let if1 = c .before .before .before .before .before .before .before .if1 in
+    let names-ok = c .before .before .before .before .before .before .names-ok in
+    let if2 = c .before .before .before .before .before .if2 in
+    let unshared = c .before .unshared in
+    let if3 = c .if3 in
+    shared-node (P start) _ (passed (columns-ok .ensures) (if1 .left)) (passed (names-ok .ensures) (if2 .left)) (failed (unshared .ensures) (if3 .taken))
 
 decl-vars-ok-requires : tie.Need-decl-vars-ok-requires
 decl-vars-ok-requires c κs = search needs
 
 returns-4 : tie.Need-returns-4
-returns-4 c = bad-variables (P (c .before .before .before .before .before .before .before .before .before .before .before .before .before .before .before .before .before .before .before .before .before .before .before .before .before .before)) _ (passed (c .before .before .before .before .before .before .before .columns-ok .ensures) (columns-of (P (c .before .before .before .before .before .before .before .before .before .before .before .before .before .before .before .before .before .before .before .before .before .before .before .before .before .before))) (c .before .before .before .before .before .before .if1 .left)) (passed (c .before .before .before .before .before .names-ok .ensures) (names-of (P (c .before .before .before .before .before .before .before .before .before .before .before .before .before .before .before .before .before .before .before .before .before .before .before .before .before .before))) (c .before .before .before .before .if2 .left)) (passed (c .before .before .before .unshared .ensures) refl (c .before .before .if3 .left)) (failed (c .before .decl-vars-ok .ensures) (vars-of (P (c .before .before .before .before .before .before .before .before .before .before .before .before .before .before .before .before .before .before .before .before .before .before .before .before .before .before))) (c .if4 .taken))
+returns-4 c =
+    let start = c .before .before .before .before .before .before .before .before .before .before .before .before .before in
+    let columns-ok = c .before .before .before .before .before .before .before .before .before .before .columns-ok in
+    let if1 = c .before .before .before .before .before .before .before .before .before .if1 in
+    let names-ok = c .before .before .before .before .before .before .before .before .names-ok in
+    let if2 = c .before .before .before .before .before .before .before .if2 in
+    let unshared = c .before .before .before .unshared in
+    let if3 = c .before .before .if3 in
+    let decl-vars-ok = c .before .decl-vars-ok in
+    let if4 = c .if4 in
+    bad-variables (P start) _ (passed (columns-ok .ensures) (if1 .left)) (passed (names-ok .ensures) (if2 .left)) (passed (unshared .ensures) (if3 .left)) (failed (decl-vars-ok .ensures) (if4 .taken))
+
+element-copy-out-first-calls : tie.Need-element-copy-out-first-calls
+element-copy-out-first-calls c = search needs
 
 first-calls-requires : tie.Need-first-calls-requires
 first-calls-requires c κs = search needs
 
 decl-funcs-ok-requires : tie.Need-decl-funcs-ok-requires
-decl-funcs-ok-requires c κs = (bounds (P (c .before .before .before .before .before .before .before .before .before .before .before .before .before .before .before .before .before .before .before .before .before .before .before .before .before .before .before .before .before)) (c .before .before .before .before .before .before .before .before .before .before .before .before .before .before .before .before .before .before .before .before .before .before .before .before .before .before .before .before .before .pre .within)) .functions
+decl-funcs-ok-requires c κs =
+    let start = c .before .before .before .before .before .before .before .before .before .before .before .before .before .before .before .before .before in
+    let first-calls = c .before .first-calls in
+    record { functions = bounds (P start) (start .pre .within) .functions; calls = first-calls .ensures }
 
 returns-5 : tie.Need-returns-5
-returns-5 c = bad-functions (P (c .before .before .before .before .before .before .before .before .before .before .before .before .before .before .before .before .before .before .before .before .before .before .before .before .before .before .before .before .before .before .before)) _ (passed (c .before .before .before .before .before .before .before .before .before .before .before .before .columns-ok .ensures) (columns-of (P (c .before .before .before .before .before .before .before .before .before .before .before .before .before .before .before .before .before .before .before .before .before .before .before .before .before .before .before .before .before .before .before))) (c .before .before .before .before .before .before .before .before .before .before .before .if1 .left)) (passed (c .before .before .before .before .before .before .before .before .before .before .names-ok .ensures) (names-of (P (c .before .before .before .before .before .before .before .before .before .before .before .before .before .before .before .before .before .before .before .before .before .before .before .before .before .before .before .before .before .before .before))) (c .before .before .before .before .before .before .before .before .before .if2 .left)) (passed (c .before .before .before .before .before .before .before .before .unshared .ensures) refl (c .before .before .before .before .before .before .before .if3 .left)) (passed (c .before .before .before .before .before .before .decl-vars-ok .ensures) (vars-of (P (c .before .before .before .before .before .before .before .before .before .before .before .before .before .before .before .before .before .before .before .before .before .before .before .before .before .before .before .before .before .before .before))) (c .before .before .before .before .before .if4 .left)) (failed (c .before .decl-funcs-ok .ensures (dagOf (P (c .before .before .before .before .before .before .before .before .before .before .before .before .before .before .before .before .before .before .before .before .before .before .before .before .before .before .before .before .before .before .before))) (functions-of (P (c .before .before .before .before .before .before .before .before .before .before .before .before .before .before .before .before .before .before .before .before .before .before .before .before .before .before .before .before .before .before .before)) (c .before .before .before .first-calls .ensures))) refl (c .if5 .taken))
+returns-5 c =
+    let start = c .before .before .before .before .before .before .before .before .before .before .before .before .before .before .before .before .before .before .before in
+    let columns-ok = c .before .before .before .before .before .before .before .before .before .before .before .before .before .before .before .before .columns-ok in
+    let if1 = c .before .before .before .before .before .before .before .before .before .before .before .before .before .before .before .if1 in
+    let names-ok = c .before .before .before .before .before .before .before .before .before .before .before .before .before .before .names-ok in
+    let if2 = c .before .before .before .before .before .before .before .before .before .before .before .before .before .if2 in
+    let unshared = c .before .before .before .before .before .before .before .before .before .unshared in
+    let if3 = c .before .before .before .before .before .before .before .before .if3 in
+    let decl-vars-ok = c .before .before .before .before .before .before .before .decl-vars-ok in
+    let if4 = c .before .before .before .before .before .before .if4 in
+    let decl-funcs-ok = c .before .decl-funcs-ok in
+    let if5 = c .if5 in
+    bad-functions (P start) _ (passed (columns-ok .ensures) (if1 .left)) (passed (names-ok .ensures) (if2 .left)) (passed (unshared .ensures) (if3 .left)) (passed (decl-vars-ok .ensures) (if4 .left)) (failed (decl-funcs-ok .ensures) (if5 .taken))
+
+element-copy-out-entries : tie.Need-element-copy-out-entries
+element-copy-out-entries c = search needs
 
 entries-requires : tie.Need-entries-requires
 entries-requires c κs = search needs
 
 mark-requires : tie.Need-mark-requires
-mark-requires c κs = ((bounds (P (c .before .before .before .before .before .before .before .before .before .before .before .before .before .before .before .before .before .before .before .before .before .before .before .before .before .before .before .before .before .before .before .before .before .before .before .before)) (c .before .before .before .before .before .before .before .before .before .before .before .before .before .before .before .before .before .before .before .before .before .before .before .before .before .before .before .before .before .before .before .before .before .before .before .before .pre .within)) .nodes, (bounds (P (c .before .before .before .before .before .before .before .before .before .before .before .before .before .before .before .before .before .before .before .before .before .before .before .before .before .before .before .before .before .before .before .before .before .before .before .before)) (c .before .before .before .before .before .before .before .before .before .before .before .before .before .before .before .before .before .before .before .before .before .before .before .before .before .before .before .before .before .before .before .before .before .before .before .before .pre .within)) .functions)
+unfolding dagOf
+mark-requires c κs =
+    let start = c .before .before .before .before .before .before .before .before .before .before .before .before .before .before .before .before .before .before .before .before .before .before .before .before .before in
+    let first-calls = c .before .before .before .before .before .before .before .before .before .first-calls in
+    let entries2 = c .before .before .before .entries2 in
+    record { lookups = record { nodes = bounds (P start) (start .pre .within) .nodes; functions = bounds (P start) (start .pre .within) .functions; entries = entries2 .ensures; calls = first-calls .ensures }; measured = record { widths = start .pre .widths; counted = start .pre .counted }; cleared = replicate-zeros 2048 }
 
-symbol-table-requires : tie.Need-symbol-table-requires
-symbol-table-requires c κs = search needs
+element-copy-out-roots-refused : tie.Need-element-copy-out-roots-refused
+element-copy-out-roots-refused c = search needs
+
+roots-refused-requires : tie.Need-roots-refused-requires
+unfolding dagOf
+roots-refused-requires c κs =
+    let start = c .before .before .before .before .before .before .before .before .before .before .before .before .before .before .before .before .before .before .before .before .before .before .before .before .before .before .before .before in
+    let mark = c .before .before .mark in
+    record { measured = record { widths = start .pre .widths; counted = start .pre .counted }; marked = mark .ensures }
+
+returns-6 : tie.Need-returns-6
+returns-6 c =
+    let start = c .before .before .before .before .before .before .before .before .before .before .before .before .before .before .before .before .before .before .before .before .before .before .before .before .before .before .before .before .before .before in
+    let columns-ok = c .before .before .before .before .before .before .before .before .before .before .before .before .before .before .before .before .before .before .before .before .before .before .before .before .before .before .before .columns-ok in
+    let if1 = c .before .before .before .before .before .before .before .before .before .before .before .before .before .before .before .before .before .before .before .before .before .before .before .before .before .before .if1 in
+    let names-ok = c .before .before .before .before .before .before .before .before .before .before .before .before .before .before .before .before .before .before .before .before .before .before .before .before .before .names-ok in
+    let if2 = c .before .before .before .before .before .before .before .before .before .before .before .before .before .before .before .before .before .before .before .before .before .before .before .before .if2 in
+    let unshared = c .before .before .before .before .before .before .before .before .before .before .before .before .before .before .before .before .before .before .before .before .unshared in
+    let if3 = c .before .before .before .before .before .before .before .before .before .before .before .before .before .before .before .before .before .before .before .if3 in
+    let decl-vars-ok = c .before .before .before .before .before .before .before .before .before .before .before .before .before .before .before .before .before .before .decl-vars-ok in
+    let if4 = c .before .before .before .before .before .before .before .before .before .before .before .before .before .before .before .before .before .if4 in
+    let decl-funcs-ok = c .before .before .before .before .before .before .before .before .before .before .before .before .decl-funcs-ok in
+    let if5 = c .before .before .before .before .before .before .before .before .before .before .before .if5 in
+    let roots-refused = c .before .roots-refused in
+    let if6 = c .if6 in
+    bad-root (P start) _ (passed (columns-ok .ensures) (if1 .left)) (passed (names-ok .ensures) (if2 .left)) (passed (unshared .ensures) (if3 .left)) (passed (decl-vars-ok .ensures) (if4 .left)) (passed (decl-funcs-ok .ensures) (if5 .left)) _ (roots-refused .ensures) (omega (arith, if6 .taken))
 
 print-requires : tie.Need-print-requires
-print-requires c κs = record {
-  widths = c .before .before .before .before .before .before .before .before .before .before .before .before .before .before .before .before .before .before .before .before .before .before .before .before .before .before .before .before .before .before .before .before .before .before .before .before .before .before .before .before .before .before .before .pre .widths;
-  counted = c .before .before .before .before .before .before .before .before .before .before .before .before .before .before .before .before .before .before .before .before .before .before .before .before .before .before .before .before .before .before .before .before .before .before .before .before .before .before .before .before .before .before .before .pre .counted;
-  few = (bounds (P (c .before .before .before .before .before .before .before .before .before .before .before .before .before .before .before .before .before .before .before .before .before .before .before .before .before .before .before .before .before .before .before .before .before .before .before .before .before .before .before .before .before .before .before)) (c .before .before .before .before .before .before .before .before .before .before .before .before .before .before .before .before .before .before .before .before .before .before .before .before .before .before .before .before .before .before .before .before .before .before .before .before .before .before .before .before .before .before .before .pre .within)) .few;
-  entries = (bounds (P (c .before .before .before .before .before .before .before .before .before .before .before .before .before .before .before .before .before .before .before .before .before .before .before .before .before .before .before .before .before .before .before .before .before .before .before .before .before .before .before .before .before .before .before)) (c .before .before .before .before .before .before .before .before .before .before .before .before .before .before .before .before .before .before .before .before .before .before .before .before .before .before .before .before .before .before .before .before .before .before .before .before .before .before .before .before .before .before .before .pre .within)) .side;
-  functions = (bounds (P (c .before .before .before .before .before .before .before .before .before .before .before .before .before .before .before .before .before .before .before .before .before .before .before .before .before .before .before .before .before .before .before .before .before .before .before .before .before .before .before .before .before .before .before)) (c .before .before .before .before .before .before .before .before .before .before .before .before .before .before .before .before .before .before .before .before .before .before .before .before .before .before .before .before .before .before .before .before .before .before .before .before .before .before .before .before .before .before .before .pre .within)) .functions;
-  binary = bits-binary (P (c .before .before .before .before .before .before .before .before .before .before .before .before .before .before .before .before .before .before .before .before .before .before .before .before .before .before .before .before .before .before .before .before .before .before .before .before .before .before .before .before .before .before .before)) (c .before .before .before .before .before .before .before .before .before .before .before .before .before .before .before .before .before .before .before .before .before .before .before .before .before .before .before .before .before .before .before .before .before .before .before .before .before .before .before .before .before .before .before .pre .encodes);
-  aligned = aligned-of (P (c .before .before .before .before .before .before .before .before .before .before .before .before .before .before .before .before .before .before .before .before .before .before .before .before .before .before .before .before .before .before .before .before .before .before .before .before .before .before .before .before .before .before .before)) (passed (c .before .before .before .before .before .before .before .before .before .before .before .before .before .before .before .before .before .before .before .before .before .before .before .before .columns-ok .ensures) (columns-of (P (c .before .before .before .before .before .before .before .before .before .before .before .before .before .before .before .before .before .before .before .before .before .before .before .before .before .before .before .before .before .before .before .before .before .before .before .before .before .before .before .before .before .before .before))) (c .before .before .before .before .before .before .before .before .before .before .before .before .before .before .before .before .before .before .before .before .before .before .before .if1 .left));
-  marked = c .before .before .before .before .before .before .mark .ensures (dagOf (P (c .before .before .before .before .before .before .before .before .before .before .before .before .before .before .before .before .before .before .before .before .before .before .before .before .before .before .before .before .before .before .before .before .before .before .before .before .before .before .before .before .before .before .before))) (parts-of (P (c .before .before .before .before .before .before .before .before .before .before .before .before .before .before .before .before .before .before .before .before .before .before .before .before .before .before .before .before .before .before .before .before .before .before .before .before .before .before .before .before .before .before .before)) (c .before .before .before .before .before .before .before .before .before .before .entries .ensures) (c .before .before .before .before .before .before .before .before .before .before .before .before .before .before .before .first-calls .ensures));
-  entered = c .before .before .before .before .before .before .before .before .before .before .entries .ensures;
-  symbols-are = c .before .before .before .before .before .symbol-table .ensures;
-  calls = c .before .before .before .before .before .before .before .before .before .before .before .before .before .before .before .first-calls .ensures;
-  called = called-of (P (c .before .before .before .before .before .before .before .before .before .before .before .before .before .before .before .before .before .before .before .before .before .before .before .before .before .before .before .before .before .before .before .before .before .before .before .before .before .before .before .before .before .before .before)) _ (true→T (passed (c .before .before .before .before .before .before .before .before .before .before .before .before .before .decl-funcs-ok .ensures (dagOf (P (c .before .before .before .before .before .before .before .before .before .before .before .before .before .before .before .before .before .before .before .before .before .before .before .before .before .before .before .before .before .before .before .before .before .before .before .before .before .before .before .before .before .before .before))) (functions-of (P (c .before .before .before .before .before .before .before .before .before .before .before .before .before .before .before .before .before .before .before .before .before .before .before .before .before .before .before .before .before .before .before .before .before .before .before .before .before .before .before .before .before .before .before)) (c .before .before .before .before .before .before .before .before .before .before .before .before .before .before .before .first-calls .ensures))) refl (c .before .before .before .before .before .before .before .before .before .before .before .before .if5 .left)));
-}
+print-requires c κs =
+    let start = c .before .before .before .before .before .before .before .before .before .before .before .before .before .before .before .before .before .before .before .before .before .before .before .before .before .before .before .before .before .before .before .before .before .before in
+    let columns-ok = c .before .before .before .before .before .before .before .before .before .before .before .before .before .before .before .before .before .before .before .before .before .before .before .before .before .before .before .before .before .before .before .columns-ok in
+    let if1 = c .before .before .before .before .before .before .before .before .before .before .before .before .before .before .before .before .before .before .before .before .before .before .before .before .before .before .before .before .before .before .if1 in
+    let first-calls = c .before .before .before .before .before .before .before .before .before .before .before .before .before .before .before .before .before .before .first-calls in
+    let decl-funcs-ok = c .before .before .before .before .before .before .before .before .before .before .before .before .before .before .before .before .decl-funcs-ok in
+    let if5 = c .before .before .before .before .before .before .before .before .before .before .before .before .before .before .before .if5 in
+    let entries2 = c .before .before .before .before .before .before .before .before .before .before .before .before .entries2 in
+    let mark = c .before .before .before .before .before .before .before .before .mark in
+    let roots-refused = c .before .before .before .before .before .roots-refused in
+    let if6 = c .before .before .before .before .if6 in
+    record {
+      formed = start .pre;
+      aligned = columns-aligned _ (true→T (passed (columns-ok .ensures) (if1 .left)));
+      marked = mark .ensures;
+      entered = entries2 .ensures;
+      declarable = record { functions = bounds (P start) (start .pre .within) .functions; calls = first-calls .ensures; called = each-called _ _ (true→T (passed (decl-funcs-ok .ensures) (if5 .left))) };
+      walked = walked (roots-refused .ensures) (omega (arith, if6 .left));
+    }
 
 same-length : tie.Need-same-length
 same-length c = search needs
 
-returns-6 : tie.Need-returns-6
-returns-6 c = tables-passed (P (c .before .before .before .before .before .before .before .before .before .before .before .before .before .before .before .before .before .before .before .before .before .before .before .before .before .before .before .before .before .before .before .before .before .before .before .before .before .before .before .before .before .before .before .before .before .before)) _ (passed (c .before .before .before .before .before .before .before .before .before .before .before .before .before .before .before .before .before .before .before .before .before .before .before .before .before .before .before .columns-ok .ensures) (columns-of (P (c .before .before .before .before .before .before .before .before .before .before .before .before .before .before .before .before .before .before .before .before .before .before .before .before .before .before .before .before .before .before .before .before .before .before .before .before .before .before .before .before .before .before .before .before .before .before))) (c .before .before .before .before .before .before .before .before .before .before .before .before .before .before .before .before .before .before .before .before .before .before .before .before .before .before .if1 .left)) (passed (c .before .before .before .before .before .before .before .before .before .before .before .before .before .before .before .before .before .before .before .before .before .before .before .before .before .names-ok .ensures) (names-of (P (c .before .before .before .before .before .before .before .before .before .before .before .before .before .before .before .before .before .before .before .before .before .before .before .before .before .before .before .before .before .before .before .before .before .before .before .before .before .before .before .before .before .before .before .before .before .before))) (c .before .before .before .before .before .before .before .before .before .before .before .before .before .before .before .before .before .before .before .before .before .before .before .before .if2 .left)) (passed (c .before .before .before .before .before .before .before .before .before .before .before .before .before .before .before .before .before .before .before .before .before .before .before .unshared .ensures) refl (c .before .before .before .before .before .before .before .before .before .before .before .before .before .before .before .before .before .before .before .before .before .before .if3 .left)) (passed (c .before .before .before .before .before .before .before .before .before .before .before .before .before .before .before .before .before .before .before .before .before .decl-vars-ok .ensures) (vars-of (P (c .before .before .before .before .before .before .before .before .before .before .before .before .before .before .before .before .before .before .before .before .before .before .before .before .before .before .before .before .before .before .before .before .before .before .before .before .before .before .before .before .before .before .before .before .before .before))) (c .before .before .before .before .before .before .before .before .before .before .before .before .before .before .before .before .before .before .before .before .if4 .left)) (passed (c .before .before .before .before .before .before .before .before .before .before .before .before .before .before .before .before .decl-funcs-ok .ensures (dagOf (P (c .before .before .before .before .before .before .before .before .before .before .before .before .before .before .before .before .before .before .before .before .before .before .before .before .before .before .before .before .before .before .before .before .before .before .before .before .before .before .before .before .before .before .before .before .before .before))) (functions-of (P (c .before .before .before .before .before .before .before .before .before .before .before .before .before .before .before .before .before .before .before .before .before .before .before .before .before .before .before .before .before .before .before .before .before .before .before .before .before .before .before .before .before .before .before .before .before .before)) (c .before .before .before .before .before .before .before .before .before .before .before .before .before .before .before .before .before .before .first-calls .ensures))) refl (c .before .before .before .before .before .before .before .before .before .before .before .before .before .before .before .if5 .left)) (c .before .before .print .ensures)
+returns-7 : tie.Need-returns-7
+returns-7 c =
+    let start = c .before .before .before .before .before .before .before .before .before .before .before .before .before .before .before .before .before .before .before .before .before .before .before .before .before .before .before .before .before .before .before .before .before .before .before .before .before in
+    let columns-ok = c .before .before .before .before .before .before .before .before .before .before .before .before .before .before .before .before .before .before .before .before .before .before .before .before .before .before .before .before .before .before .before .before .before .before .columns-ok in
+    let if1 = c .before .before .before .before .before .before .before .before .before .before .before .before .before .before .before .before .before .before .before .before .before .before .before .before .before .before .before .before .before .before .before .before .before .if1 in
+    let names-ok = c .before .before .before .before .before .before .before .before .before .before .before .before .before .before .before .before .before .before .before .before .before .before .before .before .before .before .before .before .before .before .before .before .names-ok in
+    let if2 = c .before .before .before .before .before .before .before .before .before .before .before .before .before .before .before .before .before .before .before .before .before .before .before .before .before .before .before .before .before .before .before .if2 in
+    let unshared = c .before .before .before .before .before .before .before .before .before .before .before .before .before .before .before .before .before .before .before .before .before .before .before .before .before .before .before .unshared in
+    let if3 = c .before .before .before .before .before .before .before .before .before .before .before .before .before .before .before .before .before .before .before .before .before .before .before .before .before .before .if3 in
+    let decl-vars-ok = c .before .before .before .before .before .before .before .before .before .before .before .before .before .before .before .before .before .before .before .before .before .before .before .before .before .decl-vars-ok in
+    let if4 = c .before .before .before .before .before .before .before .before .before .before .before .before .before .before .before .before .before .before .before .before .before .before .before .before .if4 in
+    let decl-funcs-ok = c .before .before .before .before .before .before .before .before .before .before .before .before .before .before .before .before .before .before .before .decl-funcs-ok in
+    let if5 = c .before .before .before .before .before .before .before .before .before .before .before .before .before .before .before .before .before .before .if5 in
+    let roots-refused = c .before .before .before .before .before .before .before .before .roots-refused in
+    let if6 = c .before .before .before .before .before .before .before .if6 in
+    let print = c .before .before .print in
+    tables-passed (P start) _ (passed (columns-ok .ensures) (if1 .left)) (passed (names-ok .ensures) (if2 .left)) (passed (unshared .ensures) (if3 .left)) (passed (decl-vars-ok .ensures) (if4 .left)) (passed (decl-funcs-ok .ensures) (if5 .left)) _ (roots-refused .ensures) (omega (arith, if6 .left)) (print .ensures)
 
 pub tables-spec : {M : Type 1} → statement M
 tables-spec =
@@ -91,16 +200,23 @@ tables-spec =
     returns
     names-ok-requires
     returns-2
+    element-copy-out-unshared
+    element-copy-out-unshared-2
+    element-copy-out-unshared-3
     unshared-requires
     returns-3
     decl-vars-ok-requires
     returns-4
+    element-copy-out-first-calls
     first-calls-requires
     decl-funcs-ok-requires
     returns-5
+    element-copy-out-entries
     entries-requires
     mark-requires
-    symbol-table-requires
+    element-copy-out-roots-refused
+    roots-refused-requires
+    returns-6
     print-requires
     same-length
-    returns-6)
+    returns-7)

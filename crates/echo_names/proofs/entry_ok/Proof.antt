@@ -1,5 +1,5 @@
 -- `entry_ok` meets its contract: each return by the test that led there.
-use Rattle.echo_names.specs.Tables.{bytes-bad, first-bad, word-bad, in-first, in-second, in-own, entry-good}
+use Rattle.echo_names.specs.NameTables.{bytes-bad, first-bad, word-bad, in-first, in-second, in-own, entry-good}
 use borrow.Author.Needs.{needs}
 use Rattle.echo_names.proofs.entry_ok.Statement.{statement}
 use Rattle.echo_names.proofs.entry_ok.Tie as tie

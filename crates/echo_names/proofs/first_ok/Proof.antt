@@ -2,7 +2,7 @@
 use mathlib.Core.Path.{refl}
 use borrow.Author.Tests.{eq-eqb, ne-eqb}
 use lib.ListN.{getD}
-use Rattle.echo_names.specs.Tables.{first-none, first-of}
+use Rattle.echo_names.specs.NameTables.{first-none, first-of}
 use borrow.Author.Needs.{needs}
 use Rattle.echo_names.proofs.first_ok.Statement.{statement}
 use Rattle.echo_names.proofs.first_ok.Tie as tie

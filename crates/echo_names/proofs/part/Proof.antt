@@ -1,7 +1,7 @@
 -- `part` meets its contract: in 64 bits a start past the end and a length past what is left are told apart, so that no sum can wrap.
 use mathlib.Core.Path.{sym}
 use native.Mathlib.Omega.{arith}
-use Rattle.echo_names.specs.Tables.{part-out, part-lent}
+use Rattle.echo_names.specs.NameTables.{part-out, part-lent}
 use borrow.Author.Needs.{needs}
 use Rattle.echo_names.proofs.part.Statement.{statement}
 use Rattle.echo_names.proofs.part.Tie as tie

@@ -5,7 +5,7 @@ use native.Mathlib.Omega.{arith}
 use lib.ListN.{take}
 use Rattle.lists.specs.Tests.{inList}
 use Rattle.echo_spec.specs.Input.{namesOf}
-use Rattle.echo_names.specs.Tables.{hasFrom, has-first, has-next, has-found, has-none}
+use Rattle.echo_names.specs.NameTables.{hasFrom, has-first, has-next, has-found, has-none}
 use borrow.Author.Needs.{needs}
 use Rattle.echo_names.proofs.table_has.Statement.{statement}
 use Rattle.echo_names.proofs.table_has.Tie as tie

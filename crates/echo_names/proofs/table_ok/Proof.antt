@@ -6,7 +6,7 @@ use native.Mathlib.Omega.{arith}
 use lib.ListN.{length}
 use Rattle.echo_spec.specs.Input.{namesOf}
 use Rattle.echo_spec.specs.Names.{table-ok}
-use Rattle.echo_names.specs.Tables.{tableFrom, table-first, table-pass, table-fail, table-end}
+use Rattle.echo_names.specs.NameTables.{tableFrom, table-first, table-pass, table-fail, table-end}
 use Rattle.echo_names.proofs.table_ok.Statement.{statement}
 use Rattle.echo_names.proofs.table_ok.Tie as tie
 

@@ -1,7 +1,7 @@
 -- `bump_node` meets its contract, an arm for each shape.
 use mathlib.Core.Path.{refl}
 use Rattle.echo_spec.specs.Sharing.{usesAs}
-use Rattle.blast_kernel.specs.Records.{nodeOf}
+use Rattle.lent.specs.Records.{nodeOf}
 use Rattle.echo_sharing.specs.Counts.{counted}
 use Rattle.echo_sharing.specs.Operands.{uses-arm, uses-past}
 use borrow.Author.Needs.{needs}

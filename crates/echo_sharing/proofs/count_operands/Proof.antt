@@ -5,7 +5,7 @@ use native.Mathlib.Omega.{arith}
 use lib.ListN.{length}
 use Rattle.echo_spec.specs.Input.{nodesOf}
 use Rattle.echo_spec.specs.Sharing.{usesOfAll}
-use Rattle.blast_kernel.specs.Records.{nodes-length}
+use Rattle.lent.specs.Records.{nodes-length}
 use Rattle.echo_sharing.specs.Counts.{counted, countedFrom, node-next, node-end}
 use borrow.Author.Needs.{needs}
 use Rattle.echo_sharing.proofs.count_operands.Statement.{statement}

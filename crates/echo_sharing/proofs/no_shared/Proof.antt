@@ -5,7 +5,7 @@ use native.Mathlib.Omega.{arith}
 use lib.ListN.{length}
 use Rattle.lists.specs.Tests.{everyFrom}
 use Rattle.echo_spec.specs.Input.{nodesOf}
-use Rattle.blast_kernel.specs.Records.{nodes-length}
+use Rattle.lent.specs.Records.{nodes-length}
 use Rattle.echo_sharing.specs.Counts.{onceIn, onceFrom, once-first, once-pass, once-fail, once-end}
 use borrow.Author.Needs.{needs}
 use Rattle.echo_sharing.proofs.no_shared.Statement.{statement}

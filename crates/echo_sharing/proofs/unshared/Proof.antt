@@ -1,7 +1,7 @@
 -- `unshared` meets its contract.
 use Rattle.echo_sharing.specs.Counts.{guard}
 use native.Mathlib.Omega.{arith}
-use Rattle.blast_kernel.specs.Records.{nodes-length}
+use Rattle.lent.specs.Records.{nodes-length}
 use borrow.Author.Needs.{needs}
 use Rattle.echo_sharing.proofs.unshared.Statement.{statement}
 use Rattle.echo_sharing.proofs.unshared.Tie as tie

@@ -1,7 +1,7 @@
 -- `echo_tables::args_match` meets its contract: the tests in the order of the definition. Assumes nothing.
 use native.Mathlib.Omega.{arith}
 use borrow.Author.Needs.{needs}
-use Rattle.blast_kernel.specs.Records.{nodeOf}
+use Rattle.lent.specs.Records.{nodeOf}
 use Rattle.echo_tables.specs.Steps.{inside-le, match-count, match-own, match-first, match-widths}
 use Rattle.echo_tables.proofs.args_match.Statement.{statement}
 use Rattle.echo_tables.proofs.args_match.Tie as tie

@@ -6,6 +6,7 @@ use native.Mathlib.Omega.{arith}
 use lib.ListN.{length, getD, length-set}
 use borrow.Author.Tests.{ne-eqb}
 use borrow.Author.Needs.{needs}
+use Rattle.lent.specs.Clearing.{zero-at}
 use Rattle.echo_tables.specs.Found.{Filled, has, filled-end, filled-put, filled-skip, entries-whole}
 use Rattle.echo_tables.proofs.entries.Statement.{statement}
 use Rattle.echo_tables.proofs.entries.Tie as tie
@@ -16,13 +17,13 @@ Inv-loop var-node entry₀ count left₀ entry left = (left ≤ length var-node)
 abbrev μ-loop : tie.MeasureT-loop
 μ-loop var-node entry₀ count left₀ entry left = left
 
-clear-requires : tie.Need-clear-requires Inv-loop μ-loop
-clear-requires c κs = search needs
+clear-numbers-requires : tie.Need-clear-numbers-requires Inv-loop μ-loop
+clear-numbers-requires c κs = search needs
 
 loop-holds : tie.Need-loop-holds Inv-loop μ-loop
 loop-holds c =
     let args = c .before .before .before .args in
-    (omega arith, c .clear .kept .0 ∙ c .before .clear-arg .given .0 .1, filled-end has 2048 0 (args .var-node .now) (c .clear .ensures))
+    (omega arith, c .clear-numbers .kept .0 ∙ c .before .clear-numbers-arg .given .0 .1, filled-end has 2048 0 (args .var-node .now) (zero-at (args .entry .now) (c .clear-numbers .ensures)))
 
 sub-k : tie.Need-sub-k Inv-loop μ-loop
 sub-k c = search needs
@@ -77,7 +78,7 @@ entries-spec =
     (tie.spec
     Inv-loop
     μ-loop
-    clear-requires
+    clear-numbers-requires
     loop-holds
     sub-k
     mul-x

@@ -8,7 +8,8 @@ use borrow.Author.Tests.{ltb-true, ltb-false}
 use borrow.Author.Needs.{needs}
 use Rattle.echo_spec.specs.Input.{no-node, nodesOf}
 use Rattle.echo_spec.specs.Tables.{call-of}
-use Rattle.blast_kernel.specs.Records.{nodeOf, nodes-length, nodes-at}
+use Rattle.lent.specs.Records.{nodeOf, nodes-length, nodes-at}
+use Rattle.lent.specs.Clearing.{zero-at}
 use Rattle.echo_tables.specs.Found.{Filled, filled-end, filled-put, filled-skip, calls-own, calls-none, calls-past, calls-whole}
 use Rattle.echo_tables.proofs.first_calls.Statement.{statement}
 use Rattle.echo_tables.proofs.first_calls.Tie as tie
@@ -22,21 +23,21 @@ Inv-loop nodes first₀ count left₀ first left = (count ≡ length (nodesOf no
 abbrev μ-loop : tie.MeasureT-loop
 μ-loop nodes first₀ count left₀ first left = left
 
-clear-requires : tie.Need-clear-requires Inv-loop μ-loop
-clear-requires c κs = search needs
+clear-numbers-requires : tie.Need-clear-numbers-requires Inv-loop μ-loop
+clear-numbers-requires c κs = search needs
 
 node-count-requires : tie.Need-node-count-requires Inv-loop μ-loop
 node-count-requires c κs = search needs
 
 loop-holds : tie.Need-loop-holds Inv-loop μ-loop
 loop-holds c =
-    let clear = c .before .clear in
-    let clear-arg = c .before .before .clear-arg in
+    let clear = c .before .clear-numbers in
+    let clear-arg = c .before .before .clear-numbers-arg in
     let args = c .before .before .before .before .args in (
       c .node-count .ensures,
       omega arith,
       clear .kept .0 ∙ clear-arg .given .0 .1,
-      rw (c .node-count .ensures) (filled-end call-of 512 no-node (nodesOf (args .nodes .now)) (clear .ensures)),
+      rw (c .node-count .ensures) (filled-end call-of 512 no-node (nodesOf (args .nodes .now)) (zero-at (args .first .now) (clear .ensures))),
     )
 
 sub-i : tie.Need-sub-i Inv-loop μ-loop
@@ -108,7 +109,7 @@ first-calls-spec =
     (tie.spec
     Inv-loop
     μ-loop
-    clear-requires
+    clear-numbers-requires
     node-count-requires
     loop-holds
     sub-i

@@ -18,31 +18,31 @@ abbrev μ-loop : tie.MeasureT-loop
 loop-holds : tie.Need-loop-holds Inv-loop μ-loop
 loop-holds c = (omega arith, refl)
 
-mul-width-at : tie.Need-mul-width-at Inv-loop μ-loop
-mul-width-at c = search needs
+mul-get : tie.Need-mul-get Inv-loop μ-loop
+mul-get c = search needs
 
-shared-slice-read-width-at : tie.Need-shared-slice-read-width-at Inv-loop μ-loop
-shared-slice-read-width-at c = search needs
+shared-slice-read-get : tie.Need-shared-slice-read-get Inv-loop μ-loop
+shared-slice-read-get c = search needs
 
-width-at-requires : tie.Need-width-at-requires Inv-loop μ-loop
-width-at-requires c κs = search needs
+get-requires : tie.Need-get-requires Inv-loop μ-loop
+get-requires c κs = search needs
 
-mul-width-at-2 : tie.Need-mul-width-at-2 Inv-loop μ-loop
-mul-width-at-2 c = search needs
+mul-get-2 : tie.Need-mul-get-2 Inv-loop μ-loop
+mul-get-2 c = search needs
 
-shared-slice-read-width-at-2 : tie.Need-shared-slice-read-width-at-2 Inv-loop μ-loop
-shared-slice-read-width-at-2 c = search needs
+shared-slice-read-get-2 : tie.Need-shared-slice-read-get-2 Inv-loop μ-loop
+shared-slice-read-get-2 c = search needs
 
-width-at-requires-2 : tie.Need-width-at-requires-2 Inv-loop μ-loop
-width-at-requires-2 c κs = search needs
+get-requires-2 : tie.Need-get-requires-2 Inv-loop μ-loop
+get-requires-2 c κs = search needs
 
 returns : tie.Need-returns Inv-loop μ-loop
 returns c =
-    let width-at = c .before .before .before .width-at in
+    let get = c .before .before .before .get in
     let loop = c .before .before .before .before .before .before .loop in
     let args = c .before .before .before .before .before .before .before .before .before .before .args in
     widths-fail (args .ws .now) (args .a .now) (args .b .now) (loop .j) (loop .inv .1) (omega arith) (omega arith)
-    (λ e. c .if1 .taken (width-at .ensures ∙ e ∙ sym (c .before .width-at2 .ensures)))
+    (λ e. c .if1 .taken (get .ensures ∙ e ∙ sym (c .before .get2 .ensures)))
 
 add-j : tie.Need-add-j Inv-loop μ-loop
 add-j c = search needs
@@ -52,12 +52,12 @@ loop-less c = search needs
 
 loop-again : tie.Need-loop-again Inv-loop μ-loop
 loop-again c =
-    let width-at = c .before .before .before .width-at in
+    let get = c .before .before .before .get in
     let loop = c .before .before .before .before .before .before .loop in
     let args = c .before .before .before .before .before .before .before .before .before .before .args in (
       omega arith,
       widths-pass (args .ws .now) (args .a .now) (args .b .now) (loop .j) (loop .inv .1) (omega arith) (omega arith)
-          (sym (width-at .ensures) ∙ c .if1 .left ∙ c .before .width-at2 .ensures),
+          (sym (get .ensures) ∙ c .if1 .left ∙ c .before .get2 .ensures),
     )
 
 returns-2 : tie.Need-returns-2 Inv-loop μ-loop
@@ -73,12 +73,12 @@ same-widths-spec =
     Inv-loop
     μ-loop
     loop-holds
-    mul-width-at
-    shared-slice-read-width-at
-    width-at-requires
-    mul-width-at-2
-    shared-slice-read-width-at-2
-    width-at-requires-2
+    mul-get
+    shared-slice-read-get
+    get-requires
+    mul-get-2
+    shared-slice-read-get-2
+    get-requires-2
     returns
     add-j
     loop-less

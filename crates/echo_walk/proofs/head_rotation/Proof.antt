@@ -1,16 +1,21 @@
-use Rattle.echo_walk.proofs.Heads.{node-inside, amount-inside, rotation-ready, rotation-symbol, head-of-rotation}
 use borrow.Author.Needs.{needs}
 use Rattle.echo_walk.proofs.head_rotation.Statement.{statement}
 use Rattle.echo_walk.proofs.head_rotation.Tie as tie
+use Rattle.echo_walk.proofs.Heads.{node-inside, amount-inside, rotation-ready, rotation-symbol, head-of-rotation}
 
 element-copy-out-nodes : tie.Need-element-copy-out-nodes
 element-copy-out-nodes c = search needs
 
-node-of-requires : tie.Need-node-of-requires
-node-of-requires c κs = node-inside _ _ (c .before .before .pre .0) _ (c .before .before .pre .1)
+node-here-requires : tie.Need-node-here-requires
+node-here-requires c κs =
+    let start = c .before .before in
+    node-inside _ _ _ _ (start .pre .0) _ (start .pre .1)
 
-node-of-requires-2 : tie.Need-node-of-requires-2
-node-of-requires-2 c κs = amount-inside _ _ (c .before .before .before .pre .0) _ (c .before .before .before .pre .1) (c .node-of .ensures)
+node-here-requires-2 : tie.Need-node-here-requires-2
+node-here-requires-2 c κs =
+    let start = c .before .before .before in
+    let node-here = c .node-here in
+    amount-inside _ _ _ _ (start .pre .0) _ (start .pre .1) (node-here .ensures)
 
 element-copy-out-bits : tie.Need-element-copy-out-bits
 element-copy-out-bits c = search needs
@@ -22,32 +27,43 @@ get-requires : tie.Need-get-requires
 get-requires c κs = search needs
 
 rot-of-requires : tie.Need-rot-of-requires
-rot-of-requires c κs = rotation-ready _ _ (c .before .before .before .before .before .before .before .pre .0) _ (c .before .before .before .before .before .before .before .pre .1) (c .before .before .before .before .node-of .ensures) (c .before .before .before .node-of2 .ensures) (c .get .ensures)
-
-element-copy-out-symbols : tie.Need-element-copy-out-symbols
-element-copy-out-symbols c = search needs
+rot-of-requires c κs =
+    let start = c .before .before .before .before .before .before .before in
+    let node-here = c .before .before .before .before .node-here in
+    let node-here2 = c .before .before .before .node-here2 in
+    let get = c .get in
+    rotation-ready _ _ _ _ (start .pre .0) _ (start .pre .1) (node-here .ensures) (node-here2 .ensures) (get .ensures)
 
 open-one-requires : tie.Need-open-one-requires
-open-one-requires c κs = (c .before .before .before .before .before .before .before .before .before .before .pre .0 .symbols, rotation-symbol _ _ (c .before .before .before .before .before .before .before .before .before .before .pre .0) _ (c .before .before .before .before .before .before .before .before .before .before .pre .1) (c .before .before .before .before .before .before .before .node-of .ensures))
+open-one-requires c κs =
+    let start = c .before .before .before .before .before .before .before .before .before .before in
+    let node-here = c .before .before .before .before .before .before .before .node-here in
+    (start .pre .0 .symbols, rotation-symbol _ _ _ _ (start .pre .0) _ (start .pre .1) (node-here .ensures))
 
 same-length : tie.Need-same-length
 same-length c = search needs
 
 returns : tie.Need-returns
-returns c = head-of-rotation _ _ (c .before .before .before .before .before .before .before .before .before .before .before .before .before .pre .0) _ (c .before .before .before .before .before .before .before .before .before .before .node-of .ensures) (c .before .before .before .before .before .before .before .before .before .node-of2 .ensures) (c .before .before .before .before .before .before .get .ensures) (c .before .before .before .before .before .rot-of .ensures) _ (c .before .before .open-one .ensures)
+returns c =
+    let start = c .before .before .before .before .before .before .before .before .before .before .before .before .before in
+    let node-here = c .before .before .before .before .before .before .before .before .before .before .node-here in
+    let node-here2 = c .before .before .before .before .before .before .before .before .before .node-here2 in
+    let get = c .before .before .before .before .before .before .get in
+    let rot-of = c .before .before .before .before .before .rot-of in
+    let open-one = c .before .before .open-one in
+    head-of-rotation _ _ _ _ (start .pre .0) _ (node-here .ensures) (node-here2 .ensures) (get .ensures) (rot-of .ensures) _ (open-one .ensures)
 
 pub head-rotation-spec : {M : Type 1} → statement M
 head-rotation-spec =
     tie.close
     (tie.spec
     element-copy-out-nodes
-    node-of-requires
-    node-of-requires-2
+    node-here-requires
+    node-here-requires-2
     element-copy-out-bits
     element-copy-out-ws
     get-requires
     rot-of-requires
-    element-copy-out-symbols
     open-one-requires
     same-length
     returns)

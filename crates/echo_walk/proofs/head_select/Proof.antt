@@ -6,8 +6,8 @@ use Rattle.echo_walk.proofs.head_select.Tie as tie
 element-copy-out-nodes : tie.Need-element-copy-out-nodes
 element-copy-out-nodes c = search needs
 
-node-of-requires : tie.Need-node-of-requires
-node-of-requires c κs = node-inside _ _ (c .before .before .pre .0) _ (c .before .before .pre .1)
+node-here-requires : tie.Need-node-here-requires
+node-here-requires c κs = node-inside _ _ _ _ (c .before .before .pre .0) _ (c .before .before .pre .1)
 
 element-copy-out-anames : tie.Need-element-copy-out-anames
 element-copy-out-anames c = search needs
@@ -19,7 +19,7 @@ element-copy-out-lens : tie.Need-element-copy-out-lens
 element-copy-out-lens c = search needs
 
 name-at-requires : tie.Need-name-at-requires
-name-at-requires c κs = array-inside _ _ (c .before .before .before .before .before .before .pre .0) _ (c .before .before .before .before .before .before .pre .1) (c .before .before .before .node-of .ensures)
+name-at-requires c κs = array-inside _ _ _ _ (c .before .before .before .before .before .before .pre .0) _ (c .before .before .before .before .before .before .pre .1) (c .before .before .before .node-here .ensures)
 
 open-select-requires : tie.Need-open-select-requires
 open-select-requires c κs = search needs
@@ -28,14 +28,14 @@ same-length : tie.Need-same-length
 same-length c = search needs
 
 returns : tie.Need-returns
-returns c = head-of-select _ _ (c .before .before .before .before .before .before .before .before .before .before .before .pre .0) _ (c .before .before .before .before .before .before .before .before .node-of .ensures) (c .before .before .before .before .name-at .ensures) _ (c .before .before .open-select .ensures)
+returns c = head-of-select _ _ _ _ (c .before .before .before .before .before .before .before .before .before .before .before .pre .0) _ (c .before .before .before .before .before .before .before .before .node-here .ensures) (c .before .before .before .before .name-at .ensures) _ (c .before .before .open-select .ensures)
 
 pub head-select-spec : {M : Type 1} → statement M
 head-select-spec =
     tie.close
     (tie.spec
     element-copy-out-nodes
-    node-of-requires
+    node-here-requires
     element-copy-out-anames
     element-copy-out-starts
     element-copy-out-lens

@@ -42,24 +42,24 @@ returns-2 c =
       not-true (c .before .earlier2 .result) (c .if2 .taken),
     ) refl
 
-width-at-requires : tie.Need-width-at-requires
-width-at-requires c κs = search needs
+get-requires : tie.Need-get-requires
+get-requires c κs = search needs
 
-width-at-requires-2 : tie.Need-width-at-requires-2
-width-at-requires-2 c κs = search needs
+get-requires-2 : tie.Need-get-requires-2
+get-requires-2 c κs = search needs
 
 returns-3 : tie.Need-returns-3
 returns-3 c =
     rw (
       both (c .before .before .before),
-      ← c .before .before .width-at .ensures,
-      ← c .width-at2 .ensures,
+      ← c .before .before .get .ensures,
+      ← c .get2 .ensures,
       lt-ltb 0 _
           (c .before .if3 .taken),
     ) refl
 
 returns-4 : tie.Need-returns-4
-returns-4 c = rw (both (c .before .before), ← c .before .width-at .ensures, le-ltb 0 _ (c .if3 .left)) refl
+returns-4 c = rw (both (c .before .before), ← c .before .get .ensures, le-ltb 0 _ (c .if3 .left)) refl
 
 pub bin-wf-spec : {M : Type 1} → statement M
 bin-wf-spec =
@@ -69,7 +69,7 @@ bin-wf-spec =
     returns
     earlier-requires-2
     returns-2
-    width-at-requires
-    width-at-requires-2
+    get-requires
+    get-requires-2
     returns-3
     returns-4)

@@ -14,11 +14,11 @@ returns c = rw (← c .before .un-wf .ensures, not-true (c .before .un-wf .resul
 un-wf-requires-2 : tie.Need-un-wf-requires-2
 un-wf-requires-2 c κs = search needs
 
-width-at-requires : tie.Need-width-at-requires
-width-at-requires c κs = search needs
+get-requires : tie.Need-get-requires
+get-requires c κs = search needs
 
-width-at-requires-2 : tie.Need-width-at-requires-2
-width-at-requires-2 c κs = search needs
+get-requires-2 : tie.Need-get-requires-2
+get-requires-2 c κs = search needs
 
 sum-fits-requires : tie.Need-sum-fits-requires
 sum-fits-requires c κs = search needs
@@ -31,8 +31,8 @@ returns-2 c =
           (c .before .before .before .before .before .before .un-wf .result) (c .before .before .before .before .before .if1 .left),
       ← c .before .before .before .before .un-wf2 .ensures,
       c .before .before .before .if2 .taken,
-      ← c .before .before .width-at .ensures,
-      ← c .before .width-at2 .ensures,
+      ← c .before .before .get .ensures,
+      ← c .before .get2 .ensures,
     ) (c .sum-fits .ensures)
 
 returns-3 : tie.Need-returns-3
@@ -51,8 +51,8 @@ concat-wf-spec =
     un-wf-requires
     returns
     un-wf-requires-2
-    width-at-requires
-    width-at-requires-2
+    get-requires
+    get-requires-2
     sum-fits-requires
     returns-2
     returns-3)

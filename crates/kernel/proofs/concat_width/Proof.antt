@@ -4,11 +4,11 @@ use borrow.Author.Needs.{needs}
 use Rattle.kernel.proofs.concat_width.Statement.{statement}
 use Rattle.kernel.proofs.concat_width.Tie as tie
 
-width-at-requires : tie.Need-width-at-requires
-width-at-requires c κs = search needs
+get-requires : tie.Need-get-requires
+get-requires c κs = search needs
 
-width-at-requires-2 : tie.Need-width-at-requires-2
-width-at-requires-2 c κs = search needs
+get-requires-2 : tie.Need-get-requires-2
+get-requires-2 c κs = search needs
 
 add-result : tie.Need-add-result
 add-result c = omega arith
@@ -17,4 +17,4 @@ returns : tie.Need-returns
 returns c = omega arith
 
 pub concat-width-spec : {M : Type 1} → statement M
-concat-width-spec = tie.close (tie.spec width-at-requires width-at-requires-2 add-result returns)
+concat-width-spec = tie.close (tie.spec get-requires get-requires-2 add-result returns)

@@ -11,8 +11,8 @@ earlier-requires c κs = search needs
 returns : tie.Need-returns
 returns c = rw (← c .before .earlier .ensures, not-true (c .before .earlier .result) (c .if1 .taken)) refl
 
-width-at-requires : tie.Need-width-at-requires
-width-at-requires c κs = search needs
+get-requires : tie.Need-get-requires
+get-requires c κs = search needs
 
 returns-2 : tie.Need-returns-2
 returns-2 c =
@@ -20,7 +20,7 @@ returns-2 c =
       ← c .before .before .before .earlier .ensures,
       not-false (c .before .before .before .earlier .result) (c .before .before .if1 .left),
       le-leb _ _ (c .before .if2 .taken),
-      ← c .width-at .ensures,
+      ← c .get .ensures,
     ) refl
 
 returns-3 : tie.Need-returns-3
@@ -34,4 +34,4 @@ returns-3 c =
 
 pub extract-wf-spec : {M : Type 1} → statement M
 extract-wf-spec =
-    tie.close (tie.spec earlier-requires returns width-at-requires returns-2 returns-3)
+    tie.close (tie.spec earlier-requires returns get-requires returns-2 returns-3)

@@ -1,7 +1,7 @@
 -- `kernel::node_wf` meets its contract. Each arm is for one shape. Assumes nothing.
 use mathlib.Core.Path.{refl}
 use Rattle.echo_spec.specs.Widths.{wfAs}
-use Rattle.blast_kernel.specs.Records.{nodeOf}
+use Rattle.lent.specs.Records.{nodeOf}
 use Rattle.kernel.specs.Closed.{closed}
 use Rattle.kernel.proofs.Laws.{wf-arm, wf-past}
 use borrow.Author.Needs.{needs}
@@ -10,6 +10,9 @@ use Rattle.kernel.proofs.node_wf.Tie as tie
 
 shape-requires : tie.Need-shape-requires
 shape-requires c κs = search needs
+
+has-width-requires : tie.Need-has-width-requires
+has-width-requires c κs = search needs
 
 const-wf-requires : tie.Need-const-wf-requires
 const-wf-requires c κs = search needs
@@ -47,7 +50,8 @@ un-wf-requires c κs = search needs
 returns : tie.Need-returns
 unfolding wfAs closed
 returns c =
-    wf-arm _ (nodeOf (c .before .before .before .before .args .n)) (c .before .before .shape .ensures) _ 0 (c .before .match .keys1) refl
+    wf-arm _ (nodeOf (c .before .before .before .before .args .n)) (c .before .before .shape .ensures) _ 0 (c .before .match .keys1)
+    (c .has-width .ensures)
 
 returns-2 : tie.Need-returns-2
 unfolding wfAs closed
@@ -123,6 +127,7 @@ node-wf-spec =
     tie.close
     (tie.spec
     shape-requires
+    has-width-requires
     const-wf-requires
     bin-wf-requires
     bin-wf-requires-2

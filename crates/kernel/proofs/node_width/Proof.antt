@@ -2,7 +2,7 @@
 use native.Mathlib.Omega.{arith}
 use mathlib.Core.Path.{refl}
 use Rattle.echo_spec.specs.Widths.{widthAs}
-use Rattle.blast_kernel.specs.Records.{nodeOf}
+use Rattle.lent.specs.Records.{nodeOf}
 use Rattle.kernel.specs.Closed.{closed}
 use Rattle.kernel.proofs.Laws.{width-arm, width-past, extraction-room, concat-room, extension-room}
 use borrow.Author.Needs.{needs}
@@ -12,11 +12,11 @@ use Rattle.kernel.proofs.node_width.Tie as tie
 shape-requires : tie.Need-shape-requires
 shape-requires c κs = search needs
 
-width-at-requires : tie.Need-width-at-requires
-width-at-requires c κs = search needs
+get-requires : tie.Need-get-requires
+get-requires c κs = search needs
 
-width-at-requires-2 : tie.Need-width-at-requires-2
-width-at-requires-2 c κs = search needs
+get-requires-2 : tie.Need-get-requires-2
+get-requires-2 c κs = search needs
 
 sub-result : tie.Need-sub-result
 sub-result c =
@@ -40,8 +40,8 @@ concat-width-requires : tie.Need-concat-width-requires
 concat-width-requires c κs =
     concat-room _ (nodeOf (c .before .before .before .args .n)) (c .before .shape .ensures) (c .before .before .before .pre) (c .match .keys6)
 
-width-at-requires-3 : tie.Need-width-at-requires-3
-width-at-requires-3 c κs = search needs
+get-requires-3 : tie.Need-get-requires-3
+get-requires-3 c κs = search needs
 
 add-result-2 : tie.Need-add-result-2
 add-result-2 c =
@@ -49,14 +49,14 @@ add-result-2 c =
       arith,
       extension-room _ (nodeOf (c .before .before .before .before .before .args .n)) (c .before .before .before .shape .ensures)
           (c .before .before .before .before .before .pre) (c .before .before .match .keys7),
-      c .before .width-at3 .ensures,
+      c .before .get3 .ensures,
     )
 
-width-at-requires-4 : tie.Need-width-at-requires-4
-width-at-requires-4 c κs = search needs
+get-requires-4 : tie.Need-get-requires-4
+get-requires-4 c κs = search needs
 
-width-at-requires-5 : tie.Need-width-at-requires-5
-width-at-requires-5 c κs = search needs
+get-requires-5 : tie.Need-get-requires-5
+get-requires-5 c κs = search needs
 
 returns : tie.Need-returns
 unfolding widthAs closed
@@ -70,13 +70,13 @@ returns-3 : tie.Need-returns-3
 unfolding widthAs closed
 returns-3 c =
     width-arm _ (nodeOf (c .before .before .before .before .args .n)) (c .before .before .shape .ensures) 2 (c .before .match .keys3)
-    (c .width-at .ensures)
+    (c .get .ensures)
 
 returns-4 : tie.Need-returns-4
 unfolding widthAs closed
 returns-4 c =
     width-arm _ (nodeOf (c .before .before .before .before .args .n)) (c .before .before .shape .ensures) 3 (c .before .match .keys4)
-    (c .width-at2 .ensures)
+    (c .get2 .ensures)
 
 returns-5 : tie.Need-returns-5
 unfolding widthAs closed
@@ -93,13 +93,13 @@ returns-7 : tie.Need-returns-7
 unfolding widthAs closed
 returns-7 c =
     width-arm _ (nodeOf (c .before .before .before .before .before .args .n)) (c .before .before .before .shape .ensures) 6
-    (c .before .before .match .keys7) (rw (c .before .width-at3 .ensures) refl)
+    (c .before .before .match .keys7) (rw (c .before .get3 .ensures) refl)
 
 returns-8 : tie.Need-returns-8
 unfolding widthAs closed
 returns-8 c =
     width-arm _ (nodeOf (c .before .before .before .before .args .n)) (c .before .before .shape .ensures) 7 (c .before .match .keys8)
-    (c .width-at4 .ensures)
+    (c .get4 .ensures)
 
 returns-9 : tie.Need-returns-9
 unfolding widthAs closed
@@ -117,7 +117,7 @@ returns-12 : tie.Need-returns-12
 unfolding widthAs closed
 returns-12 c =
     width-arm _ (nodeOf (c .before .before .before .before .args .n)) (c .before .before .shape .ensures) 11 (c .before .match .keys12)
-    (c .width-at5 .ensures)
+    (c .get5 .ensures)
 
 returns-13 : tie.Need-returns-13
 returns-13 c = width-past _ (nodeOf (c .before .before .before .args .n)) (c .before .shape .ensures) (c .match .rest)
@@ -127,15 +127,15 @@ node-width-spec =
     tie.close
     (tie.spec
     shape-requires
-    width-at-requires
-    width-at-requires-2
+    get-requires
+    get-requires-2
     sub-result
     add-result
     concat-width-requires
-    width-at-requires-3
+    get-requires-3
     add-result-2
-    width-at-requires-4
-    width-at-requires-5
+    get-requires-4
+    get-requires-5
     returns
     returns-2
     returns-3

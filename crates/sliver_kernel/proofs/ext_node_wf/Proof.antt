@@ -1,7 +1,7 @@
 -- `sliver_kernel::ext_node_wf` meets its contract. Assumes nothing.
 use mathlib.Core.Path.{_∙_}
 use Rattle.echo_spec.specs.Widths.{wfAs}
-use Rattle.blast_kernel.specs.Records.{nodeOf}
+use Rattle.lent.specs.Records.{nodeOf}
 use Rattle.sliver_kernel.proofs.Passing.{wf-arm, wf-rest}
 use borrow.Author.Needs.{needs}
 use Rattle.sliver_kernel.proofs.ext_node_wf.Statement.{statement}

@@ -1,7 +1,7 @@
 -- `sliver_kernel::ext_node_width` meets its contract. Assumes nothing.
 use mathlib.Core.Path.{refl, _∙_}
 use Rattle.echo_spec.specs.Widths.{widthAs}
-use Rattle.blast_kernel.specs.Records.{nodeOf}
+use Rattle.lent.specs.Records.{nodeOf}
 use Rattle.sliver_kernel.proofs.Passing.{width-arm, width-rest, wf-rest}
 use borrow.Author.Needs.{needs}
 use Rattle.sliver_kernel.proofs.ext_node_width.Statement.{statement}

@@ -27,29 +27,29 @@ ready c = record { within = within (c .before .before); well = sym (c .before .e
 nodes-within-requires : tie.Need-nodes-within-requires
 nodes-within-requires c κs = search needs
 
-clear-requires : tie.Need-clear-requires
-clear-requires c κs = search needs
+clear-numbers-requires : tie.Need-clear-numbers-requires
+clear-numbers-requires c κs = search needs
 
 same-length : tie.Need-same-length
 same-length c = search needs
 
 returns : tie.Need-returns
 returns c =
-    over-limit _ _ _ _ (c .before .before .clear .ensures)
+    over-limit _ _ _ _ (c .before .before .clear-numbers .ensures)
     (sym (c .before .before .before .before .before .nodes-within .ensures) ∙ not-true _ (c .before .before .before .before .if1 .taken))
 
 encoded-requires : tie.Need-encoded-requires
 encoded-requires c κs = search needs
 
-clear-requires-2 : tie.Need-clear-requires-2
-clear-requires-2 c κs = search needs
+clear-numbers-requires-2 : tie.Need-clear-numbers-requires-2
+clear-numbers-requires-2 c κs = search needs
 
 same-length-2 : tie.Need-same-length-2
 same-length-2 c = search needs
 
 returns-2 : tie.Need-returns-2
 returns-2 c =
-    ill-encoded _ _ _ _ (c .before .before .clear2 .ensures) (within (c .before .before .before .before .before .before))
+    ill-encoded _ _ _ _ (c .before .before .clear-numbers2 .ensures) (within (c .before .before .before .before .before .before))
     (sym (c .before .before .before .before .before .encoded .ensures) ∙ not-true _ (c .before .before .before .before .if2 .taken))
 
 widths-requires : tie.Need-widths-requires
@@ -58,8 +58,8 @@ widths-requires c κs = within-bytes _ _ _ (within (c .before .before .before))
 node-count-requires : tie.Need-node-count-requires
 node-count-requires c κs = search needs
 
-clear-requires-3 : tie.Need-clear-requires-3
-clear-requires-3 c κs = search needs
+clear-numbers-requires-3 : tie.Need-clear-numbers-requires-3
+clear-numbers-requires-3 c κs = search needs
 
 same-length-3 : tie.Need-same-length-3
 same-length-3 c = search needs
@@ -68,10 +68,10 @@ returns-3 : tie.Need-returns-3
 returns-3 c =
     node-refused (ready (c .before .before .before .before .before .before .before .before)) _
     (c .before .before .before .before .before .before .widths .ensures)
-    (omega (arith, c .before .before .before .before .before .node-count .ensures)) (c .before .before .clear3 .ensures)
+    (omega (arith, c .before .before .before .before .before .node-count .ensures)) (c .before .before .clear-numbers3 .ensures)
 
-clear-requires-4 : tie.Need-clear-requires-4
-clear-requires-4 c κs = search needs
+clear-numbers-requires-4 : tie.Need-clear-numbers-requires-4
+clear-numbers-requires-4 c κs = search needs
 
 same-length-4 : tie.Need-same-length-4
 same-length-4 c = search needs
@@ -81,7 +81,7 @@ returns-4 c =
     no-room (ready (c .before .before .before .before .before .before .before .before .before)) _
     (c .before .before .before .before .before .before .before .widths .ensures)
     (omega (arith, c .before .before .before .before .before .before .node-count .ensures)) (c .before .before .before .before .if4 .taken)
-    (c .before .before .clear4 .ensures)
+    (c .before .before .clear-numbers4 .ensures)
 
 array-share-prefix-ws : tie.Need-array-share-prefix-ws
 array-share-prefix-ws c = passed-within (c .before .before .before .widths .ensures)
@@ -107,19 +107,19 @@ ext-wf-spec =
     tie.close
     (tie.spec
     nodes-within-requires
-    clear-requires
+    clear-numbers-requires
     same-length
     returns
     encoded-requires
-    clear-requires-2
+    clear-numbers-requires-2
     same-length-2
     returns-2
     widths-requires
     node-count-requires
-    clear-requires-3
+    clear-numbers-requires-3
     same-length-3
     returns-3
-    clear-requires-4
+    clear-numbers-requires-4
     same-length-4
     returns-4
     array-share-prefix-ws

@@ -8,7 +8,7 @@ use borrow.Author.Tests.{not-true, not-false}
 use lib.ListN.{getD}
 use lib.Seq.{length-take-le}
 use Rattle.echo_spec.specs.Input.{no-node, nodesOf}
-use Rattle.blast_kernel.specs.Records.{nodeOf, nodes-length, nodes-at}
+use Rattle.lent.specs.Records.{nodeOf, nodes-length, nodes-at}
 use Rattle.sliver_kernel.proofs.Passing.{Going, going-start, going-next, going-stops, going-ends}
 use Rattle.sliver_kernel.proofs.fill.Statement.{statement}
 use Rattle.sliver_kernel.proofs.fill.Tie as tie

@@ -1,6 +1,6 @@
 -- `sliver_kernel::widths` meets its contract. Assumes nothing.
 use native.Mathlib.Omega.{arith}
-use Rattle.blast_kernel.specs.Records.{nodes-length}
+use Rattle.lent.specs.Records.{nodes-length}
 use Rattle.sliver_kernel.proofs.widths.Statement.{statement}
 use Rattle.sliver_kernel.proofs.widths.Tie as tie
 

@@ -1,2 +1,0 @@
--- What the proofs of several functions share, and laws on texts and numbers alone.
-pub mod Entries

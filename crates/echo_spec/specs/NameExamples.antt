@@ -1,0 +1,147 @@
+-- Examples of 2: which names a table may declare.
+use Prim.Native.Nat.{ℕ}
+use Prim.Native.String.{String}
+use mathlib.Core.Path.{_≡_, refl}
+use mathlib.Core.List.{List, [], _∷_, _++_, map}
+use mathlib.Core.Bool.{Bool, true, false, _&&_}
+use lib.Dec.{T, eqb}
+use lib.ListN.{length, replicate}
+use Rattle.lists.specs.Bytes.{bytes}
+use Rattle.lists.specs.Tests.{same, distinct}
+use Rattle.lists.specs.Build.{tabulate}
+use Rattle.echo_spec.specs.Input.{Problem}
+use Rattle.echo_spec.specs.Names.{byteOk, firstOk, reservedWords, reserved}
+use Rattle.echo_spec.specs.Answers.{Answer, echo-ext-answer}
+use Rattle.echo_spec.specs.Examples.{problem, var, fun, Example, given, wanted, refuses, passes, allMeet}
+
+-- ---------------------------------------------------------------- bytes
+
+-- one variable of width 8 at this place of an arena
+abbrev pub nameAt : List ℕ → ℕ → ℕ → Problem
+nameAt arena start len = record {
+  nodes = [];
+  bits = [];
+  side = [];
+  roots = [];
+  names = arena;
+  name-start = start ∷ [];
+  name-len = len ∷ [];
+  var-node = 0 ∷ [];
+  var-width = 8 ∷ [];
+  anames = [];
+  aname-start = [];
+  aname-len = [];
+  fnames = [];
+  fname-start = [];
+  fname-len = [];
+  func-width = [];
+}
+
+-- 2, or 10 where there is no such refusal and no room
+abbrev number : Problem → ℕ
+number p = echo-ext-answer p [] .number
+
+-- each byte from 0 to 255: 32 to 126 but for \ (92) and | (124)
+abbrev no : ℕ → List Bool
+no n = replicate n false
+
+abbrev yes : ℕ → List Bool
+yes n = replicate n true
+
+name-bytes : tabulate 256 byteOk ≡ no 32 ++ (yes 60 ++ (no 1 ++ (yes 31 ++ (no 1 ++ (yes 2 ++ no 129)))))
+unfolding byteOk
+name-bytes = refl
+
+-- and as the first byte: any but the full stop (46) and @ (64)
+first-bytes : tabulate 256 (λ c. firstOk (c ∷ [])) ≡ yes 46 ++ (no 1 ++ (yes 17 ++ (no 1 ++ yes 191)))
+unfolding firstOk
+first-bytes = refl
+
+-- the bytes at which the rules change, after a Q and before one; no reserved word is such a name
+edges : List ℕ
+edges = 0 ∷ 31 ∷ 32 ∷ 45 ∷ 46 ∷ 47 ∷ 63 ∷ 64 ∷ 65 ∷ 91 ∷ 92 ∷ 93 ∷ 123 ∷ 124 ∷ 125 ∷ 126 ∷ 127 ∷ 128 ∷ 255 ∷ []
+
+edge-bytes : map (λ c. number (nameAt (81 ∷ c ∷ []) 0 2)) edges ++ map (λ c. number (nameAt (c ∷ 81 ∷ []) 0 2)) edges
+    ≡ 2 ∷ 2 ∷ 10 ∷ 10 ∷ 10 ∷ 10 ∷ 10 ∷ 10 ∷ 10 ∷ 10 ∷ 2 ∷ 10 ∷ 10 ∷ 2 ∷ 10 ∷ 10 ∷ 2 ∷ 2 ∷ 2
+    ∷ 2 ∷ 2 ∷ 10 ∷ 10 ∷ 2 ∷ 10 ∷ 10 ∷ 2 ∷ 10 ∷ 10 ∷ 2 ∷ 10 ∷ 10 ∷ 2 ∷ 10 ∷ 10 ∷ 2 ∷ 2 ∷ 2 ∷ []
+unfolding allMeet edges
+edge-bytes = refl
+
+-- ---------------------------------------------------------------- reserved words
+
+-- in alphabetical order
+words : List String
+words =
+    "!" ∷ "=" ∷ "=>" ∷ "Array" ∷ "BINARY" ∷ "BitVec" ∷ "Bool" ∷ "DECIMAL" ∷ "HEXADECIMAL" ∷ "NUMERAL" ∷ "QF_ABV" ∷ "QF_AUFBV" ∷ "QF_BV"
+    ∷ "STRING" ∷ "_" ∷ "and" ∷ "as" ∷ "assert" ∷ "bv2int" ∷ "bv2nat" ∷ "bvadd" ∷ "bvand" ∷ "bvashr" ∷ "bvcomp" ∷ "bvlshr" ∷ "bvmul"
+    ∷ "bvnand" ∷ "bvneg" ∷ "bvnego" ∷ "bvnor" ∷ "bvnot" ∷ "bvor" ∷ "bvredand" ∷ "bvredor" ∷ "bvsaddo" ∷ "bvsdiv" ∷ "bvsdivo" ∷ "bvsge"
+    ∷ "bvsgt" ∷ "bvshl" ∷ "bvsle" ∷ "bvslt" ∷ "bvsmod" ∷ "bvsmulo" ∷ "bvsrem" ∷ "bvssubo" ∷ "bvsub" ∷ "bvuaddo" ∷ "bvudiv" ∷ "bvuge"
+    ∷ "bvugt" ∷ "bvule" ∷ "bvult" ∷ "bvumulo" ∷ "bvurem" ∷ "bvusubo" ∷ "bvxnor" ∷ "bvxor" ∷ "check-sat" ∷ "check-sat-assuming" ∷ "concat"
+    ∷ "declare-const" ∷ "declare-datatype" ∷ "declare-datatypes" ∷ "declare-fun" ∷ "declare-sort" ∷ "define-const" ∷ "define-fun"
+    ∷ "define-fun-rec" ∷ "define-funs-rec" ∷ "define-sort" ∷ "distinct" ∷ "echo" ∷ "exists" ∷ "exit" ∷ "extract" ∷ "false" ∷ "forall"
+    ∷ "get-assertions" ∷ "get-assignment" ∷ "get-info" ∷ "get-model" ∷ "get-option" ∷ "get-proof" ∷ "get-unsat-assumptions"
+    ∷ "get-unsat-core" ∷ "get-value" ∷ "int2bv" ∷ "ite" ∷ "lambda" ∷ "let" ∷ "match" ∷ "nat2bv" ∷ "not" ∷ "or" ∷ "par" ∷ "pop" ∷ "push"
+    ∷ "repeat" ∷ "reset" ∷ "reset-assertions" ∷ "rotate_left" ∷ "rotate_right" ∷ "select" ∷ "set-info" ∷ "set-logic" ∷ "set-option"
+    ∷ "sign_extend" ∷ "store" ∷ "true" ∷ "xor" ∷ "zero_extend" ∷ []
+
+abbrev oneVariable : String → Problem
+oneVariable x = problem [] [] [] [] (var x 0 8 ∷ []) [] []
+
+-- the words are 112 and no two of them are equal, and each is refused: so they are these
+reserved-count : T (eqb (length reserved) 112 && distinct reserved)
+unfolding bytes same reservedWords reserved
+reserved-count = tt
+
+words-distinct : T (eqb (length words) 112 && distinct (map bytes words))
+unfolding bytes same words
+words-distinct = tt
+
+reserved-words : map (λ x. number (oneVariable x)) words ≡ replicate 112 2
+unfolding allMeet words
+reserved-words = refl
+
+-- ---------------------------------------------------------------- names
+
+-- variables, arrays and functions of these names
+abbrev declared : List String → List String → List String → Problem
+declared xs ms fs = problem [] [] [] [] (map (λ x. var x 0 8) xs) ms (map (λ f. fun f 8) fs)
+
+nameCases : List (Example Answer)
+nameCases =
+    -- reserved words in the other tables
+    refuses "2: an array's name" 2 (declared [] ("store" ∷ []) [])
+    ∷ refuses "2: a function's name" 2 (declared [] [] ("bvmul" ∷ []))
+    ∷ refuses "2: a later name" 2 (declared ("x" ∷ "let" ∷ []) [] [])
+    -- a reserved word and a letter more or less, and another case
+    ∷ passes "one letter more" (declared ("bvadd2" ∷ []) [] [])
+    ∷ passes "one letter less" (declared ("bvad" ∷ []) [] [])
+    ∷ passes "case counts" (declared ("Let" ∷ "LET" ∷ "x" ∷ "X" ∷ []) ("y" ∷ []) [])
+    -- inside the arena, from its first byte to its last
+    ∷ passes "all of the arena" (nameAt (120 ∷ 121 ∷ 122 ∷ []) 0 3)
+    ∷ passes "the last byte" (nameAt (120 ∷ 121 ∷ 122 ∷ []) 2 1)
+    ∷ refuses "2: one byte past" 2 (nameAt (120 ∷ 121 ∷ 122 ∷ []) 0 4)
+    ∷ refuses "2: starts at the end" 2 (nameAt (120 ∷ 121 ∷ 122 ∷ []) 3 1)
+    ∷ refuses "2: ends past the end" 2 (nameAt (120 ∷ 121 ∷ 122 ∷ []) 2 2)
+    ∷ refuses "2: start and length whose sum passes 64 bits" 2 (nameAt (120 ∷ 121 ∷ 122 ∷ []) 18446744073709551615 2)
+    ∷ refuses "2: length and start whose sum passes 64 bits" 2 (nameAt (120 ∷ 121 ∷ 122 ∷ []) 2 18446744073709551615)
+    -- one byte or more
+    ∷ refuses "2: empty" 2 (nameAt (120 ∷ 121 ∷ 122 ∷ []) 0 0)
+    ∷ refuses "2: empty at the end" 2 (nameAt (120 ∷ 121 ∷ 122 ∷ []) 3 0)
+    -- only the name's own bytes count
+    ∷ passes "a bar after the name" (nameAt (120 ∷ 124 ∷ []) 0 1)
+    ∷ passes "a full stop before the name" (nameAt (46 ∷ 120 ∷ []) 1 1)
+    ∷ refuses "2: a bar as the last byte" 2 (nameAt (120 ∷ 121 ∷ 124 ∷ []) 0 3)
+    -- no name twice, in one table or in two
+    ∷ refuses "2: two variables" 2 (declared ("x" ∷ "x" ∷ []) [] [])
+    ∷ refuses "2: two variables, apart" 2 (declared ("x" ∷ "y" ∷ "x" ∷ []) [] [])
+    ∷ refuses "2: two arrays" 2 (declared [] ("m" ∷ "k" ∷ "m" ∷ []) [])
+    ∷ refuses "2: two functions" 2 (declared [] [] ("f" ∷ "g" ∷ "f" ∷ []))
+    ∷ refuses "2: a variable and an array" 2 (declared ("x" ∷ "y" ∷ []) ("m" ∷ "x" ∷ []) [])
+    ∷ refuses "2: a variable and a function" 2 (declared ("x" ∷ "y" ∷ []) [] ("f" ∷ "y" ∷ []))
+    ∷ refuses "2: an array and a function" 2 (declared ("x" ∷ []) ("m" ∷ "k" ∷ []) ("m" ∷ []))
+    ∷ refuses "7, not 2: all names differ" 7 (declared ("x" ∷ "xx" ∷ []) ("m" ∷ "mm" ∷ []) ("f" ∷ "ff" ∷ []))
+    ∷ []
+
+name-cases : given nameCases ≡ wanted nameCases
+unfolding allMeet nameCases
+name-cases = refl

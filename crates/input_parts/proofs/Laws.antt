@@ -1,0 +1,88 @@
+-- The code's sizes are the definition's, and a column is filled from the front. Assumes nothing.
+use Prim.Native.Nat.{ℕ, zero, suc, _+_, _*_, _≤_, _<_}
+use mathlib.Core.Path.{_≡_, refl, ap, sym, subst, _∙_}
+use mathlib.Core.Bool.{Bool, _&&_, _||_}
+use mathlib.Core.List.{List, [], _∷_, _++_}
+use native.Mathlib.Nat.{le-of-suc-le-suc, not-suc-le-zero}
+use native.Mathlib.Numerals.{add-one}
+use native.Mathlib.Omega.{arith}
+use lib.Dec.{T, eqb, leb, eqb→eq, leb→le}
+use lib.ListN.{length, take, drop, getD, set, length-append, length-drop}
+use lib.Seq.{take-append-le, take-all}
+use Rattle.lists.specs.Tests.{every-at, and-0, and-1, or-elim}
+use Rattle.lists.specs.Build.{tabulate, length-tabulate}
+use Rattle.echo_spec.specs.Answers.{atFront}
+use Rattle.input_parts.specs.Parts.{sizes, sizeOf, rooms, roomOf, numbersPart}
+use Rattle.input_parts.specs.Lying.{Lies, Column}
+
+-- ---------------------------------------------------------------- sizes
+
+-- an element has 1 byte or 8
+size-known : ℕ → Bool
+size-known k = eqb (sizeOf k) 1 || eqb (sizeOf k) 8
+
+module _ (k : ℕ) (h : k < 16) where
+  size-tested : T (size-known k)
+  unfolding sizes sizeOf size-known
+  size-tested = every-at size-known 0 16 tt k (omega arith) h
+
+  pub span-of-8 : (n : ℕ) → sizeOf k ≡ 8 → 8 * n ≡ sizeOf k * n
+  span-of-8 n e = ap (λ (z : ℕ). z * n) (sym e)
+
+  pub span-of-1 : (n : ℕ) → (sizeOf k ≡ 8 → ⊥) → n ≡ sizeOf k * n
+  unfolding size-known
+  span-of-1 n far = one-of n ∙ ap (λ (z : ℕ). z * n) (sym one)
+    where
+      one-of : (m : ℕ) → m ≡ 1 * m
+      one-of m = omega arith
+
+      one : sizeOf k ≡ 1
+      one = or-elim (eqb (sizeOf k) 1) (eqb (sizeOf k) 8) size-tested (λ t. eqb→eq (sizeOf k) 1 t) (λ t. absurd (far (eqb→eq (sizeOf k) 8 t)))
+
+-- ---------------------------------------------------------------- an input
+
+-- its elements, of this size, lie within the bytes
+pub lies-within : {s starts counts : List ℕ} {k : ℕ} → Lies s starts counts k → {size : ℕ} → sizeOf k ≡ size → getD starts k 0 + size * getD counts k 0 ≤ length s
+lies-within {s} {starts} {counts} {k} h e = subst (λ (z : ℕ). getD starts k 0 + z * getD counts k 0 ≤ length s) e (h .inside)
+
+-- ---------------------------------------------------------------- a column
+
+fill-suc : (f : ℕ → ℕ) (n : ℕ) (d : List ℕ) → n < length d → set (tabulate n f ++ drop n d) n (f n) ≡ tabulate (suc n) f ++ drop (suc n) d
+fill-suc f n [] l = absurd (not-suc-le-zero l)
+fill-suc f zero (x ∷ d) l = refl
+fill-suc f (suc n) (x ∷ d) l = ap (λ (t : List ℕ). f 0 ∷ t) (fill-suc (λ i. f (suc i)) n d (le-of-suc-le-suc l))
+
+-- the first i places of `out` are those of f, and the rest is as it was
+pub record Filled (f : ℕ → ℕ) (lent out : List ℕ) (i : ℕ) : Type 0 where
+  pub within : i ≤ length lent
+  pub now : out ≡ tabulate i f ++ drop i lent
+
+pub fill-start : (f : ℕ → ℕ) (lent : List ℕ) → Filled f lent lent 0
+fill-start f lent = record { within = omega arith; now = refl }
+
+module _ {f : ℕ → ℕ} {lent out : List ℕ} {i : ℕ} (h : Filled f lent out i) where
+  pub fill-size : length out ≡ length lent
+  fill-size = omega (arith, ap length (h .now), length-append (tabulate i f) (drop i lent), length-tabulate i f, length-drop i lent, h .within)
+
+  pub fill-next : {v : ℕ} → i < length lent → v ≡ f i → Filled f lent (set out i v) (i + 1)
+  fill-next {v} l e =
+      record {
+        within = omega arith;
+        now = (λ j. set (h .now j) i (e j)) ∙ rw add-one (fill-suc f i lent l);
+      }
+
+  pub fill-ends : (n : ℕ) → i ≡ n → out ≡ atFront (tabulate n f) lent
+  fill-ends n e = h .now ∙ (λ j. tabulate (e j) f ++ drop (e j) lent) ∙ ap (λ (z : ℕ). tabulate n f ++ drop z lent) (sym (length-tabulate n f))
+
+-- what was put there is the front of a column
+module _ {s starts counts : List ℕ} {k : ℕ} (h : Lies s starts counts k) where
+  pub column-filled : (lent : List ℕ) {out : List ℕ} → roomOf k ≤ length lent → out ≡ atFront (numbersPart s starts counts k) lent → Column s starts counts k out
+  column-filled lent {out} r e =
+      let n : ℕ = getD counts k 0 in
+      let p : List ℕ = numbersPart s starts counts k in
+      let l : length p ≡ n = length-tabulate n _ in
+      let m : length out ≡ length p + length (drop (length p) lent) = ap length e ∙ length-append p (drop (length p) lent) in
+      record {
+        front = ap (take n) e ∙ take-append-le n p (drop (length p) lent) (omega arith) ∙ take-all n p (omega arith);
+        fits = omega (arith, h .fits);
+      }

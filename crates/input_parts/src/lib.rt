@@ -1,0 +1,227 @@
+// The printer's sixteen inputs as parts of one byte string, by the number of the input, from 0: where the elements of each begin and how
+// many there are. Who has a problem in bytes finds the places, and this calls the printer with what lies there.
+// Under "Ruled out" stand wrong programs that a public function's contract refuses.
+use echo_kernel::Echo;
+use refusals::MAX_ENTRIES;
+use refusals::MAX_ROOTS;
+use refusals::MAX_SIDE;
+ghost use mathlib.Core.Path.{_≡_};
+ghost use Prim.Native.Nat.{_+_, _*_, _≤_, _<_};
+ghost use lib.ListN.{length, take, getD};
+ghost use Rattle.echo_spec.specs.Answers.{atFront, echo-ext-answer};
+ghost use Rattle.echo_kernel.specs.Outcomes.{answered};
+ghost use Rattle.input_parts.specs.Parts as parts;
+ghost use Rattle.input_parts.specs.Lying.{Lies, Inside, Column, Columns};
+
+// 64 bits from place i on, least significant byte first. Ruled out: the four high bytes first; the low four alone.
+pub fn word64(s: &[u8], i: usize) -> u64
+    requires { ⌜ i + 8 ≤ length (now s) ⌝ }
+    ensures { λ r. ⌜ r ≡ parts.word64 (now (s .entry)) i ⌝ }
+{
+    lent::word32(s, i) + 4294967296 * lent::word32(s, i + 4)
+}
+
+// How many inputs there are.
+pub const INPUTS: usize = 16;
+
+// The bytes of one element of each.
+const SIZES: [u8; INPUTS] = [1, 1, 8, 8, 1, 8, 8, 8, 8, 1, 8, 8, 1, 8, 8, 8];
+
+// The bytes of n elements of input k. Ruled out: as many bytes as numbers; eight bytes for one of the names.
+pub fn span(k: usize, n: usize) -> usize
+    requires { ⌜ (k < 16) × (n < 4294967296) ⌝ }
+    ensures { λ r. ⌜ (r ≡ parts.sizeOf k * n) × (r ≤ 8 * n) ⌝ }
+{
+    if SIZES[k] == 8 { 8 * n } else { n }
+}
+
+// The room of the columns that hold numbers: somewhat more than the limits, so that what is over a limit is handed on.
+pub const SIDE: usize = MAX_SIDE + 8;
+
+pub const ROOTS: usize = MAX_ROOTS + 8;
+
+pub const ENTRIES: usize = MAX_ENTRIES + 8;
+
+const ROOMS: [usize; INPUTS] = [
+    4294967295,
+    4294967295,
+    SIDE,
+    ROOTS,
+    4294967295,
+    ENTRIES,
+    ENTRIES,
+    ENTRIES,
+    ENTRIES,
+    4294967295,
+    ENTRIES,
+    ENTRIES,
+    4294967295,
+    ENTRIES,
+    ENTRIES,
+    ENTRIES,
+];
+
+// How many elements of input k there is room for. Ruled out: the limit itself, of numbers; the room of the input before it.
+pub fn room(k: usize) -> usize
+    requires { ⌜ k < 16 ⌝ }
+    ensures { λ r. ⌜ r ≡ parts.roomOf k ⌝ }
+{
+    ROOMS[k]
+}
+
+// ---------------------------------------------------------------- one input
+
+// The elements of input k, which are bytes. Ruled out: the elements of the input before it; one byte too many.
+pub fn bytes_of<'a>(
+    s: &'a [u8],
+    starts: &[usize; INPUTS],
+    counts: &[usize; INPUTS],
+    k: usize,
+) -> &'a [u8]
+    requires { ⌜ (k < 16) × (parts.sizeOf k ≡ 1) × Lies (now s) (now starts) (now counts) k ⌝ }
+    ensures { λ r. ⌜ now r ≡ parts.bytesPart (now (s .entry)) (now (starts .entry)) (now (counts .entry)) k ⌝ }
+{
+    let start = starts[k];
+    let n = counts[k];
+    &s[start..start + n]
+}
+
+// The elements of input k, which are numbers, to the front of a column. Ruled out: each number's bytes the other way round; the last
+// number left out.
+pub fn put(
+    s: &[u8],
+    starts: &[usize; INPUTS],
+    counts: &[usize; INPUTS],
+    k: usize,
+    column: &mut [u64],
+)
+    requires { ⌜ (k < 16) × (parts.sizeOf k ≡ 8) × Lies (now s) (now starts) (now counts) k × (parts.roomOf k ≤ length (now column)) ⌝ }
+    ensures { λ _. ⌜ now (column .exit) ≡ atFront (parts.numbersPart (now (s .entry)) (now (starts .entry)) (now (counts .entry)) k) (now (column .entry)) ⌝ }
+{
+    let start = starts[k];
+    let n = counts[k];
+    let mut i = 0;
+    while i < n {
+        column[i] = word64(s, start + 8 * i);
+        i += 1;
+    }
+}
+
+// As much of a column as input k has. Ruled out: the whole column; as much as the next input has.
+pub fn taken<'a>(counts: &[usize; INPUTS], k: usize, column: &'a [u64]) -> &'a [u64]
+    requires { ⌜ (k < 16) × (getD (now counts) k 0 ≤ length (now column)) ⌝ }
+    ensures { λ r. ⌜ now r ≡ take (getD (now (counts .entry)) k 0) (now (column .entry)) ⌝ }
+{
+    let n = counts[k];
+    &column[..n]
+}
+
+// ---------------------------------------------------------------- all inputs
+
+// The printer's answer, with the columns that hold the numbers.
+fn printed<'a>(
+    s: &'a [u8],
+    starts: &[usize; INPUTS],
+    counts: &[usize; INPUTS],
+    side: &'a [u64],
+    roots: &'a [u64],
+    name_start: &'a [u64],
+    name_len: &'a [u64],
+    var_node: &'a [u64],
+    var_width: &'a [u64],
+    aname_start: &'a [u64],
+    aname_len: &'a [u64],
+    fname_start: &'a [u64],
+    fname_len: &'a [u64],
+    func_width: &'a [u64],
+    out: &mut [u8],
+) -> Echo
+    requires { ⌜ Inside (now s) (now starts) (now counts) × Columns (now s) (now starts) (now counts) (now side) (now roots) (now «name_start») (now «name_len») (now «var_node») (now «var_width») (now «aname_start») (now «aname_len») (now «fname_start») (now «fname_len») (now «func_width») ⌝ }
+    ensures { λ r. ⌜ answered r (now (out .exit)) ≡ echo-ext-answer (parts.problemFrom (now (s .entry)) (now (starts .entry)) (now (counts .entry))) (now (out .entry)) ⌝ }
+{
+    echo_kernel::echo_ext(
+        bytes_of(s, starts, counts, 0),
+        bytes_of(s, starts, counts, 1),
+        taken(counts, 2, side),
+        taken(counts, 3, roots),
+        bytes_of(s, starts, counts, 4),
+        taken(counts, 5, name_start),
+        taken(counts, 6, name_len),
+        taken(counts, 7, var_node),
+        taken(counts, 8, var_width),
+        bytes_of(s, starts, counts, 9),
+        taken(counts, 10, aname_start),
+        taken(counts, 11, aname_len),
+        bytes_of(s, starts, counts, 12),
+        taken(counts, 13, fname_start),
+        taken(counts, 14, fname_len),
+        taken(counts, 15, func_width),
+        out,
+    )
+}
+
+// With side entries and roots, and then the nine other columns.
+fn with_columns<'a>(
+    s: &'a [u8],
+    starts: &[usize; INPUTS],
+    counts: &[usize; INPUTS],
+    side: &'a [u64],
+    roots: &'a [u64],
+    out: &mut [u8],
+) -> Echo
+    requires { ⌜ Inside (now s) (now starts) (now counts) × Column (now s) (now starts) (now counts) 2 (now side) × Column (now s) (now starts) (now counts) 3 (now roots) ⌝ }
+    ensures { λ r. ⌜ answered r (now (out .exit)) ≡ echo-ext-answer (parts.problemFrom (now (s .entry)) (now (starts .entry)) (now (counts .entry))) (now (out .entry)) ⌝ }
+{
+    let mut name_start = [0u64; ENTRIES];
+    let mut name_len = [0u64; ENTRIES];
+    let mut var_node = [0u64; ENTRIES];
+    let mut var_width = [0u64; ENTRIES];
+    let mut aname_start = [0u64; ENTRIES];
+    let mut aname_len = [0u64; ENTRIES];
+    let mut fname_start = [0u64; ENTRIES];
+    let mut fname_len = [0u64; ENTRIES];
+    let mut func_width = [0u64; ENTRIES];
+    put(s, starts, counts, 5, &mut name_start);
+    put(s, starts, counts, 6, &mut name_len);
+    put(s, starts, counts, 7, &mut var_node);
+    put(s, starts, counts, 8, &mut var_width);
+    put(s, starts, counts, 10, &mut aname_start);
+    put(s, starts, counts, 11, &mut aname_len);
+    put(s, starts, counts, 13, &mut fname_start);
+    put(s, starts, counts, 14, &mut fname_len);
+    put(s, starts, counts, 15, &mut func_width);
+    printed(
+        s,
+        starts,
+        counts,
+        side,
+        roots,
+        &name_start,
+        &name_len,
+        &var_node,
+        &var_width,
+        &aname_start,
+        &aname_len,
+        &fname_start,
+        &fname_len,
+        &func_width,
+        out,
+    )
+}
+
+// The printer's answer to the problem that lies in s. Ruled out: the side entries handed over as roots; a column that keeps its zeros.
+pub fn print_parts(
+    s: &[u8],
+    starts: &[usize; INPUTS],
+    counts: &[usize; INPUTS],
+    out: &mut [u8],
+) -> Echo
+    requires { ⌜ Inside (now s) (now starts) (now counts) ⌝ }
+    ensures { λ r. ⌜ answered r (now (out .exit)) ≡ echo-ext-answer (parts.problemFrom (now (s .entry)) (now (starts .entry)) (now (counts .entry))) (now (out .entry)) ⌝ }
+{
+    let mut side = [0u64; SIDE];
+    let mut roots = [0u64; ROOTS];
+    put(s, starts, counts, 2, &mut side);
+    put(s, starts, counts, 3, &mut roots);
+    with_columns(s, starts, counts, &side, &roots, out)
+}

@@ -1,0 +1,110 @@
+// The ten refusals with their numbers, and the limits on the inputs: each stands here once. Under "Ruled out" stand wrong programs that
+// a function's contract refuses.
+ghost use mathlib.Core.Path.{_≡_};
+ghost use Prim.Native.Nat.{_≤_, _<_};
+ghost use Rattle.refusals.specs.Numbers.{errorNumber};
+
+// ---------------------------------------------------------------- refusals
+
+// Why a problem is refused: the Rust's seven, and three more.
+pub enum EchoError {
+    // A node is not well formed, columns of a table differ in length, a root is not a node, or a select or call is of none in the tables.
+    Malformed,
+    // A name is empty, has a byte that no quoted symbol has, is reserved, or is given twice.
+    Name,
+    // A Bool where a bit-vector is wanted, or the other way about.
+    Sort,
+    // A variable without an entry of its width, or an entry of width 0.
+    Var,
+    // A rotation by what is not a constant, or of a width over 65,536.
+    Rotate,
+    // An operator node is used more than once.
+    Shared,
+    // A function is not called, or is called in another way than by its first call.
+    Signature,
+    // The nodes or bits are encoded wrongly.
+    Encoding,
+    // An input is over its limit.
+    Limit,
+    // The script is longer than the lent buffer.
+    Room,
+}
+
+// Their numbers, which stand for them inside the code and outside the language. 0 is an acceptance.
+pub const MALFORMED: u64 = 1;
+
+pub const NAME: u64 = 2;
+
+pub const SORT: u64 = 3;
+
+pub const VAR: u64 = 4;
+
+pub const ROTATE: u64 = 5;
+
+pub const SHARED: u64 = 6;
+
+pub const SIGNATURE: u64 = 7;
+
+pub const ENCODING: u64 = 8;
+
+pub const LIMIT: u64 = 9;
+
+pub const ROOM: u64 = 10;
+
+// A refusal's number. Ruled out: numbers from 0 on; 8 and 9 the other way about.
+pub fn number_of(e: EchoError) -> u64
+    ensures { λ r. ⌜ r ≡ errorNumber e ⌝ }
+{
+    match e {
+        EchoError::Malformed => MALFORMED,
+        EchoError::Name => NAME,
+        EchoError::Sort => SORT,
+        EchoError::Var => VAR,
+        EchoError::Rotate => ROTATE,
+        EchoError::Shared => SHARED,
+        EchoError::Signature => SIGNATURE,
+        EchoError::Encoding => ENCODING,
+        EchoError::Limit => LIMIT,
+        EchoError::Room => ROOM,
+    }
+}
+
+// The refusal with this number. Ruled out: the one with the number before it; one refusal for two numbers.
+pub fn error_of(n: u64) -> EchoError
+    requires { ⌜ (0 < n) × (n ≤ 10) ⌝ }
+    ensures { λ r. ⌜ errorNumber r ≡ n ⌝ }
+{
+    match n {
+        MALFORMED => EchoError::Malformed,
+        NAME => EchoError::Name,
+        SORT => EchoError::Sort,
+        VAR => EchoError::Var,
+        ROTATE => EchoError::Rotate,
+        SHARED => EchoError::Shared,
+        SIGNATURE => EchoError::Signature,
+        ENCODING => EchoError::Encoding,
+        LIMIT => EchoError::Limit,
+        _ => EchoError::Room,
+    }
+}
+
+// ---------------------------------------------------------------- limits
+
+// Nodes, and the bytes of the record of one.
+pub const MAX_NODES: usize = 2048;
+
+pub const RECORD: usize = 17;
+
+pub const MAX_NODE_BYTES: usize = MAX_NODES * RECORD;
+
+// Bits, side entries and roots.
+pub const MAX_BITS: usize = 131072;
+
+pub const MAX_SIDE: usize = 8192;
+
+pub const MAX_ROOTS: usize = 256;
+
+// The entries of a table, and the bytes of its names.
+pub const MAX_ENTRIES: usize = 512;
+
+pub const MAX_ARENA: usize = 16384;
