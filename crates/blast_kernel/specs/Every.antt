@@ -2,7 +2,7 @@
 use Prim.Native.Nat.{ℕ, _+_, _≤_, _<_}
 use mathlib.Core.Path.{_≡_, refl, sym, ap, _∙_}
 use mathlib.Core.List.{List}
-use mathlib.Core.Bool.{Bool, true, false, _&&_}
+use mathlib.Core.Bool.{Bool, true, false, _&&_, and-false}
 use native.Mathlib.Numerals.{add-one}
 use lib.ListN.{length, drop, getD, drop-of-length-le}
 use lib.Seq.{drop-cons}
@@ -33,10 +33,6 @@ pub record Seen {A : Type 0} (p : A → Bool) (s : List A) (ok : Bool) (i : ℕ)
 
 pub seen-start : {A : Type 0} (p : A → Bool) (s : List A) → Seen p s true 0
 seen-start p s = record { rest = refl }
-
-and-false : (b : Bool) → (b && false) ≡ false
-and-false true = refl
-and-false false = refl
 
 module _ {A : Type 0} (p : A → Bool) {s : List A} {ok : Bool} {i : ℕ} (d : A) (h : Seen p s ok i) where
   pub seen-pass : i < length s → p (getD s i d) ≡ true → Seen p s ok (i + 1)

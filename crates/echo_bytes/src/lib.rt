@@ -45,6 +45,13 @@ fn fitting(n: usize, size: usize, at: usize) -> usize
     if n <= size - at { n } else { size - at }
 }
 
+// How many bytes fit from `at` on into a buffer of `size` bytes.
+fn room(size: usize, at: usize) -> usize
+    ensures { λ r. ⌜ r ≡ size - at ⌝ }
+{
+    if at >= size { 0 } else { size - at }
+}
+
 // The first k bytes of w, stored from `at` on (`push_range`).
 fn copy(out: &mut [u8], at: usize, w: &[u8], k: usize)
     requires { ⌜ (k ≤ length (now w)) × (k ≤ length (now out) - at) ⌝ }
@@ -86,8 +93,8 @@ impl Place {
         self
     }
 
-    // `push_word`. Ruled out: the last byte left out though it fits; a word that does not fit counted as far as it was written.
-    pub fn word(mut self, out: &mut [u8], w: &[u8]) -> Place
+    // A word that may not fit.
+    fn cut(mut self, out: &mut [u8], w: &[u8]) -> Place
         ensures { λ r. ⌜ page r (now (out .exit)) ≡ written (page self (now (out .entry))) (now (w .entry)) ⌝ }
     {
         let at = self.at;
@@ -98,6 +105,23 @@ impl Place {
         self.at = at + k;
         self.need = more(need, n);
         self
+    }
+
+    // `push_word`. (Where it fits, a word of known length is stored by a few instructions.) Ruled out: the last byte left out though it fits; a word
+    // that does not fit counted as far as it was written.
+    pub fn word(mut self, out: &mut [u8], w: &[u8]) -> Place
+        ensures { λ r. ⌜ page r (now (out .exit)) ≡ written (page self (now (out .entry))) (now (w .entry)) ⌝ }
+    {
+        let at = self.at;
+        let need = self.need;
+        let k = w.len();
+        if k <= room(out.len(), at) {
+            copy(out, at, w, k);
+            self.at = at + k;
+            self.need = more(need, k);
+            return self;
+        }
+        self.cut(out, w)
     }
 
     // `|name|` (`push_name`). Ruled out: a blank for the opening bar; a name without its closing bar.
@@ -150,6 +174,36 @@ impl Place {
         ensures { λ r. ⌜ page r (now (out .exit)) ≡ written (page self (now (out .entry))) (bytes "#b" ++ binaryDigits (now (bits .entry))) ⌝ }
     {
         self = self.word(out, b"#b");
+        self.digits(out, bits)
+    }
+
+    // Two bytes and a word, one piece where it fits: ` (word`, ` |name`. Ruled out: the second byte first; a word that fits counted without the two.
+    pub fn led(mut self, out: &mut [u8], a: u8, b: u8, w: &[u8]) -> Place
+        ensures { λ r. ⌜ page r (now (out .exit)) ≡ written (page self (now (out .entry))) (a ∷ b ∷ now (w .entry)) ⌝ }
+    {
+        let at = self.at;
+        let need = self.need;
+        let k = w.len();
+        let all = k + 2;
+        if all <= room(out.len(), at) {
+            out[at] = a;
+            out[at + 1] = b;
+            copy(out, at + 2, w, k);
+            self.at = at + all;
+            self.need = more(need, all);
+            return self;
+        }
+        self = self.byte(out, a);
+        self = self.byte(out, b);
+        self.word(out, w)
+    }
+
+    // ` #b`, and the bits as `constant` has them. Ruled out: the lowest bit first; a constant without its blank.
+    pub fn spaced_constant(mut self, out: &mut [u8], bits: &[u8]) -> Place
+        requires { ⌜ T (every (λ b. leb b 1) (now bits)) ⌝ }
+        ensures { λ r. ⌜ page r (now (out .exit)) ≡ written (page self (now (out .entry))) (bytes " #b" ++ binaryDigits (now (bits .entry))) ⌝ }
+    {
+        self = self.led(out, b' ', b'#', b"b");
         self.digits(out, bits)
     }
 }

@@ -8,11 +8,9 @@ use borrow.Author.Tests.{le-leb, lt-leb}
 use lib.Dec.{leb}
 use lib.ListN.{length, drop, replicate}
 use Rattle.echo_spec.specs.Refusals.{unless, _orElse_}
-use Rattle.echo_spec.specs.Input.{Problem, withinLimits, encoded, dagOf, queryOf}
-use Rattle.echo_spec.specs.Widths.{ext-wf}
-use Rattle.echo_spec.specs.Walk.{refusal}
-use Rattle.echo_spec.specs.Answers.{zeroed, script, endlessWith, endlessRefusal, textRefusal, echoAnswer, textAnswer, echo-ext-answer}
-use Rattle.echo_spec.specs.Accepted.{refusal-bound, orElse-either, unless-bound}
+use Rattle.echo_spec.specs.Input.{Problem, queryOf}
+use Rattle.echo_spec.specs.Answers.{zeroed, script, endlessRefusal, textRefusal, echoAnswer, textAnswer, echo-ext-answer}
+use Rattle.echo_spec.specs.Accepted.{endless-bound}
 use Rattle.echo_bytes.specs.declared.Place.{Place}
 use Rattle.echo_bytes.specs.Page.{Page, page, start, written}
 use Rattle.echo_bytes.specs.Laws.{need-exact, written-fits}
@@ -23,17 +21,6 @@ use Rattle.echo_kernel.specs.declared.Out.{Out}
 use Rattle.echo_kernel.specs.declared.Out.the-variants as out
 use Rattle.echo_kernel.specs.declared.Echo.the-variants.{Printed, Refused}
 use Rattle.echo_kernel.specs.Outcomes.{Wrote, answered}
-
--- ---------------------------------------------------------------- the numbers
-
-endless-bound : (p : Problem) → endlessRefusal p ≤ 9
-unfolding endlessRefusal endlessWith
-endless-bound p =
-    orElse-either (unless (withinLimits p) 9) (unless (encoded (p .nodes) (p .bits)) 8 orElse refusal (dagOf p) (length (p .bits)) (p .roots)) 9
-    (unless-bound (withinLimits p) 9 9 (omega arith))
-    (orElse-either (unless (encoded (p .nodes) (p .bits)) 8) (refusal (dagOf p) (length (p .bits)) (p .roots)) 9
-    (unless-bound (encoded (p .nodes) (p .bits)) 8 9 (omega arith))
-    (omega (arith, refusal-bound (dagOf p) (ext-wf (length (p .bits)) (dagOf p .side) (dagOf p .nodes)) (p .roots))))
 
 -- ---------------------------------------------------------------- what was written
 

@@ -33,11 +33,11 @@ pub opened-inside : (l bs : List ℕ) {q : Page} → q ≡ written (page start l
 opened-inside l bs e = subst (λ (z : Page). z .place .at ≤ length (z .bytes)) (sym e) (at-written (page start l) bs (omega arith))
 
 -- no root is refused
-roots-pass : (f : ℕ → Bool → ℕ) (roots : List ℕ) → walkAll f (map formula roots) ≡ 0 → (k : ℕ) → k < length roots → f (getD roots k 0) true ≡ 0
+root-passes : (f : ℕ → Bool → ℕ) (roots : List ℕ) → walkAll f (map formula roots) ≡ 0 → (k : ℕ) → k < length roots → f (getD roots k 0) true ≡ 0
 unfolding walkAll
-roots-pass f [] e k l = absurd (omega arith)
-roots-pass f (r ∷ rs) e zero l = orElse-passed (f r true) (walkAll f (map formula rs)) e .0
-roots-pass f (r ∷ rs) e (suc k) l = roots-pass f rs (orElse-passed (f r true) (walkAll f (map formula rs)) e .1) k (omega arith)
+root-passes f [] e k l = absurd (omega arith)
+root-passes f (r ∷ rs) e zero l = orElse-passed (f r true) (walkAll f (map formula rs)) e .0
+root-passes f (r ∷ rs) e (suc k) l = root-passes f rs (orElse-passed (f r true) (walkAll f (map formula rs)) e .1) k (omega arith)
 
 module _ {B N : List Slice} (ws entries codes : Slice) {first : List ℕ} (h : Prepared B N (ws .now) (entries .now) (codes .now) first) where
   abbrev F : List Slice
@@ -91,7 +91,7 @@ module _ {B N : List Slice} (ws entries codes : Slice) {first : List ℕ} (h : P
 
   pub all-fine : AllFine B N F (problemAt B N .roots)
   unfolding walkRoots
-  all-fine = record { at = λ k l. fine-root _ (roots-pass (walk (dagAt B N) (ws .now)) (problemAt B N .roots) (h .walked) k l) }
+  all-fine = record { at = λ k l. fine-root _ (root-passes (walk (dagAt B N) (ws .now)) (problemAt B N .roots) (h .walked) k l) }
 
   -- the lines before the roots, the roots, and the last line
   pub print-in : {Y : List ℕ} → Y ≡ symbolTable → (l₀ : List ℕ) {a b c : Page}

@@ -63,8 +63,8 @@ fn echo_root(
     ensures { λ r. ⌜ page r (now (out .exit)) ≡ written (page start (now (out .entry))) (rootText (textAt (now (bytes .entry)) (now (numbers .entry)) (now (tables .entry))) root) ⌝ }
 {
     let p = echo_bytes::start();
-    let q = p.word(out, b"(assert");
-    let r = echo_walk::echo_node(bytes, numbers, tables, symbols, root, q, out);
+    let q = echo_lines::open_assert(p, out);
+    let r = echo_walk::echo_node(bytes, numbers, tables, symbols, q, root, out);
     echo_lines::close_line(r, out)
 }
 

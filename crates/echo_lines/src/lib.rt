@@ -86,14 +86,13 @@ fn push_symbol(symbols: &[u8], kind: u8, p: Place, out: &mut [u8]) -> Place
 
 // ---------------------------------------------------------------- heads of terms
 
-// `(bvadd`, for a symbol without numerals. Ruled out: a head without its parenthesis; a blank after the symbol, where the operands bring their own.
-pub fn open_plain(symbols: &[u8], kind: u8, p: Place, out: &mut [u8]) -> Place
+// ` (bvadd`, with the blank before the term, as one piece where it fits. Ruled out: the bracket before the blank; the symbol of another kind.
+pub fn spaced_plain(symbols: &[u8], kind: u8, p: Place, out: &mut [u8]) -> Place
     requires { ⌜ now symbols ≡ symbolTable ⌝ }
     requires { ⌜ kind < 37 ⌝ }
-    ensures { λ r. ⌜ page r (now (out .exit)) ≡ written (page p (now (out .entry))) (bytes "(" ++ symbolOf kind) ⌝ }
+    ensures { λ r. ⌜ page r (now (out .exit)) ≡ written (page p (now (out .entry))) (bytes " (" ++ symbolOf kind) ⌝ }
 {
-    let opened = p.byte(out, b'(');
-    push_symbol(symbols, kind, opened, out)
+    p.led(out, b' ', b'(', symbol(symbols, kind))
 }
 
 // `((_ extract`, before the symbol's numerals.
@@ -341,11 +340,12 @@ pub fn push_logic(narrays: usize, nfuncs: usize, p: Place, out: &mut [u8]) -> Pl
     close_line(named, out)
 }
 
-// The start of a root's line, which `close_line` ends. Ruled out: no blank before the term; a line without its parenthesis.
+// The start of a root's line, which `close_line` ends; the term brings the blank before it. Ruled out: a line without its parenthesis; two
+// blanks before the term.
 pub fn open_assert(p: Place, out: &mut [u8]) -> Place
-    ensures { λ r. ⌜ page r (now (out .exit)) ≡ written (page p (now (out .entry))) (bytes "(assert ") ⌝ }
+    ensures { λ r. ⌜ page r (now (out .exit)) ≡ written (page p (now (out .entry))) (bytes "(assert") ⌝ }
 {
-    p.word(out, b"(assert ")
+    p.word(out, b"(assert")
 }
 
 // The last line. Ruled out: a script without its check; a last line that is not ended.

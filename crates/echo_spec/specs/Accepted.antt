@@ -28,11 +28,14 @@ use Rattle.echo_spec.specs.Shapes.{
   unknown,
   isBool,
 }
-use Rattle.echo_spec.specs.Input.{Node, shape, no-node, Dag, anameTable, fnameTable}
+use Rattle.echo_spec.specs.Input.{Node, shape, no-node, Dag, anameTable, fnameTable, Problem, withinLimits, encoded, dagOf}
+use Rattle.echo_spec.specs.Widths.{ext-wf}
+use Rattle.echo_spec.specs.Answers.{endlessWith, endlessRefusal}
 use Rattle.echo_spec.specs.Names.{namesOk}
 use Rattle.echo_spec.specs.Sharing.{unshared}
 use Rattle.echo_spec.specs.Tables.{columnsOk, decl-vars-ok, decl-funcs-ok}
 use Rattle.echo_spec.specs.Walk.{
+  refusal,
   callOk,
   variableOk,
   rotationOk,
@@ -211,3 +214,13 @@ refusal-bound d ws roots =
     leb→le (refusalWith d ws roots) 7
     (checks-number small d ws (unless (unshared (d .nodes) (d .side) roots) 6) (walkRoots d ws roots) tt (in-unless small (unshared (d .nodes) (d .side) roots) 6 tt tt)
     (among-every small (0 ∷ 1 ∷ 3 ∷ 4 ∷ 5 ∷ 7 ∷ []) tt (walkRoots d ws roots) (all-number (walk d ws) (walk-number d ws) (map formula roots))))
+
+-- with endless room a problem is accepted or refused with 1 to 9
+pub endless-bound : (p : Problem) → endlessRefusal p ≤ 9
+unfolding endlessRefusal endlessWith
+endless-bound p =
+    orElse-either (unless (withinLimits p) 9) (unless (encoded (p .nodes) (p .bits)) 8 orElse refusal (dagOf p) (length (p .bits)) (p .roots)) 9
+    (unless-bound (withinLimits p) 9 9 (omega arith))
+    (orElse-either (unless (encoded (p .nodes) (p .bits)) 8) (refusal (dagOf p) (length (p .bits)) (p .roots)) 9
+    (unless-bound (encoded (p .nodes) (p .bits)) 8 9 (omega arith))
+    (omega (arith, refusal-bound (dagOf p) (ext-wf (length (p .bits)) (dagOf p .side) (dagOf p .nodes)) (p .roots))))

@@ -244,7 +244,7 @@ unfolding callForm
 call-inside side s zero h = tt
 call-inside side s (suc n) h = omega (arith, length-drop s side)
 
-form-inside : (ws : List ℕ) (i nbits : ℕ) (side : List ℕ) (n : Node) (s : Shape) → Formed ws i nbits side n s → FormInside side (formAs n s)
+pub form-inside : (ws : List ℕ) (i nbits : ℕ) (side : List ℕ) (n : Node) (s : Shape) → Formed ws i nbits side n s → FormInside side (formAs n s)
 unfolding formAs
 form-inside ws i nbits side n var f = tt
 form-inside ws i nbits side n const f = tt

@@ -48,6 +48,7 @@ use Rattle.lent.specs.Lent.{Slice, problemAt, dagAt}
 use Rattle.echo_names.specs.NameTables.{length-namesOf, getD-namesOf}
 use Rattle.echo_lines.specs.Heads.{repeated, callHead}
 use Rattle.echo_bytes.specs.Page.{Page, written}
+use Rattle.echo_bytes.specs.Laws.{written-then}
 use Rattle.echo_walk.specs.Texts.{headAs, headOf}
 use Rattle.echo_walk.specs.Ready.{widthsIn, entriesIn, codeIn, nodeIn, headAt, indexedHead, Ready, Taken, Constant, Operator}
 
@@ -95,9 +96,10 @@ module _ (B N F : List Slice) (Y : List ℕ) (ready : Ready B N F Y) (i : ℕ) w
           omega (arith, ready .aligned .var-node)
 
       pub head-of-var : {x : List ℕ} → x ≡ getD (namesOf (problemAt B N .names) (problemAt B N .name-start) (problemAt B N .name-len)) k []
-          → {g : Page} (P : Page) → g ≡ written P (quoted x) → g ≡ written P (headAt B N F i var)
-      unfolding headAs dagOf
-      head-of-var ex P w = w ∙ ap (λ (m : List ℕ). written P (quoted m)) (ex ∙ sym (variable-name (dagAt B N) i k own-entry))
+          → {g h : Page} (P : Page) → g ≡ written P (32 ∷ 124 ∷ x) → h ≡ written g (124 ∷ []) → h ≡ written P (32 ∷ headAt B N F i var)
+      unfolding headAs dagOf quoted bytes
+      head-of-var {x} ex P v w =
+          written-then P (32 ∷ 124 ∷ x) (124 ∷ []) v w ∙ ap (λ (m : List ℕ). written P (32 ∷ quoted m)) (ex ∙ sym (variable-name (dagAt B N) i k own-entry))
 
   pub array-inside : Taken B N F i select → {m : Node} → m ≡ nodeIn B N i → m .a < length (problemAt B N .aname-start)
   unfolding askedAs dagOf
@@ -246,14 +248,20 @@ module _ (B N F : List Slice) (Y : List ℕ) (ready : Ready B N F Y) (i : ℕ) (
   operator-as e h = record { here = node-here; symbol = kind-small (nodeIn B N i .kind) e h; symbols = ready .symbols }
 
   -- the head by the shape is the head
-  pub head-in : {s : Shape} → shape (nodeIn B N i) ≡ s → {q : Page} (P : Page) {h : List ℕ} → h ≡ headAt B N F i s → q ≡ written P h
-      → q ≡ written P (headOf (dagAt B N) (widthsIn F) (problemAt B N .bits) i)
+  pub head-in : {s : Shape} → shape (nodeIn B N i) ≡ s → {q : Page} (P : Page) {h : List ℕ} → h ≡ headAt B N F i s → q ≡ written P (32 ∷ h)
+      → q ≡ written P (32 ∷ headOf (dagAt B N) (widthsIn F) (problemAt B N .bits) i)
   unfolding headOf dagOf
-  head-in {s} e P f w = w ∙ ap (written P) (f ∙ ap (headAt B N F i) (sym e))
+  head-in {s} e P f w = w ∙ ap (λ (t : List ℕ). written P (32 ∷ t)) (f ∙ ap (headAt B N F i) (sym e))
 
-  pub const-head : bytes "#b" ++ binaryDigits (constantBits (problemAt B N .bits) (nodeIn B N i)) ≡ headAt B N F i const
-  unfolding headAs
-  const-head = refl
+  -- behind a blank
+  pub head-after : {s : Shape} → shape (nodeIn B N i) ≡ s → {q r : Page} (P : Page) {h : List ℕ} → h ≡ headAt B N F i s → q ≡ written P (32 ∷ []) → r ≡ written q h
+      → r ≡ written P (32 ∷ headOf (dagAt B N) (widthsIn F) (problemAt B N .bits) i)
+  head-after e P {h} f v w = head-in e P f (written-then P (32 ∷ []) h v w)
+
+  pub const-head : shape (nodeIn B N i) ≡ const → {q : Page} (P : Page) → q ≡ written P (bytes " #b" ++ binaryDigits (constantBits (problemAt B N .bits) (nodeIn B N i)))
+      → q ≡ written P (32 ∷ headOf (dagAt B N) (widthsIn F) (problemAt B N .bits) i)
+  unfolding headAs bytes
+  const-head e P w = head-in e P refl w
 
   pub extraction-head : indexedHead true (nodeIn B N i) ≡ headAt B N F i extraction
   unfolding headAs indexedHead
@@ -289,7 +297,8 @@ module _ (B N F : List Slice) (Y : List ℕ) (ready : Ready B N F Y) (i : ℕ) (
     pub plain-operator : Operator B N Y i
     plain-operator = operator-as refl (plain-as (shape (nodeIn B N i)) refl e a c g h j k .0)
 
-    pub plain-head : {q : Page} (P : Page) → q ≡ written P (bytes "(" ++ symbolOf (nodeIn B N i .kind)) → q ≡ written P (headOf (dagAt B N) (widthsIn F) (problemAt B N .bits) i)
+    pub plain-head : {q : Page} (P : Page) → q ≡ written P (bytes " (" ++ symbolOf (nodeIn B N i .kind)) → q ≡ written P (32 ∷ headOf (dagAt B N) (widthsIn F) (problemAt B N .bits) i)
+    unfolding bytes
     plain-head P w = head-in refl P (plain-as (shape (nodeIn B N i)) refl e a c g h j k .1) w
 
 -- ---------------------------------------------------------------- the record that was read is the node's
@@ -301,12 +310,12 @@ pub constant-inside : {B N : List Slice} {i : ℕ} → Constant B N i → {m : N
 constant-inside c e = (rw e (c .within), c .binary)
 
 module _ {m x : Node} (e : m ≡ x) where
-  pub head-of-const : (bits : List ℕ) {q : Page} (P : Page) → q ≡ written P (bytes "#b" ++ binaryDigits (take (m .b) (drop (m .a) bits)))
-      → q ≡ written P (bytes "#b" ++ binaryDigits (constantBits bits x))
+  pub head-of-const : (bits : List ℕ) {q : Page} (P : Page) → q ≡ written P (bytes " #b" ++ binaryDigits (take (m .b) (drop (m .a) bits)))
+      → q ≡ written P (bytes " #b" ++ binaryDigits (constantBits bits x))
   unfolding constantBits
   head-of-const bits P w = w ∙ rw e refl
 
-  pub head-of-plain : {q : Page} (P : Page) → q ≡ written P (bytes "(" ++ symbolOf (m .kind)) → q ≡ written P (bytes "(" ++ symbolOf (x .kind))
+  pub head-of-plain : {q : Page} (P : Page) → q ≡ written P (bytes " (" ++ symbolOf (m .kind)) → q ≡ written P (bytes " (" ++ symbolOf (x .kind))
   head-of-plain P w = w ∙ rw e refl
 
   pub head-of-two : {b : Bool} → b ≡ true → {q : Page} (P : Page) → q ≡ written P (bytes "(" ++ operatorText (symbolOf (m .kind)) (m .a ∷ m .b ∷ [])) → q ≡ written P (indexedHead b x)
@@ -325,9 +334,9 @@ rotation-symbol B N F Y r i p e = rw e (kind-small (nodeIn B N i .kind) (p .shap
 exact : (s w : ℕ) → s + w - s ≡ w
 exact s w = omega arith
 
-pub bits-exact : (bits : List ℕ) (s w : ℕ) {q : Page} (P : Page) → q ≡ written P (bytes "#b" ++ binaryDigits (take (s + w - s) (drop s bits)))
-    → q ≡ written P (bytes "#b" ++ binaryDigits (take w (drop s bits)))
-bits-exact bits s w P h = h ∙ ap (λ (k : ℕ). written P (bytes "#b" ++ binaryDigits (take k (drop s bits)))) (exact s w)
+pub bits-exact : (bits : List ℕ) (s w : ℕ) {q : Page} (P : Page) → q ≡ written P (bytes " #b" ++ binaryDigits (take (s + w - s) (drop s bits)))
+    → q ≡ written P (bytes " #b" ++ binaryDigits (take w (drop s bits)))
+bits-exact bits s w P h = h ∙ ap (λ (k : ℕ). written P (bytes " #b" ++ binaryDigits (take k (drop s bits)))) (exact s w)
 
 pub amount-exact : (bits : List ℕ) (s n w : ℕ) {r : ℕ} → r ≡ bitsValue (take (s + n - s) (drop s bits)) % w → r ≡ bitsValue (take n (drop s bits)) % w
 amount-exact bits s n w h = h ∙ ap (λ (k : ℕ). bitsValue (take k (drop s bits)) % w) (exact s n)

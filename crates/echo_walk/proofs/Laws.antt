@@ -4,7 +4,6 @@ use mathlib.Core.Path.{_≡_, refl, sym, ap, _∙_, subst}
 use mathlib.Core.Bool.{Bool, true, false}
 use mathlib.Core.List.{List, [], _∷_, _++_, append-nil, append-assoc}
 use native.Mathlib.Decide.{decLt}
-use native.Mathlib.Nat.{suc-mul, mul-le-mul-right}
 use native.Mathlib.Omega.{arith}
 use borrow.Author.Tests.{leb-true, leb-false}
 use lib.Dec.{leb, eqb}
@@ -22,13 +21,13 @@ use Rattle.echo_bytes.specs.Page.{Page, page, written}
 use Rattle.echo_bytes.specs.Laws.{written-nil, written-then, length-written}
 use Rattle.echo_tables.specs.declared.Form.{Form}
 use Rattle.echo_tables.specs.declared.Form.the-variants.{Leaf}
-use Rattle.echo_walk.specs.declared.Run.{Run}
 use Rattle.echo_tables.specs.Forms.{formAs, formOperands}
+use Rattle.echo_tables.specs.Uses.{form-inside}
 use Rattle.echo_tables.specs.Refused.{operandsOf, refusedAt, Each, Passes, form-passes}
-use Rattle.echo_walk.specs.Operands.{Entries, OverForm, over-form, within}
+use Rattle.echo_walk.specs.Operands.{Entries, OverForm, over-form}
 use Rattle.echo_walk.specs.Texts.{headOf, twoText, levelsText, argsText, formText, Style, plain, named, planned}
 use Rattle.echo_walk.specs.StyleLaws.{FormBelow, own-below, text-passed, planned-head, planned-form, named-head, named-form}
-use Rattle.echo_walk.specs.Ready.{widthsIn, codeIn, planIn, styleAt, textAt, nodeIn, Ready, Fine, Under, LeafAt, TermAt, Leaves}
+use Rattle.echo_walk.specs.Ready.{widthsIn, codeIn, planIn, styleAt, textAt, nodeIn, Ready, Fine, Under, LeafAt, TermAt}
 
 -- a record lies within the nodes' bytes
 pub record-inside : (nodes : List ℕ) (i : ℕ) → i < length (nodesOf nodes) → 17 * i + 17 ≤ length nodes
@@ -39,29 +38,13 @@ record-at nodes i h = nodes-at nodes no-node i (omega (arith, nodes-length nodes
 
 -- ---------------------------------------------------------------- the measure
 
--- a node number, and how many entries are left; for a node itself 2^64 stands for the entries, and for an operand one more
+-- a node number, and the rank of the writer among those that write at one node: one and the arguments, two, stores, node, operand
 pub μ : ℕ → ℕ → ℕ
-μ i n = i * 18446744073709551618 + n
+μ i n = i * 5 + n
 
-lower : (a lim m n : ℕ) {t : ℕ} → μ lim n ≡ t → a < lim → m ≤ 18446744073709551617 → μ a m < t
+pub lower : (a lim m n : ℕ) {t : ℕ} → μ lim n ≡ t → a < lim → m ≤ 4 → μ a m < t
 unfolding μ
-lower a lim m n e h b =
-    let l : suc a * 18446744073709551618 ≤ lim * 18446744073709551618 = mul-le-mul-right 18446744073709551618 h in
-    let k : suc a * 18446744073709551618 ≡ a * 18446744073709551618 + 18446744073709551618 = suc-mul a 18446744073709551618 in
-    apart (a * 18446744073709551618) (suc a * 18446744073709551618) (lim * 18446744073709551618) e l k
-  where
-    apart : {t : ℕ} (x y z : ℕ) → z + n ≡ t → y ≤ z → y ≡ x + 18446744073709551618 → x + m < t
-    apart x y z e l k = omega arith
-
-pub lower-node : (a lim n : ℕ) {t : ℕ} → μ lim n ≡ t → a < lim → μ a 18446744073709551616 < t
-lower-node a lim n e h = lower a lim 18446744073709551616 n e h (omega arith)
-
-pub lower-operand : (a lim n : ℕ) {t : ℕ} → μ lim n ≡ t → a < lim → μ a 18446744073709551617 < t
-lower-operand a lim n e h = lower a lim 18446744073709551617 n e h (omega arith)
-
-pub inside : (i n : ℕ) {t : ℕ} → μ i 18446744073709551616 ≡ t → n < 18446744073709551616 → μ i n < t
-unfolding μ
-inside i n e h = omega arith
+lower a lim m n e h b = omega arith
 
 pub fewer : (i n m : ℕ) {t : ℕ} → μ i m ≡ t → n < m → μ i n < t
 unfolding μ
@@ -84,60 +67,47 @@ args-more : (g : ℕ → List ℕ) (side : List ℕ) (s k : ℕ) → (32 ∷ g (
 unfolding argsText
 args-more g side s k = refl
 
-args-step : (g : ℕ → List ℕ) (side : List ℕ) (s n : ℕ) → (n ≡ 0 → ⊥) → {x : ℕ} → x ≡ getD side s 0
+pub args-step : (g : ℕ → List ℕ) (side : List ℕ) (s n : ℕ) → (n ≡ 0 → ⊥) → {x : ℕ} → x ≡ getD side s 0
     → (32 ∷ g x) ++ argsText g side (s + 1) (n - 1) ≡ argsText g side s n
 args-step g side s n f {x} e =
     let m : n ≡ suc (n - 1) = omega arith in
     rw e (args-more g side s (n - 1)) ∙ ap (argsText g side s) (sym m)
 
-module _ (g : ℕ → List ℕ) (side : List ℕ) (s : ℕ) {n : ℕ} where
-  pub args-none : n ≡ 0 → (p : Page) {q : Page} → q ≡ written p (41 ∷ []) → q ≡ written p (argsText g side s n)
-  unfolding argsText
-  args-none e p w = rw e w
+pub args-none : (g : ℕ → List ℕ) (side : List ℕ) (s : ℕ) {n : ℕ} → n ≡ 0 → (p : Page) {q : Page} → q ≡ written p (41 ∷ []) → q ≡ written p (argsText g side s n)
+unfolding argsText
+args-none g side s e p w = rw e w
 
-  pub args-in : (n ≡ 0 → ⊥) → {x : ℕ} → x ≡ getD side s 0 → (p : Page) {q r : Page} → q ≡ written p (32 ∷ g x) → r ≡ written q (argsText g side (s + 1) (n - 1))
-      → r ≡ written p (argsText g side s n)
-  args-in f {x} e p v w = written-then p (32 ∷ g x) (argsText g side (s + 1) (n - 1)) v w ∙ ap (written p) (args-step g side s n f e)
+-- ---------------------------------------------------------------- a text that a loop writes
 
--- ---------------------------------------------------------------- leaves at the start of a list
+-- on page q the text `whole` is begun on page p, and `left` of it is to be written
+pub record Begun (whole left : List ℕ) (p q : Page) : Type 0 where
+  pub text : List ℕ
+  pub splits : whole ≡ text ++ left
+  pub stands : q ≡ written p text
 
--- the place of a run
-abbrev placeOf : Run → Place
-placeOf r = record { at = r .at; need = r .need }
+pub begun : (whole : List ℕ) {p : Place} {l : List ℕ} → p .need < 2 ^ 64 → Begun whole whole (page p l) (page p l)
+begun whole {p} {l} h = record { text = []; splits = refl; stands = sym (written-nil (page p l) h) }
 
-pub leaves-start : {P : ℕ → Type 0} (g : ℕ → List ℕ) {side : List ℕ} {s n : ℕ} {p : Place} {l : List ℕ} → Entries P side s n → p .need < 2 ^ 64
-    → Leaves P g side s n (page p l) (record { next = s; left = n; at = p .at; need = p .need }) l
-leaves-start g {p = p} {l} h z = record {
-  text = [];
-  rest = refl;
-  stands = sym (written-nil (page p l) z);
-  listed = h;
-  fewer = omega arith;
-}
-
-module _ {P : ℕ → Type 0} {g : ℕ → List ℕ} {side : List ℕ} {s n : ℕ} {p : Page} {r : Run} {l : List ℕ} (h : Leaves P g side s n p r l) where
+module _ {whole left : List ℕ} {p q : Page} (h : Begun whole left p q) where
   -- the buffer keeps its length
-  pub leaves-size : length l ≡ length (p .bytes)
-  leaves-size = ap (λ (z : Page). length (z .bytes)) (h .stands) ∙ length-written p (h .text)
+  pub begun-size : length (q .bytes) ≡ length (p .bytes)
+  begun-size = ap (λ (z : Page). length (z .bytes)) (h .stands) ∙ length-written p (h .text)
 
-  -- the rest of the arguments behind the leaves
-  pub leaves-then : {q : Page} → q ≡ written (page (placeOf r) l) (argsText g side (r .next) (r .left)) → q ≡ written p (argsText g side s n)
-  leaves-then w = written-then p (h .text) (argsText g side (r .next) (r .left)) (h .stands) w ∙ ap (written p) (sym (h .rest))
+  -- a piece more
+  pub begun-next : (a rest : List ℕ) → a ++ rest ≡ left → {r : Page} → r ≡ written q a → Begun whole rest p r
+  begun-next a rest e w = record {
+    text = h .text ++ a;
+    splits = h .splits ∙ ap (λ (u : List ℕ). h .text ++ u) (sym e) ∙ sym (append-assoc (h .text) a rest);
+    stands = written-then p (h .text) a (h .stands) w;
+  }
 
-  -- one leaf more
-  pub leaves-next : (r .left ≡ 0 → ⊥) → {x : ℕ} → x ≡ getD side (r .next) 0 → {bs : List ℕ} → g x ≡ bs → {q : Place} {l′ : List ℕ}
-      → page q l′ ≡ written (page (placeOf r) l) (32 ∷ bs)
-      → Leaves P g side s n p (record { next = r .next + 1; left = r .left - 1; at = q .at; need = q .need }) l′
-  leaves-next f {x} e {bs} t {q} {l′} w =
-      let tail : List ℕ = argsText g side (r .next + 1) (r .left - 1) in
-      let now : (32 ∷ bs) ++ tail ≡ argsText g side (r .next) (r .left) = ap (λ (u : List ℕ). (32 ∷ u) ++ tail) (sym t) ∙ args-step g side (r .next) (r .left) f e in
-      record {
-        text = h .text ++ (32 ∷ bs);
-        rest = h .rest ∙ ap (λ (u : List ℕ). h .text ++ u) (sym now) ∙ sym (append-assoc (h .text) (32 ∷ bs) tail);
-        stands = written-then p (h .text) (32 ∷ bs) (h .stands) w;
-        listed = listed-rest (h .listed) f;
-        fewer = omega (arith, h .fewer);
-      }
+  -- nothing is left
+  pub begun-none : left ≡ [] → q ≡ written p whole
+  begun-none e = h .stands ∙ ap (written p) (sym (h .splits ∙ ap (λ (u : List ℕ). h .text ++ u) e ∙ append-nil (h .text)))
+
+  -- all that is left
+  pub begun-all : {r : Page} → r ≡ written q left → r ≡ written p whole
+  begun-all w = written-then p (h .text) left (h .stands) w ∙ ap (written p) (sym (h .splits))
 
 -- ---------------------------------------------------------------- pairs of a chain
 
@@ -160,21 +130,16 @@ levels-more : (g : ℕ → List ℕ) (side : List ℕ) (s k : ℕ)
 unfolding levelsText
 levels-more g side s k = refl
 
-levels-step : (g : ℕ → List ℕ) (side : List ℕ) (s n : ℕ) → (n ≡ 0 → ⊥) → {x v : ℕ} → x ≡ getD side (s + (n - 1 + (n - 1) + 0)) 0
+pub levels-step : (g : ℕ → List ℕ) (side : List ℕ) (s n : ℕ) → (n ≡ 0 → ⊥) → {x v : ℕ} → x ≡ getD side (s + (n - 1 + (n - 1) + 0)) 0
     → v ≡ getD side (s + (n - 1 + (n - 1) + 1)) 0 → twoText g x v ++ levelsText g side s (n - 1) ≡ levelsText g side s n
 levels-step g side s n f {x} {v} d e =
     let m : n ≡ suc (n - 1) = omega arith in
     let z : n - 1 + (n - 1) + 0 ≡ n - 1 + (n - 1) = omega arith in
     rw (d, e, z) (levels-more g side s (n - 1)) ∙ ap (levelsText g side s) (sym m)
 
-module _ (g : ℕ → List ℕ) (side : List ℕ) (s : ℕ) {n : ℕ} where
-  pub levels-none : n ≡ 0 → {p : Place} {l : List ℕ} → p .need < 2 ^ 64 → page p l ≡ written (page p l) (levelsText g side s n)
-  unfolding levelsText
-  levels-none e {p} {l} h = rw e (sym (written-nil (page p l) h))
-
-  pub levels-in : (n ≡ 0 → ⊥) → {x v : ℕ} → x ≡ getD side (s + (n - 1 + (n - 1) + 0)) 0 → v ≡ getD side (s + (n - 1 + (n - 1) + 1)) 0
-      → (p : Page) {q r : Page} → q ≡ written p (twoText g x v) → r ≡ written q (levelsText g side s (n - 1)) → r ≡ written p (levelsText g side s n)
-  levels-in f {x} {v} d e p t w = written-then p (twoText g x v) (levelsText g side s (n - 1)) t w ∙ ap (written p) (levels-step g side s n f d e)
+pub levels-none : (g : ℕ → List ℕ) (side : List ℕ) (s : ℕ) {n : ℕ} → n ≡ 0 → levelsText g side s n ≡ []
+unfolding levelsText
+levels-none g side s e = rw e refl
 
 -- ---------------------------------------------------------------- leaves
 
@@ -243,7 +208,7 @@ module _ (B N F : List Slice) (Y : List ℕ) (ready : Ready B N F Y) (i : ℕ) w
         let m : Node = getD (dagAt B N .nodes) i no-node in
         let h = fine .here in
         over-form (Under B N F i) (dagAt B N .side) (formAs m (shape m))
-        (within (widthsIn F) i (length (problemAt B N .bits)) (dagAt B N .side) m (shape m) (node-facts .form))
+        (form-inside (widthsIn F) i (length (problemAt B N .bits)) (dagAt B N .side) m (shape m) (node-facts .form))
         (each-of (Passes (dagAt B N) (widthsIn F) i) (λ (o : Operand). Under B N F i (o .node))
         (λ o p. record { below = p .low; fine = record { here = omega (arith, p .low); free = p .passed } })
         (formOperands (dagAt B N .side) (formAs m (shape m)))
@@ -308,12 +273,10 @@ module _ (B N F : List Slice) (i : ℕ) {b : Bool} (e : b ≡ eqb (planIn F i) 1
   pub head-named : b ≡ true → (p : Page) {q r : Page} → q ≡ written p (32 ∷ []) → r ≡ written q (named i) → r ≡ written p (32 ∷ styleAt B N F .head i)
   head-named f p v w = written-then p (32 ∷ []) (named i) v w ∙ ap (λ (t : List ℕ). written p (32 ∷ t)) (sym (named-head (planIn F) own i (sym e ∙ f)))
 
-  pub head-own : b ≡ false → (p : Page) {q r : Page} → q ≡ written p (32 ∷ []) → r ≡ written q (headOf (dagAt B N) (widthsIn F) (problemAt B N .bits) i)
+  pub head-own : b ≡ false → (p : Page) {r : Page} → r ≡ written p (32 ∷ headOf (dagAt B N) (widthsIn F) (problemAt B N .bits) i)
       → r ≡ written p (32 ∷ styleAt B N F .head i)
   unfolding plain
-  head-own f p v w =
-      written-then p (32 ∷ []) (headOf (dagAt B N) (widthsIn F) (problemAt B N .bits) i) v w
-      ∙ ap (λ (t : List ℕ). written p (32 ∷ t)) (sym (planned-head (planIn F) own i (sym e ∙ f)))
+  head-own f p w = w ∙ ap (λ (t : List ℕ). written p (32 ∷ t)) (sym (planned-head (planIn F) own i (sym e ∙ f)))
 
   pub form-named : b ≡ true → Leaf ≡ styleAt B N F .form i
   form-named f = sym (named-form (planIn F) own i (sym e ∙ f))

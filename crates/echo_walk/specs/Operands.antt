@@ -6,31 +6,12 @@ use native.Mathlib.Omega.{arith}
 use lib.Dec.{ltb, ltb→lt}
 use lib.ListN.{length, getD, take, drop, length-drop}
 use lib.Seq.{getD-drop}
-use Rattle.echo_spec.specs.Shapes.{
-  Shape,
-  var,
-  const,
-  binary,
-  rotation,
-  extraction,
-  concat,
-  extension,
-  ite,
-  comparison,
-  negation,
-  connective,
-  unary,
-  select,
-  call,
-  unknown,
-}
-use Rattle.echo_spec.specs.Input.{Node}
-use Rattle.echo_spec.specs.Widths.{indexWidth, valueWidth}
-use Rattle.echo_spec.specs.NodeLaws.{Pairs, Formed, Low}
+use Rattle.echo_spec.specs.NodeLaws.{Low}
 use Rattle.echo_spec.specs.Walk.{Operand, vector, levels}
 use Rattle.echo_tables.specs.declared.Form.{Form}
 use Rattle.echo_tables.specs.declared.Form.the-variants.{Leaf, One, Two, Choice, Chain, Arguments}
-use Rattle.echo_tables.specs.Forms.{callForm, formAs, formOperands}
+use Rattle.echo_tables.specs.Forms.{formOperands}
+use Rattle.echo_tables.specs.Uses.{FormInside}
 use Rattle.echo_tables.specs.Refused.{Each, each-left, each-right}
 
 -- n side entries from place s on are there, and P holds of each
@@ -46,15 +27,6 @@ OverForm P side (Two a b w) = P a × P b
 OverForm P side (Choice a b c) = P a × P b × P c
 OverForm P side (Chain j s n) = P j × Entries P side s (n + n)
 OverForm P side (Arguments s n) = Entries P side s n
-
--- the side entries that a form names are there
-abbrev pub Within : List ℕ → Form → Type 0
-Within side Leaf = Unit {0}
-Within side (One a w) = Unit {0}
-Within side (Two a b w) = Unit {0}
-Within side (Choice a b c) = Unit {0}
-Within side (Chain j s n) = n + n ≤ length (drop s side)
-Within side (Arguments s n) = n ≤ length (drop s side)
 
 -- ---------------------------------------------------------------- from a list of operands to places
 
@@ -86,7 +58,7 @@ module _ (P : ℕ → Type 0) where
     each = λ k a b. let e : s + (k - s) ≡ k = omega arith in subst (λ (j : ℕ). P (getD side j 0)) e (rw getD-drop at (h (k - s) (omega arith)));
   }
 
-  pub over-form : (side : List ℕ) (f : Form) → Within side f → Each Of (formOperands side f) → OverForm P side f
+  pub over-form : (side : List ℕ) (f : Form) → FormInside side f → Each Of (formOperands side f) → OverForm P side f
   over-form side Leaf l h = tt
   over-form side (One a w) l h = h .0
   over-form side (Two a b w) l h = (h .0, h .1 .0)
@@ -95,38 +67,9 @@ module _ (P : ℕ → Type 0) where
     each-right Of (levels n (drop s side)) (vector j ∷ []) h .0,
     from-part side s (n + n) l (each-pair n (drop s side) l (each-left Of (levels n (drop s side)) (vector j ∷ []) h)),
   )
-  over-form side (Arguments s n) l h = from-part side s n l (each-entry n (drop s side) l h)
-
--- ---------------------------------------------------------------- of a well-formed node
-
-pairs-inside : (ws : List ℕ) (i iw vw n : ℕ) (side : List ℕ) → Pairs ws i iw vw n side → n + n ≤ length side
-pairs-inside ws i iw vw zero side p = omega arith
-pairs-inside ws i iw vw (suc n) [] p = absurd p
-pairs-inside ws i iw vw (suc n) (x ∷ []) p = absurd p
-pairs-inside ws i iw vw (suc n) (x ∷ v ∷ side) p = omega (arith, pairs-inside ws i iw vw n side (p .2))
-
-call-within : (side : List ℕ) (s n : ℕ) → n ≤ length (drop s side) → Within side (callForm s n)
-unfolding callForm
-call-within side s zero l = tt
-call-within side s (suc n) l = l
-
-pub within : (ws : List ℕ) (i nbits : ℕ) (side : List ℕ) (n : Node) (s : Shape) → Formed ws i nbits side n s → Within side (formAs n s)
-unfolding formAs
-within ws i nbits side n var f = tt
-within ws i nbits side n const f = tt
-within ws i nbits side n binary f = tt
-within ws i nbits side n rotation f = tt
-within ws i nbits side n extraction f = tt
-within ws i nbits side n concat f = tt
-within ws i nbits side n extension f = tt
-within ws i nbits side n ite f = tt
-within ws i nbits side n comparison f = tt
-within ws i nbits side n negation f = tt
-within ws i nbits side n connective f = tt
-within ws i nbits side n unary f = tt
-within ws i nbits side n select f = pairs-inside ws i (indexWidth (n .a)) (valueWidth (n .a)) (n .d) (drop (n .c) side) (f .1)
-within ws i nbits side n call f = call-within side (n .c) (n .d) (f .3)
-within ws i nbits side n unknown f = absurd f
+  over-form side (Arguments s n) l h =
+      let m : n ≤ length (drop s side) = omega (arith, length-drop s side) in
+      from-part side s n m (each-entry n (drop s side) m h)
 
 -- lower nodes
 pub low-each : (i : ℕ) (os : List Operand) → Low i os → Each (λ (o : Operand). o .node < i) os

@@ -19,11 +19,8 @@ use Rattle.lent.specs.Lent.{Slice, slot, problemAt, dagAt}
 use Rattle.echo_tables.specs.Found.{orZero}
 use Rattle.echo_lines.specs.Symbols.{symbolTable}
 use Rattle.blast_kernel.specs.Codes.{codeOf}
-use Rattle.echo_bytes.specs.Page.{Page, page, written}
-use Rattle.echo_walk.specs.declared.Run.{Run}
 use Rattle.echo_tables.specs.Refused.{refusedAt}
-use Rattle.echo_walk.specs.Operands.{Entries}
-use Rattle.echo_walk.specs.Texts.{argsText, headAs, Style, plain, planned, textIn}
+use Rattle.echo_walk.specs.Texts.{headAs, Style, plain, planned, textIn}
 
 -- ---------------------------------------------------------------- the tables that were filled
 
@@ -120,13 +117,3 @@ pub record TermAt (B N F : List Slice) (i : ℕ) : Type 0 where
   pub here : i < length (widthsIn F)
   pub inner : 1 < codeOf (shape (nodeIn B N i))
   pub taken : asked (dagAt B N) (widthsIn F) i ≡ 0
-
--- ---------------------------------------------------------------- a run of leaves
-
--- The leaves that n arguments begin with are written: the text of the arguments is theirs, and then that of the arguments left, of which P holds.
-pub record Leaves (P : ℕ → Type 0) (g : ℕ → List ℕ) (side : List ℕ) (s n : ℕ) (p : Page) (r : Run) (l : List ℕ) : Type 0 where
-  pub text : List ℕ
-  pub rest : argsText g side s n ≡ text ++ argsText g side (r .next) (r .left)
-  pub stands : page (record { at = r .at; need = r .need }) l ≡ written p text
-  pub listed : Entries P side (r .next) (r .left)
-  pub fewer : r .left ≤ n

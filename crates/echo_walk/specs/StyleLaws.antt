@@ -38,7 +38,8 @@ use Rattle.lent.specs.Lent.{Slice, problemAt, dagAt}
 use Rattle.echo_tables.specs.declared.Form.{Form}
 use Rattle.echo_tables.specs.declared.Form.the-variants.{Leaf, One, Two, Choice, Chain, Arguments}
 use Rattle.echo_tables.specs.Forms.{callForm, formAs, form-operands}
-use Rattle.echo_walk.specs.Operands.{Entries, OverForm, over-form, within, low-each}
+use Rattle.echo_tables.specs.Uses.{form-inside}
+use Rattle.echo_walk.specs.Operands.{Entries, OverForm, over-form, low-each}
 use Rattle.echo_walk.specs.Texts.{headAs, headOf, oneText, twoText, choiceText, levelsText, argsText, formText, Style, textStep, textsBelow, textIn, plain, named, planned}
 use Rattle.echo_walk.specs.Ready.{widthsIn, planIn, styleAt, textAt, Ready, Plain}
 
@@ -200,7 +201,7 @@ module _ (d : Dag) (nbits : ℕ) (ws bits : List ℕ) (widths : ws ≡ ext-wf nb
   pub own-below : (i : ℕ) → i < length ws → FormBelow i (d .side) (formAs (node i) (shape (node i)))
   own-below i h =
       let z = node-facts i h in
-      over-form (λ j. j < i) (d .side) (formAs (node i) (shape (node i))) (within ws i nbits (d .side) (node i) (shape (node i)) (z .form))
+      over-form (λ j. j < i) (d .side) (formAs (node i) (shape (node i))) (form-inside ws i nbits (d .side) (node i) (shape (node i)) (z .form))
       (rw (form-operands (d .side) (node i) (shape (node i))) (low-each i (operandsAs (d .side) (node i) (shape (node i))) (z .low)))
 
   plain-upto : (m i : ℕ) → i < m → i < length ws → textIn (plain d ws bits) i ≡ term (treeOf d ws bits i)

@@ -1,7 +1,7 @@
 // The walk: a node as a term, written at a place in the lent buffer (ordeal's "THE WALK").
 //
-// Seven writers call each other: `echo_node`, `echo_operand`, `echo_one`, `echo_two`, `echo_choice`, `echo_levels`, `echo_args`. A node's
-// operands have lower numbers, and in a list the entries left grow fewer, so the walk ends. What a term is refused with stands in a table
+// Six writers call each other: `echo_node`, `echo_operand`, `echo_one`, `echo_two`, `echo_levels`, `echo_args`. A node's operands have lower
+// numbers, and in a list the entries left grow fewer, so the walk ends. What a term is refused with stands in a table
 // that is lent, made before the walk: a writer is called for a node that is not refused, and cannot fail. The text before a node's
 // operands, its head, is written by a function outside the cycle.
 //
@@ -59,7 +59,7 @@ ghost use Rattle.lent.specs.Records.{nodeOf};
 ghost use Rattle.echo_bytes.specs.Page.{page, written};
 ghost use Rattle.echo_tables.specs.Forms.{formAs};
 ghost use Rattle.echo_walk.specs.Operands.{Entries};
-ghost use Rattle.echo_walk.specs.Texts.{headOf, oneText, twoText, choiceText, levelsText, argsText, named};
+ghost use Rattle.echo_walk.specs.Texts.{headOf, oneText, twoText, levelsText, argsText, named};
 ghost use Rattle.echo_walk.specs.Ready.{
   widthsIn,
   codeIn,
@@ -77,7 +77,6 @@ ghost use Rattle.echo_walk.specs.Ready.{
   Operator,
   LeafAt,
   TermAt,
-  Leaves,
 };
 
 // The tables that are filled before the walk, by place, and how many there are: each node's width, the entry of a variable's node, and
@@ -137,14 +136,14 @@ fn pair_at(side: &[u64], s: u64, l: u64, k: u64) -> u64
     get(side, s + (l + l + k))
 }
 
-// A part of the bits as a constant.
+// A blank, and a part of the bits as a constant.
 fn push_bits(bits: &[u8], s: u64, w: u64, p: Place, out: &mut [u8]) -> Place
     requires { ⌜ (s + w ≤ length (now bits)) × T (every (λ b. leb b 1) (now bits)) ⌝ }
-    ensures { λ r. ⌜ page r (now (out .exit)) ≡ written (page p (now (out .entry))) (literal "#b" ++ binaryDigits (take w (drop s (now (bits .entry))))) ⌝ }
+    ensures { λ r. ⌜ page r (now (out .exit)) ≡ written (page p (now (out .entry))) (literal " #b" ++ binaryDigits (take w (drop s (now (bits .entry))))) ⌝ }
 {
     let from = s as usize;
     let to = from + w as usize;
-    p.constant(out, &bits[from..to])
+    p.spaced_constant(out, &bits[from..to])
 }
 
 // The number that a part of the bits stands for, modulo w.
@@ -167,18 +166,19 @@ fn name_at<'a>(arena: &'a [u8], starts: &[u64], lens: &[u64], k: u64) -> &'a [u8
 
 // ---------------------------------------------------------------- heads
 
-// The heads of the shapes that need more than the record. A variable that is taken has an entry.
+// The heads of the shapes that need more than the record. Those of variables, constants and operators without numerals, which most nodes
+// are, come with the blank before them, as one piece where it fits. A variable that is taken has an entry.
 fn head_var(
     bytes: &[&[u8]; BYTES],
     numbers: &[&[u64]; NUMBERS],
     tables: &[&[u64]; TABLES],
     symbols: &[u8; SYMBOLS],
-    i: u64,
     p: Place,
+    i: u64,
     out: &mut [u8],
 ) -> Place
     requires { ⌜ Ready (now bytes) (now numbers) (now tables) (now symbols) × Taken (now bytes) (now numbers) (now tables) i var ⌝ }
-    ensures { λ r. ⌜ page r (now (out .exit)) ≡ written (page p (now (out .entry))) (headAt (now (bytes .entry)) (now (numbers .entry)) (now (tables .entry)) i var) ⌝ }
+    ensures { λ r. ⌜ page r (now (out .exit)) ≡ written (page p (now (out .entry))) (32 ∷ headAt (now (bytes .entry)) (now (numbers .entry)) (now (tables .entry)) i var) ⌝ }
 {
     let entries = tables[ENTRIES];
     match looked_up(entries, i) {
@@ -187,7 +187,8 @@ fn head_var(
             let names = bytes[NAMES];
             let starts = numbers[NAME_START];
             let lens = numbers[NAME_LEN];
-            p.name(out, name_at(names, starts, lens, k as u64))
+            let q = p.led(out, b' ', b'|', name_at(names, starts, lens, k as u64));
+            q.byte(out, b'|')
         }
     }
 }
@@ -195,13 +196,12 @@ fn head_var(
 fn head_const(
     bytes: &[&[u8]; BYTES],
     numbers: &[&[u64]; NUMBERS],
-    tables: &[&[u64]; TABLES],
-    i: u64,
     p: Place,
+    i: u64,
     out: &mut [u8],
 ) -> Place
     requires { ⌜ Constant (now bytes) (now numbers) i ⌝ }
-    ensures { λ r. ⌜ page r (now (out .exit)) ≡ written (page p (now (out .entry))) (literal "#b" ++ binaryDigits (constantBits (problemAt (now (bytes .entry)) (now (numbers .entry)) .bits) (nodeIn (now (bytes .entry)) (now (numbers .entry)) i))) ⌝ }
+    ensures { λ r. ⌜ page r (now (out .exit)) ≡ written (page p (now (out .entry))) (literal " #b" ++ binaryDigits (constantBits (problemAt (now (bytes .entry)) (now (numbers .entry)) .bits) (nodeIn (now (bytes .entry)) (now (numbers .entry)) i))) ⌝ }
 {
     let nodes = bytes[NODES];
     let n = node_here(nodes, i);
@@ -214,8 +214,8 @@ fn head_rotation(
     numbers: &[&[u64]; NUMBERS],
     tables: &[&[u64]; TABLES],
     symbols: &[u8; SYMBOLS],
-    i: u64,
     p: Place,
+    i: u64,
     out: &mut [u8],
 ) -> Place
     requires { ⌜ Ready (now bytes) (now numbers) (now tables) (now symbols) × Taken (now bytes) (now numbers) (now tables) i rotation ⌝ }
@@ -235,8 +235,8 @@ fn head_select(
     numbers: &[&[u64]; NUMBERS],
     tables: &[&[u64]; TABLES],
     symbols: &[u8; SYMBOLS],
-    i: u64,
     p: Place,
+    i: u64,
     out: &mut [u8],
 ) -> Place
     requires { ⌜ Ready (now bytes) (now numbers) (now tables) (now symbols) × Taken (now bytes) (now numbers) (now tables) i select ⌝ }
@@ -255,8 +255,8 @@ fn head_call(
     numbers: &[&[u64]; NUMBERS],
     tables: &[&[u64]; TABLES],
     symbols: &[u8; SYMBOLS],
-    i: u64,
     p: Place,
+    i: u64,
     out: &mut [u8],
 ) -> Place
     requires { ⌜ Ready (now bytes) (now numbers) (now tables) (now symbols) × Taken (now bytes) (now numbers) (now tables) i call ⌝ }
@@ -275,9 +275,9 @@ fn head_indexed(
     bytes: &[&[u8]; BYTES],
     numbers: &[&[u64]; NUMBERS],
     symbols: &[u8; SYMBOLS],
+    p: Place,
     i: u64,
     two: bool,
-    p: Place,
     out: &mut [u8],
 ) -> Place
     requires { ⌜ Operator (now bytes) (now numbers) (now symbols) i ⌝ }
@@ -295,44 +295,59 @@ fn head_plain(
     bytes: &[&[u8]; BYTES],
     numbers: &[&[u64]; NUMBERS],
     symbols: &[u8; SYMBOLS],
-    i: u64,
     p: Place,
+    i: u64,
     out: &mut [u8],
 ) -> Place
     requires { ⌜ Operator (now bytes) (now numbers) (now symbols) i ⌝ }
-    ensures { λ r. ⌜ page r (now (out .exit)) ≡ written (page p (now (out .entry))) (literal "(" ++ symbolOf (nodeIn (now (bytes .entry)) (now (numbers .entry)) i .kind)) ⌝ }
+    ensures { λ r. ⌜ page r (now (out .exit)) ≡ written (page p (now (out .entry))) (literal " (" ++ symbolOf (nodeIn (now (bytes .entry)) (now (numbers .entry)) i .kind)) ⌝ }
 {
     let nodes = bytes[NODES];
     let n = node_here(nodes, i);
-    echo_lines::open_plain(symbols, n.kind, p, out)
+    echo_lines::spaced_plain(symbols, n.kind, p, out)
 }
 
-// The head of node i by itself, which is no leaf: all its text before its operands.
+// A blank, and the head of node i by itself, which is no leaf: all its text before its operands.
 fn own_head(
     bytes: &[&[u8]; BYTES],
     numbers: &[&[u64]; NUMBERS],
     tables: &[&[u64]; TABLES],
     symbols: &[u8; SYMBOLS],
-    i: u64,
     p: Place,
+    i: u64,
     out: &mut [u8],
 ) -> Place
     requires { ⌜ Ready (now bytes) (now numbers) (now tables) (now symbols) × TermAt (now bytes) (now numbers) (now tables) i ⌝ }
-    ensures { λ r. ⌜ page r (now (out .exit)) ≡ written (page p (now (out .entry))) (headOf (dagAt (now (bytes .entry)) (now (numbers .entry))) (widthsIn (now (tables .entry))) (problemAt (now (bytes .entry)) (now (numbers .entry)) .bits) i) ⌝ }
+    ensures { λ r. ⌜ page r (now (out .exit)) ≡ written (page p (now (out .entry))) (32 ∷ headOf (dagAt (now (bytes .entry)) (now (numbers .entry))) (widthsIn (now (tables .entry))) (problemAt (now (bytes .entry)) (now (numbers .entry)) .bits) i) ⌝ }
 {
     let s = shape_at(tables, i);
     match s {
-        ROTATION => head_rotation(bytes, numbers, tables, symbols, i, p, out),
-        EXTRACTION => head_indexed(bytes, numbers, symbols, i, true, p, out),
-        EXTENSION => head_indexed(bytes, numbers, symbols, i, false, p, out),
-        SELECT => head_select(bytes, numbers, tables, symbols, i, p, out),
-        CALL => head_call(bytes, numbers, tables, symbols, i, p, out),
-        _ => head_plain(bytes, numbers, symbols, i, p, out),
+        ROTATION => {
+            let q = p.byte(out, 32);
+            head_rotation(bytes, numbers, tables, symbols, q, i, out)
+        }
+        EXTRACTION => {
+            let q = p.byte(out, 32);
+            head_indexed(bytes, numbers, symbols, q, i, true, out)
+        }
+        EXTENSION => {
+            let q = p.byte(out, 32);
+            head_indexed(bytes, numbers, symbols, q, i, false, out)
+        }
+        SELECT => {
+            let q = p.byte(out, 32);
+            head_select(bytes, numbers, tables, symbols, q, i, out)
+        }
+        CALL => {
+            let q = p.byte(out, 32);
+            head_call(bytes, numbers, tables, symbols, q, i, out)
+        }
+        _ => head_plain(bytes, numbers, symbols, p, i, out),
     }
 }
 
 // The name of node i: `|d2|` for node 2.
-fn push_named(i: u64, p: Place, out: &mut [u8]) -> Place
+fn push_named(p: Place, i: u64, out: &mut [u8]) -> Place
     ensures { λ r. ⌜ page r (now (out .exit)) ≡ written (page p (now (out .entry))) (named i) ⌝ }
 {
     let a = p.byte(out, 124);
@@ -347,18 +362,17 @@ fn echo_leaf(
     numbers: &[&[u64]; NUMBERS],
     tables: &[&[u64]; TABLES],
     symbols: &[u8; SYMBOLS],
-    i: u64,
     p: Place,
+    i: u64,
     out: &mut [u8],
 ) -> Place
     requires { ⌜ Ready (now bytes) (now numbers) (now tables) (now symbols) × LeafAt (now bytes) (now numbers) (now tables) i ⌝ }
     ensures { λ r. ⌜ page r (now (out .exit)) ≡ written (page p (now (out .entry))) (32 ∷ headOf (dagAt (now (bytes .entry)) (now (numbers .entry))) (widthsIn (now (tables .entry))) (problemAt (now (bytes .entry)) (now (numbers .entry)) .bits) i) ⌝ }
 {
-    let q = p.byte(out, 32);
     let s = shape_at(tables, i);
     match s {
-        VAR => head_var(bytes, numbers, tables, symbols, i, q, out),
-        _ => head_const(bytes, numbers, tables, i, q, out),
+        VAR => head_var(bytes, numbers, tables, symbols, p, i, out),
+        _ => head_const(bytes, numbers, p, i, out),
     }
 }
 
@@ -368,21 +382,21 @@ fn open_head(
     numbers: &[&[u64]; NUMBERS],
     tables: &[&[u64]; TABLES],
     symbols: &[u8; SYMBOLS],
-    i: u64,
     p: Place,
+    i: u64,
     out: &mut [u8],
 ) -> Place
     requires { ⌜ Ready (now bytes) (now numbers) (now tables) (now symbols) × Fine (now bytes) (now numbers) (now tables) i ⌝ }
     ensures { λ r. ⌜ page r (now (out .exit)) ≡ written (page p (now (out .entry))) (32 ∷ styleAt (now (bytes .entry)) (now (numbers .entry)) (now (tables .entry)) .head i) ⌝ }
 {
     if is_leaf(tables, i) {
-        return echo_leaf(bytes, numbers, tables, symbols, i, p, out);
+        return echo_leaf(bytes, numbers, tables, symbols, p, i, out);
     }
-    let q = p.byte(out, 32);
     if is_named(tables, i) {
-        return push_named(i, q, out);
+        let q = p.byte(out, 32);
+        return push_named(q, i, out);
     }
-    own_head(bytes, numbers, tables, symbols, i, q, out)
+    own_head(bytes, numbers, tables, symbols, p, i, out)
 }
 
 // ---------------------------------------------------------------- operands
@@ -405,60 +419,10 @@ fn operands_at(
     operands(shape_at(tables, i), node_here(nodes, i))
 }
 
-// Where a run of leaves ends: the place in the side entries, the entries left, and the place in the buffer.
-pub struct Run {
-    pub next: u64,
-    pub left: u64,
-    pub at: usize,
-    pub need: usize,
-}
-
-// The leaves that n arguments begin with, each after a blank. A call of many leaves is written here in a loop, and each argument that is
-// no leaf costs one level of the stack: it stays low for calls of many arguments.
-fn echo_leaves(
-    bytes: &[&[u8]; BYTES],
-    numbers: &[&[u64]; NUMBERS],
-    tables: &[&[u64]; TABLES],
-    symbols: &[u8; SYMBOLS],
-    lim: u64,
-    s: u64,
-    n: u64,
-    p: Place,
-    out: &mut [u8],
-) -> Run
-    requires { ⌜ Ready (now bytes) (now numbers) (now tables) (now symbols) × Entries (Under (now bytes) (now numbers) (now tables) lim) (problemAt (now bytes) (now numbers) .side) s n ⌝ }
-    ensures { λ r. ⌜ Leaves (Under (now (bytes .entry)) (now (numbers .entry)) (now (tables .entry)) lim) (textAt (now (bytes .entry)) (now (numbers .entry)) (now (tables .entry))) (problemAt (now (bytes .entry)) (now (numbers .entry)) .side) s n (page p (now (out .entry))) r (now (out .exit)) ⌝ }
-{
-    let side = numbers[SIDE];
-    let mut q = Place {
-        at: p.at,
-        need: p.need,
-    };
-    let mut k = s;
-    let mut left = n;
-    while left > 0 {
-        let x = get(side, k);
-        if !is_leaf(tables, x) {
-            return Run {
-                next: k,
-                left: left,
-                at: q.at,
-                need: q.need,
-            };
-        }
-        q = echo_leaf(bytes, numbers, tables, symbols, x, q, out);
-        k += 1;
-        left -= 1;
-    }
-    Run {
-        next: k,
-        left: left,
-        at: q.at,
-        need: q.need,
-    }
-}
-
 // ---------------------------------------------------------------- the writers that call each other
+//
+// A place that came back from a writer is taken apart before it is handed on: a struct that is copied whole waits for its two parts to
+// reach the memory.
 
 // A blank, and node i as a term. Ruled out: operands that change places; a call without its arguments.
 pub fn echo_node(
@@ -466,8 +430,8 @@ pub fn echo_node(
     numbers: &[&[u64]; NUMBERS],
     tables: &[&[u64]; TABLES],
     symbols: &[u8; SYMBOLS],
-    i: u64,
     p: Place,
+    i: u64,
     out: &mut [u8],
 ) -> Place
     requires { ⌜ Ready (now bytes) (now numbers) (now tables) (now symbols) × Fine (now bytes) (now numbers) (now tables) i ⌝ }
@@ -478,36 +442,117 @@ pub fn echo_node(
         numbers,
         tables,
         symbols,
-        i,
         Place {
             at: p.at,
             need: p.need,
         },
+        i,
         out,
     );
     let f = operands_at(bytes, numbers, tables, symbols, i);
     match f {
-        Form::Leaf => q,
-        Form::One(a, _) => echo_one(bytes, numbers, tables, symbols, i, a, q, out),
-        Form::Two(a, b, _) => echo_two(bytes, numbers, tables, symbols, i, a, b, q, out),
-        Form::Choice(a, b, c) => echo_choice(bytes, numbers, tables, symbols, i, a, b, c, q, out),
+        Form::Leaf => Place {
+            at: q.at,
+            need: q.need,
+        },
+        Form::One(a, _) => echo_one(
+            bytes,
+            numbers,
+            tables,
+            symbols,
+            Place {
+                at: q.at,
+                need: q.need,
+            },
+            i,
+            a,
+            out,
+        ),
+        Form::Two(a, b, _) => echo_two(
+            bytes,
+            numbers,
+            tables,
+            symbols,
+            Place {
+                at: q.at,
+                need: q.need,
+            },
+            i,
+            a,
+            b,
+            out,
+        ),
+        Form::Choice(a, b, c) => {
+            let r = echo_operand(
+                bytes,
+                numbers,
+                tables,
+                symbols,
+                Place {
+                    at: q.at,
+                    need: q.need,
+                },
+                a,
+                out,
+            );
+            echo_two(
+                bytes,
+                numbers,
+                tables,
+                symbols,
+                Place {
+                    at: r.at,
+                    need: r.need,
+                },
+                i,
+                b,
+                c,
+                out,
+            )
+        }
         Form::Chain(j, s, n) => {
-            let r = echo_levels(bytes, numbers, tables, symbols, i, s, n, q, out);
+            let r = echo_levels(
+                bytes,
+                numbers,
+                tables,
+                symbols,
+                Place {
+                    at: q.at,
+                    need: q.need,
+                },
+                i,
+                s,
+                n,
+                out,
+            );
             echo_one(
                 bytes,
                 numbers,
                 tables,
                 symbols,
-                i,
-                j,
                 Place {
                     at: r.at,
                     need: r.need,
                 },
+                i,
+                j,
                 out,
             )
         }
-        Form::Arguments(s, n) => echo_args(bytes, numbers, tables, symbols, i, s, n, q, out),
+        Form::Arguments(s, n) => echo_args(
+            bytes,
+            numbers,
+            tables,
+            symbols,
+            Place {
+                at: q.at,
+                need: q.need,
+            },
+            i,
+            s,
+            n,
+            out,
+        ),
     }
 }
 
@@ -517,21 +562,17 @@ fn echo_operand(
     numbers: &[&[u64]; NUMBERS],
     tables: &[&[u64]; TABLES],
     symbols: &[u8; SYMBOLS],
-    x: u64,
     p: Place,
+    x: u64,
     out: &mut [u8],
 ) -> Place
     requires { ⌜ Ready (now bytes) (now numbers) (now tables) (now symbols) × Fine (now bytes) (now numbers) (now tables) x ⌝ }
     ensures { λ r. ⌜ page r (now (out .exit)) ≡ written (page p (now (out .entry))) (32 ∷ textAt (now (bytes .entry)) (now (numbers .entry)) (now (tables .entry)) x) ⌝ }
 {
     if is_leaf(tables, x) {
-        return echo_leaf(bytes, numbers, tables, symbols, x, p, out);
+        return echo_leaf(bytes, numbers, tables, symbols, p, x, out);
     }
-    let r = echo_node(bytes, numbers, tables, symbols, x, p, out);
-    Place {
-        at: r.at,
-        need: r.need,
-    }
+    echo_node(bytes, numbers, tables, symbols, p, x, out)
 }
 
 // ` A)`: the last operand of a term, and its closing bracket.
@@ -540,9 +581,9 @@ fn echo_one(
     numbers: &[&[u64]; NUMBERS],
     tables: &[&[u64]; TABLES],
     symbols: &[u8; SYMBOLS],
+    p: Place,
     lim: u64,
     a: u64,
-    p: Place,
     out: &mut [u8],
 ) -> Place
     requires { ⌜ Ready (now bytes) (now numbers) (now tables) (now symbols) × Under (now bytes) (now numbers) (now tables) lim a ⌝ }
@@ -553,14 +594,18 @@ fn echo_one(
         numbers,
         tables,
         symbols,
-        a,
         Place {
             at: p.at,
             need: p.need,
         },
+        a,
         out,
     );
-    q.byte(out, 41)
+    let r = Place {
+        at: q.at,
+        need: q.need,
+    };
+    r.byte(out, 41)
 }
 
 // ` A B)`: the last two operands of a term, and its closing bracket.
@@ -569,10 +614,10 @@ fn echo_two(
     numbers: &[&[u64]; NUMBERS],
     tables: &[&[u64]; TABLES],
     symbols: &[u8; SYMBOLS],
+    p: Place,
     lim: u64,
     a: u64,
     b: u64,
-    p: Place,
     out: &mut [u8],
 ) -> Place
     requires { ⌜ Ready (now bytes) (now numbers) (now tables) (now symbols) × Under (now bytes) (now numbers) (now tables) lim a × Under (now bytes) (now numbers) (now tables) lim b ⌝ }
@@ -583,46 +628,26 @@ fn echo_two(
         numbers,
         tables,
         symbols,
-        a,
         Place {
             at: p.at,
             need: p.need,
         },
+        a,
         out,
     );
-    let r = echo_operand(bytes, numbers, tables, symbols, b, q, out);
-    r.byte(out, 41)
-}
-
-// ` A B C)`: the three operands of an `ite`, and its closing bracket.
-fn echo_choice(
-    bytes: &[&[u8]; BYTES],
-    numbers: &[&[u64]; NUMBERS],
-    tables: &[&[u64]; TABLES],
-    symbols: &[u8; SYMBOLS],
-    lim: u64,
-    a: u64,
-    b: u64,
-    c: u64,
-    p: Place,
-    out: &mut [u8],
-) -> Place
-    requires { ⌜ Ready (now bytes) (now numbers) (now tables) (now symbols) × Under (now bytes) (now numbers) (now tables) lim a × Under (now bytes) (now numbers) (now tables) lim b × Under (now bytes) (now numbers) (now tables) lim c ⌝ }
-    ensures { λ r. ⌜ page r (now (out .exit)) ≡ written (page p (now (out .entry))) (choiceText (textAt (now (bytes .entry)) (now (numbers .entry)) (now (tables .entry))) a b c) ⌝ }
-{
-    let q = echo_operand(
+    echo_one(
         bytes,
         numbers,
         tables,
         symbols,
-        a,
         Place {
-            at: p.at,
-            need: p.need,
+            at: q.at,
+            need: q.need,
         },
+        lim,
+        b,
         out,
-    );
-    echo_two(bytes, numbers, tables, symbols, lim, b, c, q, out)
+    )
 }
 
 // The closings of n stores, the last first: ` I V)` for each.
@@ -631,53 +656,32 @@ fn echo_levels(
     numbers: &[&[u64]; NUMBERS],
     tables: &[&[u64]; TABLES],
     symbols: &[u8; SYMBOLS],
+    p: Place,
     lim: u64,
     s: u64,
     n: u64,
-    p: Place,
     out: &mut [u8],
 ) -> Place
     requires { ⌜ Ready (now bytes) (now numbers) (now tables) (now symbols) × Entries (Under (now bytes) (now numbers) (now tables) lim) (problemAt (now bytes) (now numbers) .side) s (n + n) ⌝ }
     ensures { λ r. ⌜ page r (now (out .exit)) ≡ written (page p (now (out .entry))) (levelsText (textAt (now (bytes .entry)) (now (numbers .entry)) (now (tables .entry))) (problemAt (now (bytes .entry)) (now (numbers .entry)) .side) s n) ⌝ }
 {
-    if n == 0 {
-        return Place {
-            at: p.at,
-            need: p.need,
+    let side = numbers[SIDE];
+    let mut q = Place {
+        at: p.at,
+        need: p.need,
+    };
+    let mut left = n;
+    while left > 0 {
+        left -= 1;
+        let x = pair_at(side, s, left, 0);
+        let v = pair_at(side, s, left, 1);
+        let r = echo_two(bytes, numbers, tables, symbols, q, lim, x, v, out);
+        q = Place {
+            at: r.at,
+            need: r.need,
         };
     }
-    let side = numbers[SIDE];
-    let l = n - 1;
-    let x = pair_at(side, s, l, 0);
-    let v = pair_at(side, s, l, 1);
-    let q = echo_two(
-        bytes,
-        numbers,
-        tables,
-        symbols,
-        lim,
-        x,
-        v,
-        Place {
-            at: p.at,
-            need: p.need,
-        },
-        out,
-    );
-    echo_levels(
-        bytes,
-        numbers,
-        tables,
-        symbols,
-        lim,
-        s,
-        l,
-        Place {
-            at: q.at,
-            need: q.need,
-        },
-        out,
-    )
+    q
 }
 
 // n arguments, each after a blank, and the closing bracket.
@@ -686,53 +690,31 @@ fn echo_args(
     numbers: &[&[u64]; NUMBERS],
     tables: &[&[u64]; TABLES],
     symbols: &[u8; SYMBOLS],
+    p: Place,
     lim: u64,
     s: u64,
     n: u64,
-    p: Place,
     out: &mut [u8],
 ) -> Place
     requires { ⌜ Ready (now bytes) (now numbers) (now tables) (now symbols) × Entries (Under (now bytes) (now numbers) (now tables) lim) (problemAt (now bytes) (now numbers) .side) s n ⌝ }
     ensures { λ r. ⌜ page r (now (out .exit)) ≡ written (page p (now (out .entry))) (argsText (textAt (now (bytes .entry)) (now (numbers .entry)) (now (tables .entry))) (problemAt (now (bytes .entry)) (now (numbers .entry)) .side) s n) ⌝ }
 {
-    let run = echo_leaves(
-        bytes,
-        numbers,
-        tables,
-        symbols,
-        lim,
-        s,
-        n,
-        Place {
-            at: p.at,
-            need: p.need,
-        },
-        out,
-    );
-    let u = Place {
-        at: run.at,
-        need: run.need,
-    };
-    let m = run.left;
-    if m == 0 {
-        return u.byte(out, 41);
-    }
     let side = numbers[SIDE];
-    let k = run.next;
-    let x = get(side, k);
-    let q = echo_node(bytes, numbers, tables, symbols, x, u, out);
-    echo_args(
-        bytes,
-        numbers,
-        tables,
-        symbols,
-        lim,
-        k + 1,
-        m - 1,
-        Place {
-            at: q.at,
-            need: q.need,
-        },
-        out,
-    )
+    let mut q = Place {
+        at: p.at,
+        need: p.need,
+    };
+    let mut k = s;
+    let mut left = n;
+    while left > 0 {
+        let x = get(side, k);
+        let r = echo_operand(bytes, numbers, tables, symbols, q, x, out);
+        q = Place {
+            at: r.at,
+            need: r.need,
+        };
+        k += 1;
+        left -= 1;
+    }
+    q.byte(out, 41)
 }

@@ -34,7 +34,7 @@ use Rattle.echo_spec.specs.Answers.{
   textAnswer,
   echo-ext-answer,
 }
-use Rattle.echo_spec.specs.Accepted.{unless-passed, orElse-passed, in-orElse, in-unless, refusal-bound}
+use Rattle.echo_spec.specs.Accepted.{unless-passed, orElse-passed, in-orElse, in-unless, endless-bound}
 use Rattle.echo_spec.specs.EncodingLaws.{encoded-binary}
 use Rattle.theorems.specs.Scripts.{scriptOf, Sound, lex-script, script-well-sorted, render-reads}
 use Rattle.theorems.specs.Printed.{reading-sound}
@@ -173,21 +173,13 @@ pub endless-whole : (p : Problem) → (endlessRefusal p ≡ 0) ↔ Whole p
 unfolding endlessRefusal
 endless-whole p = endless-passes p _
 
--- acceptance or one of 1 to 9
-pub endless-number : (p : Problem) → T (leb (endlessRefusal p) 9)
-unfolding endlessRefusal
-endless-number p =
-    let r : ℕ = refusal (dagOf p) (length (p .bits)) (p .roots) in
-    let q : r ≤ 7 = refusal-bound (dagOf p) _ (p .roots) in
-    endless-listed (λ n. leb n 9) p r tt tt tt (le→leb r 9 (omega arith))
-
 -- acceptance or a listed number
 pub number-bound : (p : Problem) (lent : List ℕ) → echo-ext-answer p lent .number ≤ 10
 unfolding echo-ext-answer
 number-bound p lent =
     leb→le _ 10
     (text-listed (λ n. leb n 10) (endlessRefusal p) (printed p) lent tt tt
-    (let l : endlessRefusal p ≤ 9 = leb→le (endlessRefusal p) 9 (endless-number p) in le→leb (endlessRefusal p) 10 (omega arith)))
+    (let l : endlessRefusal p ≤ 9 = endless-bound p in le→leb (endlessRefusal p) 10 (omega arith)))
 
 pub acceptance : (p : Problem) (lent : List ℕ) → echo-ext-answer p lent .number ≡ 0
     → echo-ext-answer p lent ≡ record { number = 0; count = length (printed p); output = printed p ++ drop (length (printed p)) lent }
@@ -213,7 +205,7 @@ accepted-whole p lent = accepted-exactly p lent .0
 pub room-refusal : (p : Problem) (lent : List ℕ) → (echo-ext-answer p lent .number ≡ 10) ↔ (Whole p × (length lent < length (printed p)))
 unfolding echo-ext-answer
 room-refusal p lent =
-    let l : endlessRefusal p ≤ 9 = leb→le (endlessRefusal p) 9 (endless-number p) in
+    let l : endlessRefusal p ≤ 9 = endless-bound p in
     let a = text-room (endlessRefusal p) (printed p) lent (λ e. omega arith) in
     (λ e. let h = a .0 e in (endless-whole p .0 (h .0), h .1), λ h. a .1 (endless-whole p .1 (h .0), h .1))
 

@@ -1,7 +1,7 @@
 use borrow.Author.Needs.{needs}
+use Rattle.echo_walk.proofs.Heads.{entry-there, entry-inside, head-of-var}
 use Rattle.echo_walk.proofs.head_var.Statement.{statement}
 use Rattle.echo_walk.proofs.head_var.Tie as tie
-use Rattle.echo_walk.proofs.Heads.{entry-there, entry-inside, head-of-var}
 
 element-copy-out-entries : tie.Need-element-copy-out-entries
 element-copy-out-entries c = search needs
@@ -31,8 +31,11 @@ name-at-requires c κs =
     let k = c .before .before .before .before .before .k in
     entry-inside _ _ _ _ (start .pre .0) _ (start .pre .1) _ (looked-up .ensures) (k .given .1)
 
-name-requires : tie.Need-name-requires
-name-requires c κs = search needs
+led-requires : tie.Need-led-requires
+led-requires c κs = search needs
+
+byte-requires : tie.Need-byte-requires
+byte-requires c κs = search needs
 
 returns : tie.Need-returns
 returns c =
@@ -46,12 +49,13 @@ same-length c = search needs
 
 returns-2 : tie.Need-returns-2
 returns-2 c =
-    let start = c .before .before .before .before .before .before .before .before .before .before .before .before .before .before in
-    let looked-up = c .before .before .before .before .before .before .before .before .before .before .before .looked-up in
-    let k = c .before .before .before .before .before .before .before .before .before .k in
-    let name-at = c .before .before .before .name-at in
-    let name = c .before .before .name in
-    head-of-var _ _ _ _ (start .pre .0) _ (start .pre .1) _ (looked-up .ensures) (k .given .1) (name-at .ensures) _ (name .ensures)
+    let start = c .before .before .before .before .before .before .before .before .before .before .before .before .before .before .before .before .before .before in
+    let looked-up = c .before .before .before .before .before .before .before .before .before .before .before .before .before .before .before .looked-up in
+    let k = c .before .before .before .before .before .before .before .before .before .before .before .before .before .k in
+    let name-at = c .before .before .before .before .before .before .before .name-at in
+    let led = c .before .before .before .before .before .before .led in
+    let byte = c .before .before .byte in
+    head-of-var _ _ _ _ (start .pre .0) _ (start .pre .1) _ (looked-up .ensures) (k .given .1) (name-at .ensures) _ (led .ensures) (byte .ensures)
 
 pub head-var-spec : {M : Type 1} → statement M
 head-var-spec =
@@ -65,7 +69,8 @@ head-var-spec =
     element-copy-out-starts
     element-copy-out-lens
     name-at-requires
-    name-requires
+    led-requires
+    byte-requires
     returns
     same-length
     returns-2)

@@ -1,64 +1,67 @@
-use Prim.Native.Nat.{ℕ, _<_}
+use Prim.Native.Nat.{ℕ, _+_, _<_}
 use borrow.Fn.Kinds.{In}
 use borrow.Fn.PlainCycle.{Measures, is, falls, and}
 use Rattle.echo_walk.proofs.echo_args.Reads as echo-args
 use Rattle.echo_walk.proofs.echo_args.Kinds as echo-args-kinds
-use Rattle.echo_walk.proofs.+echo_args+echo_choice+echo_levels+echo_node+echo_one+echo_operand+echo_two.Lts-echo_args as echo-args-lts
-use Rattle.echo_walk.proofs.echo_choice.Reads as echo-choice
-use Rattle.echo_walk.proofs.echo_choice.Kinds as echo-choice-kinds
-use Rattle.echo_walk.proofs.+echo_args+echo_choice+echo_levels+echo_node+echo_one+echo_operand+echo_two.Lts-echo_choice as echo-choice-lts
+use Rattle.echo_walk.proofs.+echo_args+echo_levels+echo_node+echo_one+echo_operand+echo_two.Lts-echo_args as echo-args-lts
 use Rattle.echo_walk.proofs.echo_levels.Reads as echo-levels
 use Rattle.echo_walk.proofs.echo_levels.Kinds as echo-levels-kinds
-use Rattle.echo_walk.proofs.+echo_args+echo_choice+echo_levels+echo_node+echo_one+echo_operand+echo_two.Lts-echo_levels as echo-levels-lts
+use Rattle.echo_walk.proofs.+echo_args+echo_levels+echo_node+echo_one+echo_operand+echo_two.Lts-echo_levels as echo-levels-lts
 use Rattle.echo_walk.proofs.echo_node.Reads as echo-node
 use Rattle.echo_walk.proofs.echo_node.Kinds as echo-node-kinds
-use Rattle.echo_walk.proofs.+echo_args+echo_choice+echo_levels+echo_node+echo_one+echo_operand+echo_two.Lts-echo_node as echo-node-lts
+use Rattle.echo_walk.proofs.+echo_args+echo_levels+echo_node+echo_one+echo_operand+echo_two.Lts-echo_node as echo-node-lts
 use Rattle.echo_walk.proofs.echo_one.Reads as echo-one
 use Rattle.echo_walk.proofs.echo_one.Kinds as echo-one-kinds
-use Rattle.echo_walk.proofs.+echo_args+echo_choice+echo_levels+echo_node+echo_one+echo_operand+echo_two.Lts-echo_one as echo-one-lts
+use Rattle.echo_walk.proofs.+echo_args+echo_levels+echo_node+echo_one+echo_operand+echo_two.Lts-echo_one as echo-one-lts
 use Rattle.echo_walk.proofs.echo_operand.Reads as echo-operand
 use Rattle.echo_walk.proofs.echo_operand.Kinds as echo-operand-kinds
-use Rattle.echo_walk.proofs.+echo_args+echo_choice+echo_levels+echo_node+echo_one+echo_operand+echo_two.Lts-echo_operand as echo-operand-lts
+use Rattle.echo_walk.proofs.+echo_args+echo_levels+echo_node+echo_one+echo_operand+echo_two.Lts-echo_operand as echo-operand-lts
 use Rattle.echo_walk.proofs.echo_two.Reads as echo-two
 use Rattle.echo_walk.proofs.echo_two.Kinds as echo-two-kinds
-use Rattle.echo_walk.proofs.+echo_args+echo_choice+echo_levels+echo_node+echo_one+echo_operand+echo_two.Lts-echo_two as echo-two-lts
+use Rattle.echo_walk.proofs.+echo_args+echo_levels+echo_node+echo_one+echo_operand+echo_two.Lts-echo_two as echo-two-lts
 use Rattle.echo_bytes.proofs.Place.byte.Reads as byte-reads
 use Rattle.echo_walk.proofs.echo_leaf.Reads as echo-leaf-reads
-use Rattle.echo_walk.proofs.echo_leaves.Reads as echo-leaves-reads
 use Rattle.echo_walk.proofs.is_leaf.Reads as is-leaf-reads
 use Rattle.echo_walk.proofs.open_head.Reads as open-head-reads
 use Rattle.echo_walk.proofs.operands_at.Reads as operands-at-reads
 use Rattle.echo_walk.proofs.pair_at.Reads as pair-at-reads
 use Rattle.lent.proofs.get.Reads as get-reads
-use Rattle.echo_walk.proofs.+echo_args+echo_choice+echo_levels+echo_node+echo_one+echo_operand+echo_two.{
+use Rattle.echo_walk.proofs.+echo_args+echo_levels+echo_node+echo_one+echo_operand+echo_two.{
   statement,
 }
-use Rattle.echo_walk.proofs.+echo_args+echo_choice+echo_levels+echo_node+echo_one+echo_operand+echo_two.Tie.{
+use Rattle.echo_walk.proofs.+echo_args+echo_levels+echo_node+echo_one+echo_operand+echo_two.Tie.{
   close,
 }
 use mathlib.Core.Path.{sym, _∙_}
 use borrow.Author.Needs.{needs}
 use native.Mathlib.Omega.{arith}
+use Rattle.lent.specs.Lent.{problemAt}
+use Rattle.echo_bytes.specs.Page.{page}
 use Rattle.echo_bytes.specs.Laws.{written-then}
-use Rattle.echo_walk.specs.Texts.{oneText, twoText, choiceText, formText}
+use Rattle.echo_walk.specs.Operands.{Entries}
+use Rattle.echo_walk.specs.Texts.{oneText, twoText, choiceText, levelsText, argsText, formText}
+use Rattle.echo_walk.specs.Ready.{textAt, Under}
 use Rattle.echo_walk.proofs.Laws.{
   μ,
-  lower-node,
-  lower-operand,
-  inside,
+  lower,
   fewer,
   listed-place,
   listed-first,
   listed-rest,
   args-none,
-  args-in,
-  leaves-then,
+  args-step,
+  Begun,
+  begun,
+  begun-size,
+  begun-next,
+  begun-none,
+  begun-all,
   chained-place,
   chained-index,
   chained-value,
   chained-rest,
   levels-none,
-  levels-in,
+  levels-step,
   leaf-found,
   leaf-written,
   form-under,
@@ -67,25 +70,22 @@ use Rattle.echo_walk.proofs.Laws.{
 }
 
 abbrev μ-echo-args : Measures 8 echo-args-kinds.ps ℕ
-μ-echo-args κs a = μ (a .1 .1 .1 .1 .0) (a .1 .1 .1 .1 .1 .1 .0)
-
-abbrev μ-echo-choice : Measures 8 echo-choice-kinds.ps ℕ
-μ-echo-choice κs a = μ (a .1 .1 .1 .1 .0) 1
+μ-echo-args κs a = μ (a .1 .1 .1 .1 .1 .0) 0
 
 abbrev μ-echo-levels : Measures 8 echo-levels-kinds.ps ℕ
-μ-echo-levels κs a = μ (a .1 .1 .1 .1 .0) (a .1 .1 .1 .1 .1 .1 .0)
+μ-echo-levels κs a = μ (a .1 .1 .1 .1 .1 .0) 2
 
 abbrev μ-echo-node : Measures 8 echo-node-kinds.ps ℕ
-μ-echo-node κs a = μ (a .1 .1 .1 .1 .0) 18446744073709551616
+μ-echo-node κs a = μ (a .1 .1 .1 .1 .1 .0) 3
 
 abbrev μ-echo-one : Measures 8 echo-one-kinds.ps ℕ
-μ-echo-one κs a = μ (a .1 .1 .1 .1 .0) 0
+μ-echo-one κs a = μ (a .1 .1 .1 .1 .1 .0) 0
 
 abbrev μ-echo-operand : Measures 8 echo-operand-kinds.ps ℕ
-μ-echo-operand κs a = μ (a .1 .1 .1 .1 .0) 18446744073709551617
+μ-echo-operand κs a = μ (a .1 .1 .1 .1 .1 .0) 4
 
 abbrev μ-echo-two : Measures 8 echo-two-kinds.ps ℕ
-μ-echo-two κs a = μ (a .1 .1 .1 .1 .0) 0
+μ-echo-two κs a = μ (a .1 .1 .1 .1 .1 .0) 1
 
 abbrev echo-args-at : ℕ → In 8 echo-args-kinds.ps
 echo-args-at t = and 8 echo-args-kinds.ps (is 8 echo-args-kinds.ps μ-echo-args t) echo-args.Pre
@@ -93,14 +93,6 @@ echo-args-at t = and 8 echo-args-kinds.ps (is 8 echo-args-kinds.ps μ-echo-args 
 abbrev echo-args-below : ℕ → In 8 echo-args-kinds.ps
 echo-args-below t =
     and 8 echo-args-kinds.ps (falls 8 echo-args-kinds.ps _<_ μ-echo-args t) echo-args.Pre
-
-abbrev echo-choice-at : ℕ → In 8 echo-choice-kinds.ps
-echo-choice-at t =
-    and 8 echo-choice-kinds.ps (is 8 echo-choice-kinds.ps μ-echo-choice t) echo-choice.Pre
-
-abbrev echo-choice-below : ℕ → In 8 echo-choice-kinds.ps
-echo-choice-below t =
-    and 8 echo-choice-kinds.ps (falls 8 echo-choice-kinds.ps _<_ μ-echo-choice t) echo-choice.Pre
 
 abbrev echo-levels-at : ℕ → In 8 echo-levels-kinds.ps
 echo-levels-at t =
@@ -145,19 +137,15 @@ echo-two-below t =
 
 -- what echo_args calls
 abbrev echo-args-calls : ℕ → echo-args-lts.Claims
-echo-args-calls t = (echo-leaves-reads.Asked, echo-leaves-reads.Learnt, byte-reads.Asked, byte-reads.Learnt, get-reads.Asked, get-reads.Learnt, echo-node-below t, echo-node.Post, echo-args-below t, echo-args.Post)
-
--- what echo_choice calls
-abbrev echo-choice-calls : ℕ → echo-choice-lts.Claims
-echo-choice-calls t = (echo-operand-below t, echo-operand.Post, echo-two-below t, echo-two.Post)
+echo-args-calls t = (get-reads.Asked, get-reads.Learnt, echo-operand-below t, echo-operand.Post, byte-reads.Asked, byte-reads.Learnt)
 
 -- what echo_levels calls
 abbrev echo-levels-calls : ℕ → echo-levels-lts.Claims
-echo-levels-calls t = (pair-at-reads.Asked, pair-at-reads.Learnt, echo-two-below t, echo-two.Post, echo-levels-below t, echo-levels.Post)
+echo-levels-calls t = (pair-at-reads.Asked, pair-at-reads.Learnt, echo-two-below t, echo-two.Post)
 
 -- what echo_node calls
 abbrev echo-node-calls : ℕ → echo-node-lts.Claims
-echo-node-calls t = (open-head-reads.Asked, open-head-reads.Learnt, operands-at-reads.Asked, operands-at-reads.Learnt, echo-one-below t, echo-one.Post, echo-two-below t, echo-two.Post, echo-choice-below t, echo-choice.Post, echo-levels-below t, echo-levels.Post, echo-args-below t, echo-args.Post)
+echo-node-calls t = (open-head-reads.Asked, open-head-reads.Learnt, operands-at-reads.Asked, operands-at-reads.Learnt, echo-one-below t, echo-one.Post, echo-two-below t, echo-two.Post, echo-operand-below t, echo-operand.Post, echo-levels-below t, echo-levels.Post, echo-args-below t, echo-args.Post)
 
 -- what echo_one calls
 abbrev echo-one-calls : ℕ → echo-one-lts.Claims
@@ -169,154 +157,144 @@ echo-operand-calls t = (is-leaf-reads.Asked, is-leaf-reads.Learnt, echo-leaf-rea
 
 -- what echo_two calls
 abbrev echo-two-calls : ℕ → echo-two-lts.Claims
-echo-two-calls t = (echo-operand-below t, echo-operand.Post, byte-reads.Asked, byte-reads.Learnt)
+echo-two-calls t = (echo-operand-below t, echo-operand.Post, echo-one-below t, echo-one.Post)
 
-echo-args-echo-leaves-requires : (t : ℕ) → echo-args-lts.Need-echo-leaves-requires (echo-args-calls t) (echo-args-at t) echo-args.Post
-echo-args-echo-leaves-requires t c κs =
-    let start = c .before .before in
-    start .pre .1
+abbrev echo-args-Inv-loop : echo-args-lts.InvT-loop
+echo-args-Inv-loop bytes numbers tables symbols lim s n out₀ side q₀ k₀ left₀ out q k left =
+    Begun (argsText (textAt bytes numbers tables) (problemAt bytes numbers .side) s n) (argsText (textAt bytes numbers tables) (problemAt bytes numbers .side) k left) (page q₀ out₀) (page q out)
+    × Entries (Under bytes numbers tables lim) (problemAt bytes numbers .side) k left
 
-echo-args-byte-requires : (t : ℕ) → echo-args-lts.Need-byte-requires (echo-args-calls t) (echo-args-at t) echo-args.Post
-echo-args-byte-requires t c κs = search needs
+abbrev echo-args-μ-loop : echo-args-lts.MeasureT-loop
+echo-args-μ-loop bytes numbers tables symbols lim s n out₀ side q₀ k₀ left₀ out q k left = left
 
-echo-args-same-length : (t : ℕ) → echo-args-lts.Need-same-length (echo-args-calls t) (echo-args-at t) echo-args.Post
-echo-args-same-length t c =
-    let echo-leaves = c .before .before .before .before .before .before .before .echo-leaves in
-    let byte = c .before .before .byte in
-    omega (arith, echo-leaves .kept .1 .1 .1 .1 .1 .1 .1 .1 .0, byte .kept .1 .0)
-
-echo-args-returns : (t : ℕ) → echo-args-lts.Need-returns (echo-args-calls t) (echo-args-at t) echo-args.Post
-echo-args-returns t c =
-    let echo-leaves = c .before .before .before .before .before .before .before .echo-leaves in
-    let if1 = c .before .before .before .before .if1 in
-    let byte = c .before .before .byte in
-    leaves-then (echo-leaves .ensures) (args-none _ _ _ (if1 .taken) _ (byte .ensures))
-
-echo-args-element-copy-out-side : (t : ℕ) → echo-args-lts.Need-element-copy-out-side (echo-args-calls t) (echo-args-at t) echo-args.Post
+echo-args-element-copy-out-side : (t : ℕ) → echo-args-lts.Need-element-copy-out-side (echo-args-calls t) (echo-args-at t) echo-args.Post echo-args-Inv-loop echo-args-μ-loop
 echo-args-element-copy-out-side t c = search needs
 
-echo-args-get-requires : (t : ℕ) → echo-args-lts.Need-get-requires (echo-args-calls t) (echo-args-at t) echo-args.Post
+echo-args-loop-holds : (t : ℕ) → echo-args-lts.Need-loop-holds (echo-args-calls t) (echo-args-at t) echo-args.Post echo-args-Inv-loop echo-args-μ-loop
+echo-args-loop-holds t c =
+    let start = c .before .before in
+    (begun _ (omega arith), start .pre .1 .1)
+
+echo-args-get-requires : (t : ℕ) → echo-args-lts.Need-get-requires (echo-args-calls t) (echo-args-at t) echo-args.Post echo-args-Inv-loop echo-args-μ-loop
 echo-args-get-requires t c κs = search needs
 
-echo-args-echo-node-requires : (t : ℕ) → echo-args-lts.Need-echo-node-requires (echo-args-calls t) (echo-args-at t) echo-args.Post
-echo-args-echo-node-requires t c κs =
-    let start = c .before .before .before .before .before .before .before .before .before in
-    let echo-leaves = c .before .before .before .before .before .before .echo-leaves in
-    let if1 = c .before .before .before .if1 in
-    let get = c .before .get in
-    (lower-node _ _ _ (start .pre .0) (listed-first (echo-leaves .ensures .listed) (if1 .left) (get .ensures) .below), (start .pre .1 .0, listed-first (echo-leaves .ensures .listed) (if1 .left) (get .ensures) .fine))
-
-echo-args-add-echo-args : (t : ℕ) → echo-args-lts.Need-add-echo-args (echo-args-calls t) (echo-args-at t) echo-args.Post
-echo-args-add-echo-args t c =
-    let start = c .before .before .before .before .before .before .before .before .before .before .before .before in
-    let echo-leaves = c .before .before .before .before .before .before .before .before .before .echo-leaves in
-    let if1 = c .before .before .before .before .before .before .if1 in
-    omega (arith, listed-place (echo-leaves .ensures .listed) (if1 .left), start .pre .1 .0 .entries)
-
-echo-args-sub-echo-args : (t : ℕ) → echo-args-lts.Need-sub-echo-args (echo-args-calls t) (echo-args-at t) echo-args.Post
-echo-args-sub-echo-args t c =
-    let if1 = c .before .before .before .before .before .before .if1 in
-    omega (arith, if1 .left)
-
-echo-args-echo-args-requires : (t : ℕ) → echo-args-lts.Need-echo-args-requires (echo-args-calls t) (echo-args-at t) echo-args.Post
-echo-args-echo-args-requires t c κs =
-    let start = c .before .before .before .before .before .before .before .before .before .before .before .before .before in
-    let echo-leaves = c .before .before .before .before .before .before .before .before .before .before .echo-leaves in
-    let if1 = c .before .before .before .before .before .before .before .if1 in
-    (fewer _ _ _ (start .pre .0) (omega (arith, if1 .left, echo-leaves .ensures .fewer)), (start .pre .1 .0, listed-rest (echo-leaves .ensures .listed) (if1 .left)))
-
-echo-args-same-length-2 : (t : ℕ) → echo-args-lts.Need-same-length-2 (echo-args-calls t) (echo-args-at t) echo-args.Post
-echo-args-same-length-2 t c =
-    let echo-leaves = c .before .before .before .before .before .before .before .before .before .before .before .before .before .echo-leaves in
-    let echo-node = c .before .before .before .before .before .before .echo-node in
-    let echo-args = c .before .before .echo-args in
-    omega (arith, echo-leaves .kept .1 .1 .1 .1 .1 .1 .1 .1 .0, echo-node .kept .1 .1 .1 .1 .1 .1 .0, echo-args .kept .1 .1 .1 .1 .1 .1 .1 .1 .0)
-
-echo-args-returns-2 : (t : ℕ) → echo-args-lts.Need-returns-2 (echo-args-calls t) (echo-args-at t) echo-args.Post
-echo-args-returns-2 t c =
-    let echo-leaves = c .before .before .before .before .before .before .before .before .before .before .before .before .before .echo-leaves in
-    let if1 = c .before .before .before .before .before .before .before .before .before .before .if1 in
-    let get = c .before .before .before .before .before .before .before .before .get in
-    let echo-node = c .before .before .before .before .before .before .echo-node in
-    let echo-args = c .before .before .echo-args in
-    leaves-then (echo-leaves .ensures) (args-in _ _ _ (if1 .left) (get .ensures) _ (echo-node .ensures) (echo-args .ensures))
-
-echo-choice-echo-operand-requires : (t : ℕ) → echo-choice-lts.Need-echo-operand-requires (echo-choice-calls t) (echo-choice-at t) echo-choice.Post
-echo-choice-echo-operand-requires t c κs =
-    let start = c .before .before in
-    (lower-operand _ _ _ (start .pre .0) (start .pre .1 .1 .below), (start .pre .1 .0, start .pre .1 .1 .fine))
-
-echo-choice-echo-two-requires : (t : ℕ) → echo-choice-lts.Need-echo-two-requires (echo-choice-calls t) (echo-choice-at t) echo-choice.Post
-echo-choice-echo-two-requires t c κs =
+echo-args-echo-operand-requires : (t : ℕ) → echo-args-lts.Need-echo-operand-requires (echo-args-calls t) (echo-args-at t) echo-args.Post echo-args-Inv-loop echo-args-μ-loop
+echo-args-echo-operand-requires t c κs =
     let start = c .before .before .before .before .before .before in
-    (fewer _ _ _ (start .pre .0) (omega arith), (start .pre .1 .0, start .pre .1 .2, start .pre .1 .3))
+    let loop = c .before .before .before .loop in
+    let loop-test = c .before .before .loop-test in
+    let get = c .before .get in
+    let x = listed-first (loop .inv .1) (omega (arith, loop-test .taken)) (get .ensures) in (lower _ _ _ _ (start .pre .0) (x .below) (omega arith), (start .pre .1 .0, x .fine))
 
-echo-choice-same-length : (t : ℕ) → echo-choice-lts.Need-same-length (echo-choice-calls t) (echo-choice-at t) echo-choice.Post
-echo-choice-same-length t c =
-    let echo-operand = c .before .before .before .before .before .before .echo-operand in
-    let echo-two = c .before .before .echo-two in
-    omega (arith, echo-operand .kept .1 .1 .1 .1 .1 .1 .0, echo-two .kept .1 .1 .1 .1 .1 .1 .1 .1 .0)
+echo-args-add-k : (t : ℕ) → echo-args-lts.Need-add-k (echo-args-calls t) (echo-args-at t) echo-args.Post echo-args-Inv-loop echo-args-μ-loop
+echo-args-add-k t c =
+    let start = c .before .before .before .before .before .before .before .before .before in
+    let loop = c .before .before .before .before .before .before .loop in
+    let loop-test = c .before .before .before .before .before .loop-test in
+    omega (arith, listed-place (loop .inv .1) (omega (arith, loop-test .taken)), start .pre .1 .0 .entries)
 
-echo-choice-returns : (t : ℕ) → echo-choice-lts.Need-returns (echo-choice-calls t) (echo-choice-at t) echo-choice.Post
-unfolding choiceText
-echo-choice-returns t c =
-    let echo-operand = c .before .before .before .before .before .before .echo-operand in
-    let echo-two = c .before .before .echo-two in
-    written-then _ _ _ (echo-operand .ensures) (echo-two .ensures)
+echo-args-sub-left : (t : ℕ) → echo-args-lts.Need-sub-left (echo-args-calls t) (echo-args-at t) echo-args.Post echo-args-Inv-loop echo-args-μ-loop
+echo-args-sub-left t c =
+    let loop-test = c .before .before .before .before .before .loop-test in
+    omega (arith, loop-test .taken)
 
-echo-levels-returns : (t : ℕ) → echo-levels-lts.Need-returns (echo-levels-calls t) (echo-levels-at t) echo-levels.Post
-echo-levels-returns t c =
-    let if1 = c .if1 in
-    levels-none _ _ _ (if1 .taken) (omega arith)
+echo-args-loop-less : (t : ℕ) → echo-args-lts.Need-loop-less (echo-args-calls t) (echo-args-at t) echo-args.Post echo-args-Inv-loop echo-args-μ-loop
+echo-args-loop-less t c =
+    let loop-test = c .before .before .before .before .before .loop-test in
+    omega (arith, loop-test .taken)
 
-echo-levels-element-copy-out-side : (t : ℕ) → echo-levels-lts.Need-element-copy-out-side (echo-levels-calls t) (echo-levels-at t) echo-levels.Post
+echo-args-loop-again : (t : ℕ) → echo-args-lts.Need-loop-again (echo-args-calls t) (echo-args-at t) echo-args.Post echo-args-Inv-loop echo-args-μ-loop
+echo-args-loop-again t c =
+    let loop = c .before .before .before .before .before .before .loop in
+    let loop-test = c .before .before .before .before .before .loop-test in
+    let get = c .before .before .before .before .get in
+    let echo-operand = c .before .before .echo-operand in
+    (begun-next (loop .inv .0) _ _ (args-step _ _ _ _ (omega (arith, loop-test .taken)) (get .ensures)) (echo-operand .ensures), listed-rest (loop .inv .1) (omega (arith, loop-test .taken)))
+
+echo-args-byte-requires : (t : ℕ) → echo-args-lts.Need-byte-requires (echo-args-calls t) (echo-args-at t) echo-args.Post echo-args-Inv-loop echo-args-μ-loop
+echo-args-byte-requires t c κs = search needs
+
+echo-args-same-length : (t : ℕ) → echo-args-lts.Need-same-length (echo-args-calls t) (echo-args-at t) echo-args.Post echo-args-Inv-loop echo-args-μ-loop
+echo-args-same-length t c =
+    let loop = c .before .before .before .before .before .loop in
+    let byte = c .before .before .byte in
+    omega (arith, begun-size (loop .inv .0), byte .kept .1 .0)
+
+echo-args-returns : (t : ℕ) → echo-args-lts.Need-returns (echo-args-calls t) (echo-args-at t) echo-args.Post echo-args-Inv-loop echo-args-μ-loop
+echo-args-returns t c =
+    let loop = c .before .before .before .before .before .loop in
+    let loop-test = c .before .before .before .before .loop-test in
+    let byte = c .before .before .byte in
+    begun-all (loop .inv .0) (args-none _ _ _ (omega (arith, loop-test .left)) _ (byte .ensures))
+
+abbrev echo-levels-Inv-loop : echo-levels-lts.InvT-loop
+echo-levels-Inv-loop bytes numbers tables symbols lim s n out₀ side q₀ left₀ out q left =
+    Begun (levelsText (textAt bytes numbers tables) (problemAt bytes numbers .side) s n) (levelsText (textAt bytes numbers tables) (problemAt bytes numbers .side) s left) (page q₀ out₀) (page q out)
+    × Entries (Under bytes numbers tables lim) (problemAt bytes numbers .side) s (left + left)
+
+abbrev echo-levels-μ-loop : echo-levels-lts.MeasureT-loop
+echo-levels-μ-loop bytes numbers tables symbols lim s n out₀ side q₀ left₀ out q left = left
+
+echo-levels-element-copy-out-side : (t : ℕ) → echo-levels-lts.Need-element-copy-out-side (echo-levels-calls t) (echo-levels-at t) echo-levels.Post echo-levels-Inv-loop echo-levels-μ-loop
 echo-levels-element-copy-out-side t c = search needs
 
-echo-levels-sub-l : (t : ℕ) → echo-levels-lts.Need-sub-l (echo-levels-calls t) (echo-levels-at t) echo-levels.Post
-echo-levels-sub-l t c =
-    let if1 = c .before .if1 in
-    omega (arith, if1 .left)
+echo-levels-loop-holds : (t : ℕ) → echo-levels-lts.Need-loop-holds (echo-levels-calls t) (echo-levels-at t) echo-levels.Post echo-levels-Inv-loop echo-levels-μ-loop
+echo-levels-loop-holds t c =
+    let start = c .before .before in
+    (begun _ (omega arith), start .pre .1 .1)
 
-echo-levels-pair-at-requires : (t : ℕ) → echo-levels-lts.Need-pair-at-requires (echo-levels-calls t) (echo-levels-at t) echo-levels.Post
+echo-levels-sub-left : (t : ℕ) → echo-levels-lts.Need-sub-left (echo-levels-calls t) (echo-levels-at t) echo-levels.Post echo-levels-Inv-loop echo-levels-μ-loop
+echo-levels-sub-left t c =
+    let loop-test = c .loop-test in
+    omega (arith, loop-test .taken)
+
+echo-levels-pair-at-requires : (t : ℕ) → echo-levels-lts.Need-pair-at-requires (echo-levels-calls t) (echo-levels-at t) echo-levels.Post echo-levels-Inv-loop echo-levels-μ-loop
 echo-levels-pair-at-requires t c κs =
-    let start = c .before .before .before in
-    let if1 = c .before .if1 in
-    omega (arith, chained-place (start .pre .1 .1) (if1 .left), start .pre .1 .0 .entries)
-
-echo-levels-pair-at-requires-2 : (t : ℕ) → echo-levels-lts.Need-pair-at-requires-2 (echo-levels-calls t) (echo-levels-at t) echo-levels.Post
-echo-levels-pair-at-requires-2 t c κs =
     let start = c .before .before .before .before in
-    let if1 = c .before .before .if1 in
-    omega (arith, chained-place (start .pre .1 .1) (if1 .left), start .pre .1 .0 .entries)
+    let loop = c .before .loop in
+    let loop-test = c .loop-test in
+    omega (arith, chained-place (loop .inv .1) (omega (arith, loop-test .taken)), start .pre .1 .0 .entries)
 
-echo-levels-echo-two-requires : (t : ℕ) → echo-levels-lts.Need-echo-two-requires (echo-levels-calls t) (echo-levels-at t) echo-levels.Post
+echo-levels-pair-at-requires-2 : (t : ℕ) → echo-levels-lts.Need-pair-at-requires-2 (echo-levels-calls t) (echo-levels-at t) echo-levels.Post echo-levels-Inv-loop echo-levels-μ-loop
+echo-levels-pair-at-requires-2 t c κs =
+    let start = c .before .before .before .before .before in
+    let loop = c .before .before .loop in
+    let loop-test = c .before .loop-test in
+    omega (arith, chained-place (loop .inv .1) (omega (arith, loop-test .taken)), start .pre .1 .0 .entries)
+
+echo-levels-echo-two-requires : (t : ℕ) → echo-levels-lts.Need-echo-two-requires (echo-levels-calls t) (echo-levels-at t) echo-levels.Post echo-levels-Inv-loop echo-levels-μ-loop
 echo-levels-echo-two-requires t c κs =
-    let start = c .before .before .before .before .before .before in
-    let if1 = c .before .before .before .before .if1 in
+    let start = c .before .before .before .before .before .before .before in
+    let loop = c .before .before .before .before .loop in
+    let loop-test = c .before .before .before .loop-test in
     let pair-at = c .before .before .pair-at in
     let pair-at2 = c .before .pair-at2 in
-    (fewer _ _ _ (start .pre .0) (omega (arith, if1 .left)), (start .pre .1 .0, chained-index (start .pre .1 .1) (if1 .left) (pair-at .ensures), chained-value (start .pre .1 .1) (if1 .left) (pair-at2 .ensures)))
+    (fewer _ _ _ (start .pre .0) (omega arith), (start .pre .1 .0, chained-index (loop .inv .1) (omega (arith, loop-test .taken)) (pair-at .ensures), chained-value (loop .inv .1) (omega (arith, loop-test .taken)) (pair-at2 .ensures)))
 
-echo-levels-echo-levels-requires : (t : ℕ) → echo-levels-lts.Need-echo-levels-requires (echo-levels-calls t) (echo-levels-at t) echo-levels.Post
-echo-levels-echo-levels-requires t c κs =
-    let start = c .before .before .before .before .before .before .before .before .before .before in
-    let if1 = c .before .before .before .before .before .before .before .before .if1 in
-    (fewer _ _ _ (start .pre .0) (omega (arith, if1 .left)), (start .pre .1 .0, chained-rest (start .pre .1 .1) (if1 .left)))
+echo-levels-loop-less : (t : ℕ) → echo-levels-lts.Need-loop-less (echo-levels-calls t) (echo-levels-at t) echo-levels.Post echo-levels-Inv-loop echo-levels-μ-loop
+echo-levels-loop-less t c =
+    let loop-test = c .before .before .before .before .before .before .loop-test in
+    omega (arith, loop-test .taken)
 
-echo-levels-same-length : (t : ℕ) → echo-levels-lts.Need-same-length (echo-levels-calls t) (echo-levels-at t) echo-levels.Post
+echo-levels-loop-again : (t : ℕ) → echo-levels-lts.Need-loop-again (echo-levels-calls t) (echo-levels-at t) echo-levels.Post echo-levels-Inv-loop echo-levels-μ-loop
+echo-levels-loop-again t c =
+    let loop = c .before .before .before .before .before .before .before .loop in
+    let loop-test = c .before .before .before .before .before .before .loop-test in
+    let pair-at = c .before .before .before .before .before .pair-at in
+    let pair-at2 = c .before .before .before .before .pair-at2 in
+    let echo-two = c .before .before .echo-two in
+    (begun-next (loop .inv .0) _ _ (levels-step _ _ _ _ (omega (arith, loop-test .taken)) (pair-at .ensures) (pair-at2 .ensures)) (echo-two .ensures), chained-rest (loop .inv .1) (omega (arith, loop-test .taken)))
+
+echo-levels-same-length : (t : ℕ) → echo-levels-lts.Need-same-length (echo-levels-calls t) (echo-levels-at t) echo-levels.Post echo-levels-Inv-loop echo-levels-μ-loop
 echo-levels-same-length t c =
-    let echo-two = c .before .before .before .before .before .before .echo-two in
-    let echo-levels = c .before .before .echo-levels in
-    omega (arith, echo-two .kept .1 .1 .1 .1 .1 .1 .1 .1 .0, echo-levels .kept .1 .1 .1 .1 .1 .1 .1 .1 .0)
+    let loop = c .before .loop in
+    omega (arith, begun-size (loop .inv .0))
 
-echo-levels-returns-2 : (t : ℕ) → echo-levels-lts.Need-returns-2 (echo-levels-calls t) (echo-levels-at t) echo-levels.Post
-echo-levels-returns-2 t c =
-    let if1 = c .before .before .before .before .before .before .before .before .before .before .before .if1 in
-    let pair-at = c .before .before .before .before .before .before .before .before .before .pair-at in
-    let pair-at2 = c .before .before .before .before .before .before .before .before .pair-at2 in
-    let echo-two = c .before .before .before .before .before .before .echo-two in
-    let echo-levels = c .before .before .echo-levels in
-    levels-in _ _ _ (if1 .left) (pair-at .ensures) (pair-at2 .ensures) _ (echo-two .ensures) (echo-levels .ensures)
+echo-levels-returns : (t : ℕ) → echo-levels-lts.Need-returns (echo-levels-calls t) (echo-levels-at t) echo-levels.Post echo-levels-Inv-loop echo-levels-μ-loop
+echo-levels-returns t c =
+    let loop = c .before .loop in
+    let loop-test = c .loop-test in
+    begun-none (loop .inv .0) (levels-none _ _ _ (omega (arith, loop-test .left)))
 
 echo-node-open-head-requires : (t : ℕ) → echo-node-lts.Need-open-head-requires (echo-node-calls t) (echo-node-at t) echo-node.Post
 echo-node-open-head-requires t c κs =
@@ -339,7 +317,7 @@ echo-node-echo-one-requires t c κs =
     let start = c .before .before .before .before .before .before .before .before .before .before in
     let operands-at = c .before .before .before .before .operands-at in
     let f = c .before .before .f in
-    (inside _ _ (start .pre .0) (omega arith), (start .pre .1 .0, form-under _ _ _ _ (start .pre .1 .0) _ (start .pre .1 .1) (sym (f .given .1) ∙ operands-at .ensures)))
+    (fewer _ _ _ (start .pre .0) (omega arith), (start .pre .1 .0, (form-under _ _ _ _ (start .pre .1 .0) _ (start .pre .1 .1) (sym (f .given .1) ∙ operands-at .ensures))))
 
 echo-node-enum-known-f-2 : (t : ℕ) → echo-node-lts.Need-enum-known-f-2 (echo-node-calls t) (echo-node-at t) echo-node.Post
 echo-node-enum-known-f-2 t c = search needs
@@ -349,17 +327,24 @@ echo-node-echo-two-requires t c κs =
     let start = c .before .before .before .before .before .before .before .before .before .before in
     let operands-at = c .before .before .before .before .operands-at in
     let f2 = c .before .before .f2 in
-    (inside _ _ (start .pre .0) (omega arith), (start .pre .1 .0, form-under _ _ _ _ (start .pre .1 .0) _ (start .pre .1 .1) (sym (f2 .given .1) ∙ operands-at .ensures) .0, form-under _ _ _ _ (start .pre .1 .0) _ (start .pre .1 .1) (sym (f2 .given .1) ∙ operands-at .ensures) .1))
+    let x = (form-under _ _ _ _ (start .pre .1 .0) _ (start .pre .1 .1) (sym (f2 .given .1) ∙ operands-at .ensures)) in (fewer _ _ _ (start .pre .0) (omega arith), (start .pre .1 .0, x .0, x .1))
 
 echo-node-enum-known-f-3 : (t : ℕ) → echo-node-lts.Need-enum-known-f-3 (echo-node-calls t) (echo-node-at t) echo-node.Post
 echo-node-enum-known-f-3 t c = search needs
 
-echo-node-echo-choice-requires : (t : ℕ) → echo-node-lts.Need-echo-choice-requires (echo-node-calls t) (echo-node-at t) echo-node.Post
-echo-node-echo-choice-requires t c κs =
+echo-node-echo-operand-requires : (t : ℕ) → echo-node-lts.Need-echo-operand-requires (echo-node-calls t) (echo-node-at t) echo-node.Post
+echo-node-echo-operand-requires t c κs =
     let start = c .before .before .before .before .before .before .before .before .before .before in
     let operands-at = c .before .before .before .before .operands-at in
     let f3 = c .before .before .f3 in
-    (inside _ _ (start .pre .0) (omega arith), (start .pre .1 .0, form-under _ _ _ _ (start .pre .1 .0) _ (start .pre .1 .1) (sym (f3 .given .1) ∙ operands-at .ensures) .0, form-under _ _ _ _ (start .pre .1 .0) _ (start .pre .1 .1) (sym (f3 .given .1) ∙ operands-at .ensures) .1, form-under _ _ _ _ (start .pre .1 .0) _ (start .pre .1 .1) (sym (f3 .given .1) ∙ operands-at .ensures) .2))
+    let x = (form-under _ _ _ _ (start .pre .1 .0) _ (start .pre .1 .1) (sym (f3 .given .1) ∙ operands-at .ensures)) in (lower _ _ _ _ (start .pre .0) (x .0 .below) (omega arith), (start .pre .1 .0, x .0 .fine))
+
+echo-node-echo-two-requires-2 : (t : ℕ) → echo-node-lts.Need-echo-two-requires-2 (echo-node-calls t) (echo-node-at t) echo-node.Post
+echo-node-echo-two-requires-2 t c κs =
+    let start = c .before .before .before .before .before .before .before .before .before .before .before .before .before .before in
+    let operands-at = c .before .before .before .before .before .before .before .before .operands-at in
+    let f3 = c .before .before .before .before .before .before .f3 in
+    let x = (form-under _ _ _ _ (start .pre .1 .0) _ (start .pre .1 .1) (sym (f3 .given .1) ∙ operands-at .ensures)) in (fewer _ _ _ (start .pre .0) (omega arith), (start .pre .1 .0, x .1, x .2))
 
 echo-node-enum-known-f-4 : (t : ℕ) → echo-node-lts.Need-enum-known-f-4 (echo-node-calls t) (echo-node-at t) echo-node.Post
 echo-node-enum-known-f-4 t c = search needs
@@ -369,14 +354,14 @@ echo-node-echo-levels-requires t c κs =
     let start = c .before .before .before .before .before .before .before .before .before .before in
     let operands-at = c .before .before .before .before .operands-at in
     let f4 = c .before .before .f4 in
-    (inside _ _ (start .pre .0) (omega arith), (start .pre .1 .0, form-under _ _ _ _ (start .pre .1 .0) _ (start .pre .1 .1) (sym (f4 .given .1) ∙ operands-at .ensures) .1))
+    (fewer _ _ _ (start .pre .0) (omega arith), (start .pre .1 .0, (form-under _ _ _ _ (start .pre .1 .0) _ (start .pre .1 .1) (sym (f4 .given .1) ∙ operands-at .ensures)) .1))
 
 echo-node-echo-one-requires-2 : (t : ℕ) → echo-node-lts.Need-echo-one-requires-2 (echo-node-calls t) (echo-node-at t) echo-node.Post
 echo-node-echo-one-requires-2 t c κs =
     let start = c .before .before .before .before .before .before .before .before .before .before .before .before .before .before in
     let operands-at = c .before .before .before .before .before .before .before .before .operands-at in
     let f4 = c .before .before .before .before .before .before .f4 in
-    (inside _ _ (start .pre .0) (omega arith), (start .pre .1 .0, form-under _ _ _ _ (start .pre .1 .0) _ (start .pre .1 .1) (sym (f4 .given .1) ∙ operands-at .ensures) .0))
+    (fewer _ _ _ (start .pre .0) (omega arith), (start .pre .1 .0, (form-under _ _ _ _ (start .pre .1 .0) _ (start .pre .1 .1) (sym (f4 .given .1) ∙ operands-at .ensures)) .0))
 
 echo-node-enum-known-f-5 : (t : ℕ) → echo-node-lts.Need-enum-known-f-5 (echo-node-calls t) (echo-node-at t) echo-node.Post
 echo-node-enum-known-f-5 t c = search needs
@@ -386,7 +371,7 @@ echo-node-echo-args-requires t c κs =
     let start = c .before .before .before .before .before .before .before .before .before .before in
     let operands-at = c .before .before .before .before .operands-at in
     let f5 = c .before .before .f5 in
-    (inside _ _ (start .pre .0) (omega arith), (start .pre .1 .0, form-under _ _ _ _ (start .pre .1 .0) _ (start .pre .1 .1) (sym (f5 .given .1) ∙ operands-at .ensures)))
+    (fewer _ _ _ (start .pre .0) (omega arith), (start .pre .1 .0, (form-under _ _ _ _ (start .pre .1 .0) _ (start .pre .1 .1) (sym (f5 .given .1) ∙ operands-at .ensures))))
 
 echo-node-same-length : (t : ℕ) → echo-node-lts.Need-same-length (echo-node-calls t) (echo-node-at t) echo-node.Post
 echo-node-same-length t c =
@@ -435,19 +420,21 @@ echo-node-returns-3 t c =
 
 echo-node-same-length-4 : (t : ℕ) → echo-node-lts.Need-same-length-4 (echo-node-calls t) (echo-node-at t) echo-node.Post
 echo-node-same-length-4 t c =
-    let open-head = c .before .before .before .before .before .before .before .before .before .before .open-head in
-    let echo-choice = c .before .before .echo-choice in
-    omega (arith, open-head .kept .1 .1 .1 .1 .1 .1 .0, echo-choice .kept .1 .1 .1 .1 .1 .1 .1 .1 .1 .0)
+    let open-head = c .before .before .before .before .before .before .before .before .before .before .before .before .before .before .open-head in
+    let echo-operand = c .before .before .before .before .before .before .echo-operand in
+    let echo-two2 = c .before .before .echo-two2 in
+    omega (arith, open-head .kept .1 .1 .1 .1 .1 .1 .0, echo-operand .kept .1 .1 .1 .1 .1 .1 .0, echo-two2 .kept .1 .1 .1 .1 .1 .1 .1 .1 .0)
 
 echo-node-returns-4 : (t : ℕ) → echo-node-lts.Need-returns-4 (echo-node-calls t) (echo-node-at t) echo-node.Post
-unfolding formText
+unfolding formText choiceText
 echo-node-returns-4 t c =
-    let start = c .before .before .before .before .before .before .before .before .before .before .before .before .before in
-    let open-head = c .before .before .before .before .before .before .before .before .before .before .open-head in
-    let operands-at = c .before .before .before .before .before .before .before .operands-at in
-    let f3 = c .before .before .before .before .before .f3 in
-    let echo-choice = c .before .before .echo-choice in
-    node-in _ _ _ _ (start .pre .1 .0) _ (start .pre .1 .1 .here) (sym (f3 .given .1) ∙ operands-at .ensures) _ (open-head .ensures) (echo-choice .ensures)
+    let start = c .before .before .before .before .before .before .before .before .before .before .before .before .before .before .before .before .before in
+    let open-head = c .before .before .before .before .before .before .before .before .before .before .before .before .before .before .open-head in
+    let operands-at = c .before .before .before .before .before .before .before .before .before .before .before .operands-at in
+    let f3 = c .before .before .before .before .before .before .before .before .before .f3 in
+    let echo-operand = c .before .before .before .before .before .before .echo-operand in
+    let echo-two2 = c .before .before .echo-two2 in
+    node-in _ _ _ _ (start .pre .1 .0) _ (start .pre .1 .1 .here) (sym (f3 .given .1) ∙ operands-at .ensures) _ (open-head .ensures) (written-then _ _ _ (echo-operand .ensures) (echo-two2 .ensures))
 
 echo-node-same-length-5 : (t : ℕ) → echo-node-lts.Need-same-length-5 (echo-node-calls t) (echo-node-at t) echo-node.Post
 echo-node-same-length-5 t c =
@@ -486,7 +473,7 @@ echo-node-returns-6 t c =
 echo-one-echo-operand-requires : (t : ℕ) → echo-one-lts.Need-echo-operand-requires (echo-one-calls t) (echo-one-at t) echo-one.Post
 echo-one-echo-operand-requires t c κs =
     let start = c .before .before in
-    (lower-operand _ _ _ (start .pre .0) (start .pre .1 .1 .below), (start .pre .1 .0, start .pre .1 .1 .fine))
+    (lower _ _ _ _ (start .pre .0) (start .pre .1 .1 .below) (omega arith), (start .pre .1 .0, start .pre .1 .1 .fine))
 
 echo-one-byte-requires : (t : ℕ) → echo-one-lts.Need-byte-requires (echo-one-calls t) (echo-one-at t) echo-one.Post
 echo-one-byte-requires t c κs = search needs
@@ -512,7 +499,7 @@ echo-operand-echo-leaf-requires t c κs =
     let start = c .before .before .before .before in
     let is-leaf = c .before .before .is-leaf in
     let if1 = c .before .if1 in
-    (start .pre .1 .0, leaf-found _ _ _ _ (start .pre .1 .0) _ (start .pre .1 .1) (is-leaf .ensures) (if1 .taken))
+    (start .pre .1 .0, (leaf-found _ _ _ _ (start .pre .1 .0) _ (start .pre .1 .1) (is-leaf .ensures) (if1 .taken)))
 
 echo-operand-same-length : (t : ℕ) → echo-operand-lts.Need-same-length (echo-operand-calls t) (echo-operand-at t) echo-operand.Post
 echo-operand-same-length t c =
@@ -545,37 +532,31 @@ echo-operand-returns-2 t c =
 echo-two-echo-operand-requires : (t : ℕ) → echo-two-lts.Need-echo-operand-requires (echo-two-calls t) (echo-two-at t) echo-two.Post
 echo-two-echo-operand-requires t c κs =
     let start = c .before .before in
-    (lower-operand _ _ _ (start .pre .0) (start .pre .1 .1 .below), (start .pre .1 .0, start .pre .1 .1 .fine))
+    (lower _ _ _ _ (start .pre .0) (start .pre .1 .1 .below) (omega arith), (start .pre .1 .0, start .pre .1 .1 .fine))
 
-echo-two-echo-operand-requires-2 : (t : ℕ) → echo-two-lts.Need-echo-operand-requires-2 (echo-two-calls t) (echo-two-at t) echo-two.Post
-echo-two-echo-operand-requires-2 t c κs =
+echo-two-echo-one-requires : (t : ℕ) → echo-two-lts.Need-echo-one-requires (echo-two-calls t) (echo-two-at t) echo-two.Post
+echo-two-echo-one-requires t c κs =
     let start = c .before .before .before .before .before .before in
-    (lower-operand _ _ _ (start .pre .0) (start .pre .1 .2 .below), (start .pre .1 .0, start .pre .1 .2 .fine))
-
-echo-two-byte-requires : (t : ℕ) → echo-two-lts.Need-byte-requires (echo-two-calls t) (echo-two-at t) echo-two.Post
-echo-two-byte-requires t c κs = search needs
+    (fewer _ _ _ (start .pre .0) (omega arith), (start .pre .1 .0, start .pre .1 .2))
 
 echo-two-same-length : (t : ℕ) → echo-two-lts.Need-same-length (echo-two-calls t) (echo-two-at t) echo-two.Post
 echo-two-same-length t c =
-    let echo-operand = c .before .before .before .before .before .before .before .before .before .before .echo-operand in
-    let echo-operand2 = c .before .before .before .before .before .before .echo-operand2 in
-    let byte = c .before .before .byte in
-    omega (arith, echo-operand .kept .1 .1 .1 .1 .1 .1 .0, echo-operand2 .kept .1 .1 .1 .1 .1 .1 .0, byte .kept .1 .0)
+    let echo-operand = c .before .before .before .before .before .before .echo-operand in
+    let echo-one = c .before .before .echo-one in
+    omega (arith, echo-operand .kept .1 .1 .1 .1 .1 .1 .0, echo-one .kept .1 .1 .1 .1 .1 .1 .1 .0)
 
 echo-two-returns : (t : ℕ) → echo-two-lts.Need-returns (echo-two-calls t) (echo-two-at t) echo-two.Post
-unfolding oneText twoText
+unfolding twoText
 echo-two-returns t c =
-    let echo-operand = c .before .before .before .before .before .before .before .before .before .before .echo-operand in
-    let echo-operand2 = c .before .before .before .before .before .before .echo-operand2 in
-    let byte = c .before .before .byte in
-    written-then _ _ _ (echo-operand .ensures) (written-then _ _ _ (echo-operand2 .ensures) (byte .ensures))
+    let echo-operand = c .before .before .before .before .before .before .echo-operand in
+    let echo-one = c .before .before .echo-one in
+    written-then _ _ _ (echo-operand .ensures) (echo-one .ensures)
 
-pub +echo-args+echo-choice+echo-levels+echo-node+echo-one+echo-operand+echo-two-spec :
+pub +echo-args+echo-levels+echo-node+echo-one+echo-operand+echo-two-spec :
     {M : Type 1} → statement M
-+echo-args+echo-choice+echo-levels+echo-node+echo-one+echo-operand+echo-two-spec =
++echo-args+echo-levels+echo-node+echo-one+echo-operand+echo-two-spec =
     close
     μ-echo-args
-    μ-echo-choice
     μ-echo-levels
     μ-echo-node
     μ-echo-one
@@ -584,37 +565,34 @@ pub +echo-args+echo-choice+echo-levels+echo-node+echo-one+echo-operand+echo-two-
     (λ t. echo-args-lts.spec (echo-args-calls t)
     (echo-args-at t)
     echo-args.Post
-    (echo-args-echo-leaves-requires t)
+    echo-args-Inv-loop
+    echo-args-μ-loop
+    (echo-args-element-copy-out-side t)
+    (echo-args-loop-holds t)
+    (echo-args-get-requires t)
+    (echo-args-echo-operand-requires t)
+    (echo-args-add-k t)
+    (echo-args-sub-left t)
+    (echo-args-loop-less t)
+    (echo-args-loop-again t)
     (echo-args-byte-requires t)
     (echo-args-same-length t)
-    (echo-args-returns t)
-    (echo-args-element-copy-out-side t)
-    (echo-args-get-requires t)
-    (echo-args-echo-node-requires t)
-    (echo-args-add-echo-args t)
-    (echo-args-sub-echo-args t)
-    (echo-args-echo-args-requires t)
-    (echo-args-same-length-2 t)
-    (echo-args-returns-2 t))
-    (λ t. echo-choice-lts.spec (echo-choice-calls t)
-    (echo-choice-at t)
-    echo-choice.Post
-    (echo-choice-echo-operand-requires t)
-    (echo-choice-echo-two-requires t)
-    (echo-choice-same-length t)
-    (echo-choice-returns t))
+    (echo-args-returns t))
     (λ t. echo-levels-lts.spec (echo-levels-calls t)
     (echo-levels-at t)
     echo-levels.Post
-    (echo-levels-returns t)
+    echo-levels-Inv-loop
+    echo-levels-μ-loop
     (echo-levels-element-copy-out-side t)
-    (echo-levels-sub-l t)
+    (echo-levels-loop-holds t)
+    (echo-levels-sub-left t)
     (echo-levels-pair-at-requires t)
     (echo-levels-pair-at-requires-2 t)
     (echo-levels-echo-two-requires t)
-    (echo-levels-echo-levels-requires t)
+    (echo-levels-loop-less t)
+    (echo-levels-loop-again t)
     (echo-levels-same-length t)
-    (echo-levels-returns-2 t))
+    (echo-levels-returns t))
     (λ t. echo-node-lts.spec (echo-node-calls t)
     (echo-node-at t)
     echo-node.Post
@@ -626,7 +604,8 @@ pub +echo-args+echo-choice+echo-levels+echo-node+echo-one+echo-operand+echo-two-
     (echo-node-enum-known-f-2 t)
     (echo-node-echo-two-requires t)
     (echo-node-enum-known-f-3 t)
-    (echo-node-echo-choice-requires t)
+    (echo-node-echo-operand-requires t)
+    (echo-node-echo-two-requires-2 t)
     (echo-node-enum-known-f-4 t)
     (echo-node-echo-levels-requires t)
     (echo-node-echo-one-requires-2 t)
@@ -661,11 +640,11 @@ pub +echo-args+echo-choice+echo-levels+echo-node+echo-one+echo-operand+echo-two-
     (echo-operand-echo-node-requires t)
     (echo-operand-same-length-2 t)
     (echo-operand-returns-2 t))
-    λ t. echo-two-lts.spec (echo-two-calls t)
+    λ t. echo-two-lts.spec
+    (echo-operand-below t, echo-operand.Post, echo-one-below t, echo-one.Post)
     (echo-two-at t)
     echo-two.Post
     (echo-two-echo-operand-requires t)
-    (echo-two-echo-operand-requires-2 t)
-    (echo-two-byte-requires t)
+    (echo-two-echo-one-requires t)
     (echo-two-same-length t)
     (echo-two-returns t)
