@@ -58,8 +58,8 @@ enum {
 
     /*
      * A declared name cannot stand in the script: it is empty or not wholly inside its arena; has a byte outside 32 to 126, or a
-     * bar or a backslash; begins with an at sign or a full stop; is a word of SMT-LIB or of a solver, such as "bvadd"; or is given
-     * twice, be it in two tables. Rename it.
+     * bar or a backslash; begins with an at sign or a full stop; is a word of SMT-LIB (2.7 too) or of a solver, such as "bvadd" or
+     * "int_to_bv"; or is given twice, be it in two tables. Rename it.
      */
     ECHO_NAME = 2,
 

@@ -1,7 +1,9 @@
-//! NOT THE RUST'S: the numbers that document 01 adds. 9 (limits) and 8 (encoding) come before the Rust is asked, 10 (room) after.
-//! Written from document 01, not from the port.
+//! NOT THE RUST'S: the numbers that document 01 adds, and the names that document 02 does. 9 (limits) and 8 (encoding) come before the
+//! Rust is asked, 10 (room) after. A name among the words of SMT-LIB 2.7 is asked of the Rust as a word that the Rust reserves.
+//! Written from the documents, not from the port.
 use crate::oracle;
 use crate::problem::{Problem, kind, operand_count};
+use crate::words::is_added;
 
 /// What is expected: number, count or length, and the result of an acceptance.
 pub struct Answer<T> {
@@ -63,6 +65,38 @@ pub fn width_answer(p: &Problem, room: usize) -> Answer<u64> {
     }
 }
 
+/// The entries of a table whose name is a word of SMT-LIB 2.7 get a word that the Rust reserves, at the end of the arena.
+fn reserve(arena: &mut Vec<u8>, starts: &mut [u64], lens: &mut [u64]) -> bool {
+    let word = b"let";
+    let end = arena.len() as u64;
+    let mut found = false;
+    for (s, l) in starts.iter_mut().zip(lens) {
+        let inside = *s <= end && *l <= end - *s;
+        if inside && is_added(&arena[*s as usize..(*s + *l) as usize]) {
+            (*s, *l, found) = (end, word.len() as u64, true);
+        }
+    }
+    arena.extend_from_slice(word);
+    found
+}
+
+/// The Rust's answer; with a name among the words of SMT-LIB 2.7, its answer to the problem in which that name is one of its own reserved
+/// words, so that 1 from widths and columns still comes before 2.
+fn script(p: &Problem) -> Result<Vec<u8>, u32> {
+    let mut q = p.clone();
+    let found = [
+        reserve(&mut q.names, &mut q.name_start, &mut q.name_len),
+        reserve(&mut q.anames, &mut q.aname_start, &mut q.aname_len),
+        reserve(&mut q.fnames, &mut q.fname_start, &mut q.fname_len),
+    ];
+    if !found.contains(&true) {
+        return oracle::script(p);
+    }
+    let answer = oracle::script(&q);
+    assert!(matches!(answer, Err(1 | 2)), "the Rust accepts its own reserved word");
+    answer
+}
+
 pub fn print_answer(p: &Problem, room: usize) -> Answer<u8> {
     if !within(p) {
         return refused(9, 0);
@@ -70,7 +104,7 @@ pub fn print_answer(p: &Problem, room: usize) -> Answer<u8> {
     if !encoded(p) {
         return refused(8, 0);
     }
-    match oracle::script(p) {
+    match script(p) {
         Err(number) => refused(number, 0),
         Ok(s) => with_room(Answer { number: 0, count: s.len(), result: s }, room),
     }
@@ -81,5 +115,5 @@ pub fn script_len(p: &Problem) -> Option<usize> {
     if !within(p) || !encoded(p) {
         return None;
     }
-    oracle::script(p).ok().map(|s| s.len())
+    script(p).ok().map(|s| s.len())
 }

@@ -68,7 +68,19 @@ fn record_widths(out: &str, long: bool) {
     finish(&list, &tally, out, long);
 }
 
+/// That the Rust accepts the words of SMT-LIB 2.7 as names, so that they are a difference from it.
+fn check_added_words() {
+    for w in words::SMTLIB_27 {
+        for t in 0..3 {
+            let mut p = problem::Problem::default();
+            printer::named(&mut p, t, w.as_bytes());
+            assert!(oracle::script(&p).is_ok(), "the Rust refuses {w}");
+        }
+    }
+}
+
 fn record_printer(out: &str, long: bool) {
+    check_added_words();
     let mut list = list::List::new(b"PRINTER1");
     let mut tally = Tally::default();
     let mut accepted = 0;

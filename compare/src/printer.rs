@@ -4,7 +4,7 @@ use crate::both;
 use crate::problem::{Problem, Rng, is_bool, is_rotation, is_same_width, kind, operand_count};
 use crate::trees::{accepted, kinds};
 use crate::widths::{Context, EXTREMES, ways};
-use crate::words::RESERVED;
+use crate::words::{self, RUST, SMTLIB_27};
 
 pub const SEED: u64 = 20_260_902;
 
@@ -342,9 +342,24 @@ fn names(ds: &mut Defects) {
             }
         }
     }
-    for (j, w) in RESERVED.iter().enumerate() {
+    for (j, w) in RUST.iter().enumerate() {
         put(ds, NAMES, 2, "name: reserved", move |p| named(p, j % 3, w.as_bytes()));
         put(ds, NAMES, 2, "name: reserved, in another table", move |p| named(p, (j + 1) % 3, w.as_bytes()));
+    }
+    // the words of SMT-LIB 2.7, each in each table: alone, before another name, and as a part of a longer stretch
+    for w in SMTLIB_27 {
+        for t in 0..3 {
+            put(ds, NAMES, 2, "name: reserved by SMT-LIB 2.7", move |p| named(p, t, w.as_bytes()));
+            put(ds, NAMES, 2, "name: reserved by SMT-LIB 2.7, and a later name", move |p| {
+                named(p, t, w.as_bytes());
+                named(p, t, b"~later");
+            });
+            put(ds, NAMES, 2, "name: reserved by SMT-LIB 2.7, inside another name", move |p| {
+                let n = arena(p, t).len() as u64;
+                named(p, t, format!("~{w}~").as_bytes());
+                placed(p, t, n + 1, w.len() as u64);
+            });
+        }
     }
 }
 
@@ -1129,6 +1144,41 @@ fn found(add: &mut impl FnMut(&str, Problem, Room, Option<u32>)) {
 
 // ---------------------------------------------------------------- names that are permitted
 
+/// The names that are one letter away from a word, by the way; none is twice there, and none is reserved.
+fn near(word: &str) -> Vec<(&'static str, Vec<Vec<u8>>)> {
+    let w = word.as_bytes();
+    let (mut changed, mut less, mut more, mut other) = (vec![], vec![], vec![], vec![]);
+    for i in 0..=w.len() {
+        for b in [b'_', b'q'] {
+            let mut n = w.to_vec();
+            n.insert(i, b);
+            more.push(n);
+        }
+        if i < w.len() {
+            for b in [b'-', w[i] + 1, w[i] - 1] {
+                let mut n = w.to_vec();
+                n[i] = b;
+                changed.push(n);
+            }
+            let mut n = w.to_vec();
+            n.remove(i);
+            less.push(n);
+            let mut n = w.to_vec();
+            n[i] = n[i].to_ascii_uppercase();
+            other.push(n);
+        }
+    }
+    other.push(w.to_ascii_uppercase());
+    [("with a letter changed", changed), ("with a letter less", less), ("with a letter more", more), ("in the other case", other)]
+        .map(|(label, mut names)| {
+            names.sort();
+            names.dedup();
+            names.retain(|n| !words::is_reserved(n));
+            (label, names)
+        })
+        .into()
+}
+
 fn good_names(add: &mut impl FnMut(&str, Problem, Room, Option<u32>)) {
     let mut ok = |label: &str, p: Problem| add(&format!("+ name: {label}"), p, Room::Exact, Some(0));
     for t in 0..3 {
@@ -1186,7 +1236,19 @@ fn good_names(add: &mut impl FnMut(&str, Problem, Room, Option<u32>)) {
         placed(&mut p, t, 0, 3);
     }
     ok("equal places in three arenas", p);
-    for (j, w) in RESERVED.iter().enumerate() {
+    // one letter away from a word of SMT-LIB 2.7: each letter changed, left out, in the other case, and one added at each place
+    for w in SMTLIB_27 {
+        for (label, names) in near(w) {
+            for t in 0..3 {
+                let mut p = Problem::default();
+                for n in &names {
+                    named(&mut p, t, n);
+                }
+                ok(&format!("a word of SMT-LIB 2.7 {label}"), p);
+            }
+        }
+    }
+    for (j, w) in RUST.iter().enumerate() {
         let t = j % 3;
         let mut p = Problem::default();
         let mut more = w.as_bytes().to_vec();
@@ -1197,14 +1259,14 @@ fn good_names(add: &mut impl FnMut(&str, Problem, Room, Option<u32>)) {
         named(&mut p, t, &front);
         ok("a reserved word with a letter more", p);
         let less = &w[..w.len() - 1];
-        if !less.is_empty() && !RESERVED.contains(&less) {
+        if !less.is_empty() && !words::is_reserved(less.as_bytes()) {
             let mut p = Problem::default();
             named(&mut p, t, less.as_bytes());
             ok("a reserved word with a letter less", p);
         }
         let other: String =
             w.chars().map(|c| if c.is_ascii_lowercase() { c.to_ascii_uppercase() } else { c.to_ascii_lowercase() }).collect();
-        if other != *w && !RESERVED.contains(&other.as_str()) {
+        if other != *w && !words::is_reserved(other.as_bytes()) {
             let mut p = Problem::default();
             named(&mut p, t, other.as_bytes());
             ok("a reserved word in the other case", p);

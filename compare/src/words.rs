@@ -1,8 +1,9 @@
-//! The names that are refused although they would be quoted: the words of SMT-LIB's lexicon and commands, the symbols of the theories
-//! and logics, and builtins that solvers add. In the order of the alphabet, capitals first. The recorder checks that the Rust
-//! refuses each and that there are 112.
+//! The names that are refused although they would be quoted, in two lists by their yardstick, each in the order of the alphabet, capitals
+//! first.
 
-pub const RESERVED: [&str; 112] = [
+/// The Rust's: the words of SMT-LIB's lexicon and commands, the symbols of the theories and logics, and builtins that solvers add. The
+/// recorder checks that the Rust refuses each.
+pub const RUST: &[&str] = &[
     "!",
     "=",
     "=>",
@@ -116,3 +117,14 @@ pub const RESERVED: [&str; 112] = [
     "xor",
     "zero_extend",
 ];
+
+/// Those that SMT-LIB 2.7 added, which is the yardstick for them. The Rust accepts them as names, and the recorder checks that it does.
+pub const SMTLIB_27: &[&str] = &["int_to_bv", "sbv_to_int", "ubv_to_int"];
+
+pub fn is_added(name: &[u8]) -> bool {
+    SMTLIB_27.iter().any(|w| w.as_bytes() == name)
+}
+
+pub fn is_reserved(name: &[u8]) -> bool {
+    is_added(name) || RUST.iter().any(|w| w.as_bytes() == name)
+}

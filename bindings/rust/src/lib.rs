@@ -75,7 +75,7 @@ pub const MAX_ARENA_LEN: usize = 16_384;
 ///
 /// The three tables have columns of one length each. Entry `i` of a table has the name `arena[start[i]..start[i] + len[i]]`. Names are
 /// printable ASCII other than `|` and `\`, not empty, and all different, over the tables too. The first byte is no `@` and no `.`, and the
-/// words of SMT-LIB and some of solvers' (`bvadd`, `let`, ..) are reserved.
+/// words of SMT-LIB, 2.7 too, and some of solvers' (`bvadd`, `let`, `int_to_bv`, ..) are reserved.
 #[derive(Clone, Copy, Debug, Default, PartialEq, Eq, Hash)]
 pub struct Problem<'a> {
     /// Node records of [`NODE_BYTES`] bytes each, as [`node`] makes them. An operand is the number of an earlier node.

@@ -93,6 +93,16 @@ fn name() {
         let problem = Problem { names: bad.as_bytes(), name_start: &[0, len], name_len: &[len, 1], ..base };
         assert_eq!(refused(&problem), Refusal::Name, "{bad:?}");
     }
+    // The words that SMT-LIB 2.7 added, in each table, and a letter away from one.
+    for word in ["ubv_to_int", "sbv_to_int", "int_to_bv"] {
+        let len = word.len() as u64;
+        let twice = format!("{word}v");
+        let variable = Problem { names: twice.as_bytes(), name_start: &[0, len], name_len: &[len, 1], ..base };
+        assert_eq!(refused(&variable), Refusal::Name, "{word}");
+        assert_eq!(refused(&Problem { anames: word.as_bytes(), aname_len: &[len], ..base }), Refusal::Name, "{word}");
+        assert_eq!(refused(&Problem { fnames: word.as_bytes(), fname_len: &[len], ..base }), Refusal::Name, "{word}");
+        assert!(echo_ext(&Problem { fnames: word.as_bytes(), fname_len: &[len - 1], ..base }, &mut [0; 1_000]).is_ok(), "{word}");
+    }
     // Empty; past the arena, also where start and length have no sum in 64 bits; twice in a table and in two.
     assert_eq!(refused(&Problem { name_len: &[0, 1], ..base }), Refusal::Name);
     assert_eq!(refused(&Problem { name_len: &[1, 2], ..base }), Refusal::Name);

@@ -3,7 +3,7 @@
 use super::lay::Laid;
 use super::plan::{At, COMPARISONS, CONNECTIVES, EXTENSIONS, Func, Grower, LAST, OPERATORS, ROTATIONS, UNARY, Var, is_leaf};
 use crate::problem::{Problem, Rng, is_bool, kind, operand_count};
-use crate::words::RESERVED;
+use crate::words::{RUST, SMTLIB_27};
 
 /// Answers a term that the second half is to look at; None if the damage does not fit this plan.
 type Before = Box<dyn Fn(&mut Grower) -> Option<usize>>;
@@ -499,7 +499,8 @@ fn names(c: &mut Clauses) {
                 s[0] = b'.';
             }
         });
-        name("reserved", |s, rng| *s = rng.pick(&RESERVED).as_bytes().to_vec());
+        name("reserved", |s, rng| *s = rng.pick(RUST).as_bytes().to_vec());
+        name("reserved by SMT-LIB 2.7", |s, rng| *s = rng.pick(SMTLIB_27).as_bytes().to_vec());
         c.both(
             2,
             &format!("name, {whose}: outside its arena"),
@@ -1370,17 +1371,19 @@ fn accepted(c: &mut Clauses) {
                 true
             },
         );
-        c.plan(0, &format!("{} name close to a reserved word", TABLES[t]), move |g| {
-            let i = an_entry(g, t);
-            for _ in 0..20 {
-                let s = g.near_reserved();
-                if g.claim(t, &s) {
-                    *name_of(g, t, i) = s;
-                    return Some(i);
+        for (label, words) in [("a reserved word", RUST), ("a word of SMT-LIB 2.7", SMTLIB_27)] {
+            c.plan(0, &format!("{} name close to {label}", TABLES[t]), move |g| {
+                let i = an_entry(g, t);
+                for _ in 0..20 {
+                    let s = g.near(words);
+                    if g.claim(t, &s) {
+                        *name_of(g, t, i) = s;
+                        return Some(i);
+                    }
                 }
-            }
-            None
-        });
+                None
+            });
+        }
     }
     c.plan(0, "a rotation of 65,536 bits", |g| rotation_of(g, 65_536));
     c.plan(0, "a variable with two entries, the second of another width", |g| {

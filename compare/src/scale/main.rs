@@ -277,7 +277,6 @@ fn compare(count: u64, seed: u64) -> bool {
 }
 
 fn main() {
-    assert!(words::RESERVED.is_sorted());
     let args: Vec<u64> = std::env::args().skip(1).map(|w| w.parse().expect("scale COUNT SEED")).collect();
     let [count, seed] = args[..] else { panic!("scale COUNT SEED") };
     // both walks recurse once a term, so they get a roomy stack

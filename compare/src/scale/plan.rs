@@ -1,7 +1,7 @@
 //! A problem before it is laid out: terms that point at one another. Damage can be done anywhere in it, and the order of the nodes,
 //! the side entries, the bits and the arenas is chosen afterwards (lay.rs).
 use crate::problem::{Rng, is_bool, is_rotation, kind};
-use crate::words::RESERVED;
+use crate::words::{self, RUST, SMTLIB_27};
 use std::collections::{HashMap, HashSet};
 
 pub const LAST: u32 = u32::MAX;
@@ -167,7 +167,7 @@ fn permitted(name: &[u8]) -> bool {
     !name.is_empty()
         && !matches!(name[0], b'@' | b'.')
         && name.iter().all(|b| (32..=126).contains(b) && !matches!(b, b'|' | b'\\'))
-        && RESERVED.binary_search_by(|w| w.as_bytes().cmp(name)).is_err()
+        && !words::is_reserved(name)
 }
 
 impl<'r> Grower<'r> {
@@ -209,16 +209,24 @@ impl<'r> Grower<'r> {
         }
         s
     }
-    /// A reserved word with a letter more or less, or in the other case; or the beginning of one.
+    /// A reserved word with a letter more or less, another letter, or one in the other case; or the beginning of one.
     pub fn near_reserved(&mut self) -> Vec<u8> {
-        let mut s = self.rng.pick(&RESERVED).as_bytes().to_vec();
-        match self.rng.below(5) {
+        let words = if self.rng.one_in(4) { SMTLIB_27 } else { RUST };
+        self.near(words)
+    }
+    pub fn near(&mut self, words: &[&str]) -> Vec<u8> {
+        let mut s = self.rng.pick(words).as_bytes().to_vec();
+        match self.rng.below(6) {
             0 => s.push(self.rng.pick(b"a2 _")),
             1 => s.truncate(s.len() - 1),
             2 => s.insert(0, self.rng.pick(b"x ")),
             3 => {
                 let i = self.rng.below(s.len() as u64) as usize;
                 s[i] ^= 32;
+            }
+            4 => {
+                let i = self.rng.below(s.len() as u64) as usize;
+                s[i] = self.rng.pick(b"bitv_- ");
             }
             _ => {
                 let n = self.rng.from_to(1, s.len() as u64) as usize;

@@ -3,21 +3,24 @@
 use Prim.Native.Nat.{ℕ, suc, _-_, _≤_, _<_}
 use denote.Ref.{now}
 use mathlib.Core.Path.{_≡_, refl, sym, ap, _∙_}
-use mathlib.Core.List.{List, [], _∷_, _++_}
+use mathlib.Core.List.{List, [], _∷_, _++_, map}
 use mathlib.Core.Logic.{_↔_}
 use lib.Dec.{T}
 use mathlib.Core.Bool.{false}
 use lib.ListN.{length, getD, take, drop, replicate}
 use lib.Seq.{take-append-seam}
-use Rattle.lists.specs.Tests.{among}
+use Rattle.lists.specs.Bytes.{bytes}
+use Rattle.lists.specs.Tests.{among, inList, in-right}
 use Rattle.reading.specs.Trees.{Name, Reading, Declarations, Trees}
 use Rattle.smtlib.specs.Lexicon.{Token, Lex}
 use Rattle.smtlib.specs.Grammar.{Script, scriptTokens}
 use Rattle.smtlib.specs.LexUnique.{lex-unique}
 use Rattle.smtlib.specs.Readings.{operators, Reads}
 use Rattle.smtlib.specs.Sorts.{WellSorted}
-use Rattle.echo_spec.specs.Input.{Problem, nodesOf, no-node}
+use Rattle.echo_spec.specs.Input.{Problem, nodesOf, no-node, dagOf}
 use Rattle.echo_spec.specs.Widths.{node-wf, ext-wf}
+use Rattle.echo_spec.specs.Names.{rustWords, smtlib27Words, reserved}
+use Rattle.echo_spec.specs.NameLaws.{allNames}
 use Rattle.echo_spec.specs.Render.{symbolOf}
 use Rattle.echo_spec.specs.Answers.{Answer, ext-wf-answer, reading, echo-ext-answer}
 use Rattle.sliver_kernel.specs.declared.Outcome.{Outcome}
@@ -42,6 +45,8 @@ use Rattle.theorems.specs.Answered.{
   accepted-exactly,
   accepted-whole,
   room-refusal,
+  BeforeNames,
+  reserved-refused,
   script-lexed,
   script-sorted,
   script-only,
@@ -80,6 +85,12 @@ accepts-exactly = accepted-exactly
 -- 10 is answered only, and always, where every other check passes and the script is longer than the buffer.
 pub room-only : (p : Problem) (lent : List ℕ) → (echo-ext-answer p lent .number ≡ 10) ↔ (Whole p × (length lent < length (printed p)))
 room-only = room-refusal
+
+-- A word that SMT-LIB 2.7 added, declared in any of the tables, is 2, if no check before that of the names refuses the problem.
+pub added-words-refused : (p : Problem) (lent : List ℕ) (n : Name) → T (inList n (map bytes smtlib27Words)) → T (inList n (allNames (dagOf p)))
+    → BeforeNames p → echo-ext-answer p lent .number ≡ 2
+unfolding reserved
+added-words-refused p lent n w h b = reserved-refused p lent n b (in-right n (map bytes rustWords) (map bytes smtlib27Words) w) h
 
 -- ---------------------------------------------------------------- each script is well sorted
 

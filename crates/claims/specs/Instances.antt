@@ -21,7 +21,7 @@ use Rattle.refusals.specs.declared.EchoError.the-variants.{Room}
 use Rattle.echo_kernel.specs.declared.Echo.the-variants.{Printed, Refused}
 use Rattle.sliver_kernel.specs.declared.Outcome.the-variants.{Accepted, Refused as NodeRefused}
 use Rattle.theorems.specs.Scripts.{scriptOf}
-use Rattle.theorems.specs.Answered.{Whole, printed}
+use Rattle.theorems.specs.Answered.{Whole, printed, BeforeNames}
 use Rattle.claims.specs.Claims.{
   Accepts,
   EchoContract,
@@ -29,6 +29,7 @@ use Rattle.claims.specs.Claims.{
   refusal-zeroes,
   accepts-exactly,
   room-only,
+  added-words-refused,
   well-sorted,
   one-lexing,
   one-reading,
@@ -106,6 +107,18 @@ longer = room-only (example eleven) (lent 298) .0 too-short .1
 
 cleared : echo-ext-answer (example eleven) (lent 298) ≡ record { number = 10; count = 0; output = replicate 298 0 }
 cleared = refusal-zeroes (example eleven) (lent 298) 9 too-short
+
+-- a function that is called has the name of a word that SMT-LIB 2.7 added
+integer : Problem
+integer = problem (node Call 0 8 0 0 ∷ []) [] [] [] [] [] (fun "int_to_bv" 8 ∷ [])
+
+before-names : BeforeNames integer
+unfolding allMeet integer
+before-names = record { limits = tt; encoding = tt; widths = tt; columns = tt }
+
+added-word : echo-ext-answer integer (lent 200) .number ≡ 2
+unfolding allMeet integer
+added-word = added-words-refused integer (lent 200) (bytes "int_to_bv") tt tt before-names
 
 -- ---------------------------------------------------------------- scripts
 

@@ -129,8 +129,8 @@ fn first_ok(name: &[u8]) -> bool
 
 // ---------------------------------------------------------------- reserved words
 
-// The words of `reserved_0` to `reserved_4`, those of one length together.
-const WORDS: [u8; 791] = *b"!_=\
+// The words of `reserved_0` to `reserved_4`, and those that SMT-LIB 2.7 added, last in their groups; words of one length together.
+const WORDS: [u8; 820] = *b"!_=\
     as=>or\
     letparpopnotandxorite\
     echoexitpushBooltruebvor\
@@ -139,8 +139,8 @@ const WORDS: [u8; 791] = *b"!_=\
     int2bvbv2natnat2bv\
     DECIMALNUMERALextractbvuaddobvsaddobvumulobvsmulobvusubobvssubobvsdivobvredor\
     get-infoset-infodistinctQF_AUFBVbvredand\
-    check-satget-modelget-proofget-valueset-logic\
-    define-funget-optionset-option\
+    check-satget-modelget-proofget-valueset-logicint_to_bv\
+    define-funget-optionset-optionubv_to_intsbv_to_int\
     HEXADECIMALdeclare-fundefine-sortzero_extendsign_extendrotate_left\
     declare-sortrotate_rightdefine-const\
     declare-const\
@@ -161,8 +161,8 @@ const COUNTS: [usize; 21] = [
     26,
     11,
     5,
+    6,
     5,
-    3,
     6,
     3,
     1,
@@ -208,7 +208,8 @@ fn find_word(name: &[u8], words: &[u8], counts: &[usize]) -> bool
 }
 
 // Is the name a reserved word or a theory symbol? The table is lent, so that a search stores it once.
-// Ruled out: a table with one letter of a word wrong; a search that leaves out the last word of a group.
+// Ruled out: a table with one letter of a word wrong, or without a word that SMT-LIB 2.7 added; a search that leaves out the last word
+// of a group.
 pub fn is_reserved(name: &[u8]) -> bool
     ensures { λ r. ⌜ r ≡ inList (now (name .entry)) reserved ⌝ }
 {

@@ -83,7 +83,7 @@ use Rattle.echo_spec.specs.Widths.{
   ext-wf-from,
   ext-wf,
 }
-use Rattle.echo_spec.specs.Names.{byteOk, firstOk, reservedWords, reserved, entry-ok, table-ok, namesOk}
+use Rattle.echo_spec.specs.Names.{byteOk, firstOk, rustWords, smtlib27Words, reserved, entry-ok, table-ok, namesOk}
 use Rattle.echo_spec.specs.Sharing.{usesAs, usesOfAll, count, usedOnce, unshared}
 use Rattle.echo_spec.specs.Tables.{
   oneLength,
@@ -392,7 +392,7 @@ unfoldable pub allMeet : List (Example Answer) → Type 0
 unfolding
     bytes same findFrom upto shapes operandCount isBool isLeaf nodesWithin columnWithin arenaWithin withinLimits word32 nodeAt nodesOf nodeEncoded
     encoded part namesOf dagOf indexWidth valueWidth un-wf bin-wf bool-bin-wf extend-wf chain-wf args-wf wfAs node-wf widthAs node-width ext-wf-from
-    ext-wf byteOk firstOk reservedWords reserved entry-ok table-ok namesOk usesAs usesOfAll count usedOnce unshared oneLength columnsOk find-node find-call
+    ext-wf byteOk firstOk rustWords smtlib27Words reserved entry-ok table-ok namesOk usesAs usesOfAll count usedOnce unshared oneLength columnsOk find-node find-call
     argumentWidths decl-vars-ok signature decl-func-ok decl-funcs-ok declarationsOf constantBits bitsValue amountOf variableName treesOver storesOver treeAs
     treeStep treeOf readingOf variableOk rotationOk args-match callOk askedAs asked levels operandsAs walkAll walkStep walk walkRoots refusalWith symbols
     symbolOf decimalDigits decimal binaryDigits quoted numeralsText operatorText callText term sortText sortsText variableText arrayText functionText

@@ -10,7 +10,7 @@ use Rattle.lists.specs.Bytes.{bytes}
 use Rattle.lists.specs.Tests.{same, distinct}
 use Rattle.lists.specs.Build.{tabulate}
 use Rattle.echo_spec.specs.Input.{Problem}
-use Rattle.echo_spec.specs.Names.{byteOk, firstOk, reservedWords, reserved}
+use Rattle.echo_spec.specs.Names.{byteOk, firstOk, rustWords, smtlib27Words, reserved}
 use Rattle.echo_spec.specs.Answers.{Answer, echo-ext-answer}
 use Rattle.echo_spec.specs.Examples.{problem, var, fun, Example, given, wanted, refuses, passes, allMeet}
 
@@ -69,7 +69,7 @@ edge-bytes = refl
 
 -- ---------------------------------------------------------------- reserved words
 
--- in alphabetical order
+-- the Rust's, in alphabetical order
 words : List String
 words =
     "!" ∷ "=" ∷ "=>" ∷ "Array" ∷ "BINARY" ∷ "BitVec" ∷ "Bool" ∷ "DECIMAL" ∷ "HEXADECIMAL" ∷ "NUMERAL" ∷ "QF_ABV" ∷ "QF_AUFBV" ∷ "QF_BV"
@@ -87,16 +87,20 @@ words =
 abbrev oneVariable : String → Problem
 oneVariable x = problem [] [] [] [] (var x 0 8 ∷ []) [] []
 
--- the words are 112 and no two of them are equal, and each is refused: so they are these
-reserved-count : T (eqb (length reserved) 112 && distinct reserved)
-unfolding bytes same reservedWords reserved
+-- how many document 01 says that the Rust has
+documentCount : ℕ
+documentCount = 112
+
+-- the words are as many and no two of them are equal, and each is refused: so they are these
+reserved-count : T (eqb (length rustWords) documentCount && distinct reserved)
+unfolding bytes same rustWords smtlib27Words reserved documentCount
 reserved-count = tt
 
-words-distinct : T (eqb (length words) 112 && distinct (map bytes words))
-unfolding bytes same words
+words-distinct : T (eqb (length words) documentCount && distinct (map bytes words))
+unfolding bytes same words documentCount
 words-distinct = tt
 
-reserved-words : map (λ x. number (oneVariable x)) words ≡ replicate 112 2
+reserved-words : map (λ x. number (oneVariable x)) words ≡ replicate (length words) 2
 unfolding allMeet words
 reserved-words = refl
 
@@ -105,6 +109,32 @@ reserved-words = refl
 -- variables, arrays and functions of these names
 abbrev declared : List String → List String → List String → Problem
 declared xs ms fs = problem [] [] [] [] (map (λ x. var x 0 8) xs) ms (map (λ f. fun f 8) fs)
+
+-- the words that SMT-LIB 2.7 added are these, and each is refused in each table
+addedWords : List String
+addedWords = "int_to_bv" ∷ "sbv_to_int" ∷ "ubv_to_int" ∷ []
+
+-- the number of each name as a variable's, as an array's and as a function's
+inTables : List String → List ℕ
+inTables xs =
+    map (λ x. number (declared (x ∷ []) [] [])) xs
+    ++ (map (λ x. number (declared [] (x ∷ []) [])) xs ++ map (λ x. number (declared [] [] (x ∷ []))) xs)
+
+added-words : (length smtlib27Words ≡ length addedWords) × (inTables addedWords ≡ 2 ∷ 2 ∷ 2 ∷ 2 ∷ 2 ∷ 2 ∷ 2 ∷ 2 ∷ 2 ∷ [])
+unfolding allMeet addedWords inTables
+added-words = (refl, refl)
+
+-- with a letter changed, left out, added, exchanged, or in the other case a name passes (a function that is never called is 7)
+nearWords : List String
+nearWords =
+    "int_to_bw" ∷ "int_to_v" ∷ "int_to_bvs" ∷ "int_ot_bv" ∷ "Int_to_bv" ∷ "INT_TO_BV"
+    ∷ "sbw_to_int" ∷ "sbv_to_in" ∷ " sbv_to_int" ∷ "sbv_to_nit" ∷ "sbv_to_Int" ∷ "SBV_TO_INT"
+    ∷ "abv_to_int" ∷ "bv_to_int" ∷ "ubv__to_int" ∷ "ubv-to-int" ∷ "ubv_to_inT" ∷ "UBV_TO_INT" ∷ []
+
+near-words : inTables nearWords
+    ≡ replicate (length nearWords) 10 ++ (replicate (length nearWords) 10 ++ replicate (length nearWords) 7)
+unfolding allMeet nearWords inTables
+near-words = refl
 
 nameCases : List (Example Answer)
 nameCases =

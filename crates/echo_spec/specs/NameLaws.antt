@@ -1,10 +1,11 @@
 -- Laws of names: what holds of the names that the tables of an accepted query declare.
 use Prim.Native.Nat.{ℕ, _≤_}
 use mathlib.Core.List.{List, [], _∷_, _++_, append-assoc, append-nil}
-use mathlib.Core.Bool.{Bool, _&&_, not}
+use mathlib.Core.Path.{_≡_}
+use mathlib.Core.Bool.{Bool, false, _&&_, not}
 use mathlib.Core.Logic.{_≢_}
-use lib.Dec.{T, leb, eqb, leb→le}
-use Rattle.lists.specs.Tests.{every, All, inList, distinct, distinct-snoc, differs, and-0, and-1, and-T, all-append}
+use lib.Dec.{T, leb, eqb, leb→le, T-not}
+use Rattle.lists.specs.Tests.{every, All, every-all, every-in, inList, no→false, distinct, distinct-snoc, differs, and-0, and-1, and-T, all-append}
 use Rattle.reading.specs.Trees.{Name}
 use Rattle.echo_spec.specs.Input.{Dag, nameTable, anameTable, fnameTable}
 use Rattle.echo_spec.specs.Names.{byteOk, firstOk, reserved, entry-ok, table-ok, namesOk}
@@ -84,3 +85,10 @@ module _ (d : Dag) (h : T (namesOk d)) where
   names-ok =
       all-append nameOk (nameTable d) (anameTable d ++ fnameTable d) (table-names [] (nameTable d) first-table)
       (all-append nameOk (anameTable d) (fnameTable d) (table-names (nameTable d) (anameTable d) second-table) (table-names (nameTable d ++ anameTable d) (fnameTable d) third-table))
+
+-- a table that declares a reserved word does not pass
+pub word-refused : (d : Dag) (n : Name) → T (inList n reserved) → T (inList n (allNames d)) → namesOk d ≡ false
+word-refused d n w h =
+    no→false (namesOk d) λ t.
+    let ok : T (nameOk n) = every-in nameOk (allNames d) n (every-all nameOk (allNames d) (names-ok d t)) h in
+    T-not (inList n reserved) (and-1 (firstOk n) (not (inList n reserved)) (and-1 (every byteOk n) _ ok)) w

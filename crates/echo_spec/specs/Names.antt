@@ -18,9 +18,9 @@ unfoldable pub firstOk : Name → Bool
 firstOk [] = false
 firstOk (c ∷ s) = not (eqb c 64) && not (eqb c 46)
 
--- the 112 words of `reserved_0` to `reserved_4`, in that order
-unfoldable pub reservedWords : List String
-reservedWords =
+-- the words of `reserved_0` to `reserved_4`, in that order; the Rust is the yardstick for these
+unfoldable pub rustWords : List String
+rustWords =
     "!" ∷ "_" ∷ "as" ∷ "BINARY" ∷ "DECIMAL" ∷ "exists" ∷ "HEXADECIMAL" ∷ "forall" ∷ "let" ∷ "match" ∷ "NUMERAL" ∷ "par" ∷ "STRING" ∷ "assert"
     ∷ "check-sat" ∷ "check-sat-assuming" ∷ "declare-const" ∷ "declare-datatype" ∷ "declare-datatypes" ∷ "declare-fun" ∷ "declare-sort"
     ∷ "define-fun" ∷ "define-fun-rec" ∷ "define-funs-rec"
@@ -35,8 +35,13 @@ reservedWords =
     ∷ "bvnego" ∷ "bvuaddo" ∷ "bvsaddo" ∷ "bvumulo" ∷ "bvsmulo" ∷ "bvusubo" ∷ "bvssubo" ∷ "bvsdivo" ∷ "lambda" ∷ "define-const" ∷ "bvredor"
     ∷ "bvredand" ∷ "bv2int" ∷ "int2bv" ∷ "bv2nat" ∷ "nat2bv" ∷ []
 
+-- the function symbols from bit-vectors to integers and back that SMT-LIB 2.7 added; it is the yardstick for these, and the Rust, which
+-- accepts them as names, is not
+unfoldable pub smtlib27Words : List String
+smtlib27Words = "ubv_to_int" ∷ "sbv_to_int" ∷ "int_to_bv" ∷ []
+
 unfoldable pub reserved : List Name
-reserved = map bytes reservedWords
+reserved = map bytes rustWords ++ map bytes smtlib27Words
 
 -- `entry_ok`: a name by itself, and after the names before it
 unfoldable pub entry-ok : List Name → Name → Bool

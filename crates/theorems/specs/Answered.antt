@@ -5,10 +5,10 @@ use mathlib.Core.List.{List, [], _++_}
 use mathlib.Core.Bool.{Bool, true, false, not}
 use mathlib.Core.Logic.{_↔_, _≢_}
 use native.Mathlib.Omega.{arith}
-use lib.Dec.{T, leb, leb→le, le→leb, nleb→lt}
+use lib.Dec.{T, eqb, leb, leb→le, le→leb, nleb→lt}
 use lib.ListN.{length, drop, replicate}
-use Rattle.lists.specs.Tests.{T→true, no→false}
-use Rattle.reading.specs.Trees.{Reading}
+use Rattle.lists.specs.Tests.{T→true, no→false, inList}
+use Rattle.reading.specs.Trees.{Name, Reading}
 use Rattle.smtlib.specs.Lexicon.{Lex}
 use Rattle.smtlib.specs.Grammar.{Script, scriptTokens}
 use Rattle.smtlib.specs.GrammarUnique.{script-unique}
@@ -19,7 +19,10 @@ use Rattle.smtlib.specs.Sorts.{WellSorted}
 use Rattle.echo_spec.specs.Refusals.{unless, _orElse_}
 use Rattle.echo_spec.specs.Input.{Problem, withinLimits, encoded, nodesOf, dagOf, queryOf}
 use Rattle.echo_spec.specs.Widths.{ext-wf}
-use Rattle.echo_spec.specs.Walk.{refusal}
+use Rattle.echo_spec.specs.Names.{reserved}
+use Rattle.echo_spec.specs.NameLaws.{allNames, word-refused}
+use Rattle.echo_spec.specs.Tables.{columnsOk}
+use Rattle.echo_spec.specs.Walk.{refusalWith, refusal}
 use Rattle.echo_spec.specs.Render.{render}
 use Rattle.echo_spec.specs.Answers.{
   widthRefusal,
@@ -208,6 +211,27 @@ room-refusal p lent =
     let l : endlessRefusal p ≤ 9 = endless-bound p in
     let a = text-room (endlessRefusal p) (printed p) lent (λ e. omega arith) in
     (λ e. let h = a .0 e in (endless-whole p .0 (h .0), h .1), λ h. a .1 (endless-whole p .1 (h .0), h .1))
+
+-- every check before that of the names
+pub record BeforeNames (p : Problem) : Type 0 where
+  pub limits : T (withinLimits p)
+  pub encoding : T (encoded (p .nodes) (p .bits))
+  pub widths : T (eqb (length (ext-wf (length (p .bits)) (dagOf p .side) (dagOf p .nodes))) (length (dagOf p .nodes)))
+  pub columns : T (columnsOk (dagOf p))
+
+-- a reserved word in any of the tables is 2, where nothing before is refused
+pub reserved-refused : (p : Problem) (lent : List ℕ) (n : Name) → BeforeNames p → T (inList n reserved) → T (inList n (allNames (dagOf p)))
+    → echo-ext-answer p lent .number ≡ 2
+unfolding echo-ext-answer endlessRefusal endlessWith refusalWith
+reserved-refused p lent n b w h =
+    text-told (endlessRefusal p) (printed p) lent 1 (λ e. omega arith) .1
+    (rw (
+      T→true (withinLimits p) (b .limits),
+      T→true (encoded (p .nodes) (p .bits)) (b .encoding),
+      T→true (eqb (length (ext-wf (length (p .bits)) (dagOf p .side) (dagOf p .nodes))) (length (dagOf p .nodes))) (b .widths),
+      T→true (columnsOk (dagOf p)) (b .columns),
+      word-refused (dagOf p) n w h,
+    ))
 
 -- ---------------------------------------------------------------- the script of a problem that passes every check
 

@@ -34,7 +34,7 @@ use Rattle.smtlib.specs.Readings.{builtIn, operators, variableNames, arrayNames
 use Rattle.smtlib.specs.Sorts.{bool, theorySymbols, solverSymbol, free}
 use Rattle.echo_spec.specs.Input.{Dag, Query, no-node, nameTable, anameTable, fnameTable}
 use Rattle.echo_spec.specs.Widths.{indexWidth, valueWidth, widthsOf}
-use Rattle.echo_spec.specs.Names.{byteOk, firstOk, reservedWords, reserved}
+use Rattle.echo_spec.specs.Names.{byteOk, firstOk, rustWords, smtlib27Words, reserved}
 use Rattle.echo_spec.specs.Tables.{find-call, argumentsInside, decl-vars-ok, signature, decl-func-ok, decl-funcs-ok, declarationsOf}
 use Rattle.echo_spec.specs.Trees.{readingOf}
 use Rattle.echo_spec.specs.TreeSorts.{TreeSort, hasSort, sortUnder, noneBound, treeSort, allBool}
@@ -61,11 +61,11 @@ quotable-byte c t =
 
 -- the words that the standard gives a meaning are among the words that no name may be
 built-in-reserved : T (every (λ n. inList n reserved) builtIn)
-unfolding builtIn operators reserved reservedWords bytes same
+unfolding builtIn operators reserved rustWords smtlib27Words bytes same
 built-in-reserved = tt
 
 theory-reserved : T (every (λ n. inList n reserved) theorySymbols)
-unfolding theorySymbols reserved reservedWords bytes same
+unfolding theorySymbols reserved rustWords smtlib27Words bytes same
 theory-reserved = tt
 
 -- a name that is no reserved word is none of the words, if all of those are reserved

@@ -2,7 +2,7 @@
 use lib.Dec.{lit≤}
 use Rattle.lists.specs.Bytes.{bytes}
 use Rattle.lists.specs.Tests.{same}
-use Rattle.echo_spec.specs.Names.{reserved, reservedWords}
+use Rattle.echo_spec.specs.Names.{reserved, rustWords, smtlib27Words}
 use Rattle.echo_names.specs.Groups.{chunks, groups, total, holdsExactly, table-holds}
 use borrow.Author.Needs.{needs}
 use Rattle.echo_names.proofs.is_reserved.Statement.{statement}
@@ -19,7 +19,7 @@ unfolding total
 find-word-requires c κs = lit≤ tt
 
 returns : tie.Need-returns
-unfolding bytes same reserved reservedWords chunks groups holdsExactly
+unfolding bytes same reserved rustWords smtlib27Words chunks groups holdsExactly
 returns c = table-holds _ _ _ reserved (c .find-word .ensures) tt
 
 pub is-reserved-spec : {M : Type 1} → statement M
