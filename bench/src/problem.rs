@@ -10,6 +10,7 @@ pub mod kind {
     pub const CONST: u8 = 1;
     pub const ADD: u8 = 2;
     pub const ASHR: u8 = 12;
+    pub const EXTRACT: u8 = 14;
     pub const ZERO_EXT: u8 = 16;
     pub const ITE: u8 = 18;
     pub const EQ: u8 = 19;

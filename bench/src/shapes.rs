@@ -191,6 +191,50 @@ pub fn long_name() -> Problem {
     p
 }
 
+/// Extensions and extracts in turn, with numerals of one to four digits.
+pub fn indexed() -> Problem {
+    let mut p = Problem::default();
+    let x = p.var(b"x", 1000);
+    let mut t = x;
+    let mut k = 0;
+    while p.left() > 2 {
+        let by = [5, 24, 300, 4096][k % 4];
+        let low = [0, 3, 20, 250][k % 4];
+        let e = p.node(kind::ZERO_EXT, &[t, by]);
+        t = p.node(kind::EXTRACT, &[low + 999, low, e]);
+        k += 1;
+    }
+    p.root_eq(t, x);
+    p
+}
+
+/// Extensions by numbers of ten digits.
+pub fn extended() -> Problem {
+    let mut p = Problem::default();
+    let x = p.var(b"x", 8);
+    let mut t = x;
+    while p.left() > 2 {
+        t = p.node(kind::ZERO_EXT, &[t, 4_123_456_789 + p.count() as u32]);
+    }
+    let e = p.node(kind::EXTRACT, &[7, 0, t]);
+    p.root_eq(e, x);
+    p
+}
+
+/// 512 declarations of these widths, one so much less than the one before; the variables are not reached.
+pub fn declarations(width: u64, less: u64) -> Problem {
+    let mut p = Problem::default();
+    for k in 0..512u64 {
+        let name = format!("x{k}");
+        p.name_start.push(p.names.len() as u64);
+        p.name_len.push(name.len() as u64);
+        p.names.extend_from_slice(name.as_bytes());
+        p.var_node.push(u64::MAX);
+        p.var_width.push(width - k * less);
+    }
+    p
+}
+
 pub fn many_roots() -> Problem {
     let mut p = Problem::default();
     let mut leaves = mixed(&mut p, 8);
@@ -261,5 +305,9 @@ pub fn all() -> Vec<(&'static str, Problem)> {
         ("512 names by place, 16 KB each", names_by_place()),
         ("one name of 16,384 bytes", long_name()),
         ("256 roots", many_roots()),
+        ("indexed operators", indexed()),
+        ("indexed operators, ten digits", extended()),
+        ("512 widths of 1 digit", declarations(8, 0)),
+        ("512 widths of 20 digits", declarations(u64::MAX, 12_345_678_901_234_567)),
     ]
 }

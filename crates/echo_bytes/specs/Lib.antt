@@ -1,2 +1,3 @@
 pub mod Page
 pub mod Laws
+pub mod Numerals

@@ -4,7 +4,7 @@
 // written as far as it fits, and its whole length is counted in one step, so no loop runs past the end of the buffer.
 ghost use mathlib.Core.Path.{_≡_};
 ghost use mathlib.Core.List.{[], _∷_, _++_};
-ghost use Prim.Native.Nat.{_-_, _≤_, min};
+ghost use Prim.Native.Nat.{_-_, _^_, _≤_, _<_, min};
 ghost use lib.Dec.{T, leb};
 ghost use lib.ListN.{length};
 ghost use lib.Seq.{paste};
@@ -12,6 +12,7 @@ ghost use Rattle.lists.specs.Bytes.{bytes};
 ghost use Rattle.lists.specs.Tests.{every};
 ghost use Rattle.echo_spec.specs.Render.{decimal, binaryDigits, quoted};
 ghost use Rattle.echo_bytes.specs.Page.{page, start, saturated, written};
+ghost use Rattle.echo_bytes.specs.Numerals.{padded, DigitCount, Share};
 
 // Where the next byte goes, and how long all pieces so far are, whether they fitted or not.
 pub struct Place {
@@ -64,7 +65,7 @@ fn copy(out: &mut [u8], at: usize, w: &[u8], k: usize)
     }
 }
 
-// The first k digits, stored from `at` on: ds holds them lowest first, and the highest is stored first (`push_rev`, `push_bits`).
+// The first k digits, stored from `at` on: ds holds them lowest first, and the highest is stored first (`push_bits`).
 fn copy_digits(out: &mut [u8], at: usize, ds: &[u8], k: usize)
     requires { ⌜ (k ≤ length (now ds)) × (k ≤ length (now out) - at) × T (every (λ d. leb d 9) (now ds)) ⌝ }
     ensures { λ _. ⌜ now (out .exit) ≡ paste (now (out .entry)) at (binaryDigits (now (ds .entry))) k ⌝ }
@@ -75,6 +76,60 @@ fn copy_digits(out: &mut [u8], at: usize, ds: &[u8], k: usize)
         let i = n - 1 - j;
         out[at + j] = 48 + ds[i];
         j += 1;
+    }
+}
+
+// ---------------------------------------------------------------- the digits of a number
+
+// Numerals are written in pieces of at most eight digits.
+const PIECE: u64 = 100_000_000;
+
+// One, in numbers that have 56 bits behind the point.
+const ONE: u64 = 72_057_594_037_927_936;
+
+// How many digits the numeral of n has, for n of one piece.
+fn digit_count(n: u64) -> usize
+    requires { ⌜ n < 10 ^ 8 ⌝ }
+    ensures { λ r. ⌜ DigitCount n r ⌝ }
+{
+    if n < 10 {
+        return 1;
+    }
+    if n < 100 {
+        return 2;
+    }
+    if n < 1_000 {
+        return 3;
+    }
+    if n < 10_000 {
+        return 4;
+    }
+    if n < 100_000 {
+        return 5;
+    }
+    if n < 1_000_000 {
+        return 6;
+    }
+    if n < 10_000_000 {
+        return 7;
+    }
+    8
+}
+
+// One by the value of the highest of len digits, 10^(len - 1), rounded up.
+fn share(len: usize) -> u64
+    requires { ⌜ (1 ≤ len) × (len ≤ 8) ⌝ }
+    ensures { λ r. ⌜ Share len r ⌝ }
+{
+    match len {
+        1 => 72_057_594_037_927_936,
+        2 => 7_205_759_403_792_794,
+        3 => 720_575_940_379_280,
+        4 => 72_057_594_037_928,
+        5 => 7_205_759_403_793,
+        6 => 720_575_940_380,
+        7 => 72_057_594_038,
+        _ => 7_205_759_404,
     }
 }
 
@@ -148,23 +203,54 @@ impl Place {
         self
     }
 
-    // The decimal numeral of n (`push_dec`). Its digits are found lowest first and held in a small buffer: the largest `u64` has 20.
-    // Ruled out: the units first; a number that starts with 10 written with the byte after 9.
+    // The numeral of n with len digits, the highest first, each stored where it belongs. The number is taken as so many of the highest
+    // digit's value, with 56 bits behind the point: its whole part is the digit, and ten times what is behind the point has the next.
+    fn piece(mut self, out: &mut [u8], n: u64, len: usize) -> Place
+        requires { ⌜ (1 ≤ len) × (len ≤ 8) × (n < 10 ^ len) ⌝ }
+        ensures { λ r. ⌜ page r (now (out .exit)) ≡ written (page self (now (out .entry))) (padded len n) ⌝ }
+    {
+        let at = self.at;
+        let need = self.need;
+        let k = fitting(len, out.len(), at);
+        let mut left = n * share(len);
+        let mut j = 0;
+        while j < k {
+            out[at + j] = 48 + (left / ONE) as u8;
+            left = left % ONE * 10;
+            j += 1;
+        }
+        self.at = at + k;
+        self.need = more(need, len);
+        self
+    }
+
+    // The decimal numeral of a number of one piece or two.
+    fn numeral(mut self, out: &mut [u8], n: u64) -> Place
+        requires { ⌜ n < 10 ^ 16 ⌝ }
+        ensures { λ r. ⌜ page r (now (out .exit)) ≡ written (page self (now (out .entry))) (decimal n) ⌝ }
+    {
+        if n < PIECE {
+            return self.piece(out, n, digit_count(n));
+        }
+        let high = n / PIECE;
+        self = self.piece(out, high, digit_count(high));
+        self.piece(out, n % PIECE, 8)
+    }
+
+    // The decimal numeral of n (`push_dec`), the highest digit first: the pieces above the last eight digits, and those.
+    // Ruled out: the units first; a piece inside a numeral without its leading zeros; a number that starts with 10 written with the byte
+    // after 9; a numeral that does not fit counted as far as it was written.
     pub fn number(mut self, out: &mut [u8], n: u64) -> Place
         ensures { λ r. ⌜ page r (now (out .exit)) ≡ written (page self (now (out .entry))) (decimal n) ⌝ }
     {
-        let mut tmp = [0u8; 20];
-        let mut len: usize = 0;
-        let mut m = n;
-        while m >= 10 {
-            tmp[len] = (m % 10) as u8;
-            len += 1;
-            m = m / 10;
+        if n < 10 {
+            return self.byte(out, 48 + n as u8);
         }
-        tmp[len] = m as u8;
-        len += 1;
-        self = self.digits(out, &tmp[..len]);
-        self
+        if n < PIECE {
+            return self.piece(out, n, digit_count(n));
+        }
+        self = self.numeral(out, n / PIECE);
+        self.piece(out, n % PIECE, 8)
     }
 
     // `#b`, then the bits from the highest down, which are lent lowest first (`push_bits`). Ruled out: the lowest bit first; the lowest

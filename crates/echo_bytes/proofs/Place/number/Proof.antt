@@ -1,80 +1,71 @@
--- `echo_bytes::Place::number` meets its contract: at the loop's test, `tmp` holds the last digits and `m` is what is left. Assumes nothing.
+-- `echo_bytes::Place::number` meets its contract: a digit, a piece, or the pieces above the last eight digits and those. Assumes nothing.
+use Prim.Native.Nat.{_/_, _%_}
 use mathlib.Core.Path.{sym, ap, _∙_}
-use native.Mathlib.Omega.{arith}
 use borrow.Author.Needs.{needs}
-use lib.Seq.{length-take-le}
+use Rattle.echo_spec.specs.Render.{decimal}
 use Rattle.echo_bytes.specs.Page.{written}
-use Rattle.echo_bytes.proofs.Digits.{TakenApart, apart-none, apart-more, apart-all, apart-digits, apart-long}
+use Rattle.echo_bytes.specs.Laws.{written-then}
+use Rattle.echo_bytes.specs.Numerals.{padded}
+use Rattle.echo_bytes.proofs.Digits.{decimal-digit}
+use Rattle.echo_bytes.proofs.Numerals.{decimal-split, decimal-padded}
 use Rattle.echo_bytes.proofs.Place.number.Statement.{statement}
 use Rattle.echo_bytes.proofs.Place.number.Tie as tie
 
-abbrev Inv-loop : tie.InvT-loop
-Inv-loop self out n tmp₀ len₀ m₀ tmp len m = TakenApart n tmp len m
+cast-byte : tie.Need-cast-byte
+cast-byte c = search needs
 
-abbrev μ-loop : tie.MeasureT-loop
-μ-loop self out n tmp₀ len₀ m₀ tmp len m = m
+add-byte : tie.Need-add-byte
+add-byte c = search needs
 
-loop-holds : tie.Need-loop-holds Inv-loop μ-loop
-loop-holds c = apart-none _ (omega arith)
+byte-requires : tie.Need-byte-requires
+byte-requires c κs = search needs
 
-cast-tmp : tie.Need-cast-tmp Inv-loop μ-loop
-cast-tmp c = omega arith
-
-array-write-tmp : tie.Need-array-write-tmp Inv-loop μ-loop
-array-write-tmp c = omega arith
-
-add-len : tie.Need-add-len Inv-loop μ-loop
-add-len c = omega arith
-
-loop-less : tie.Need-loop-less Inv-loop μ-loop
-loop-less c = omega arith
-
-loop-again : tie.Need-loop-again Inv-loop μ-loop
-loop-again c = apart-more (c .before .loop .inv) (omega arith)
-
-cast-tmp-2 : tie.Need-cast-tmp-2 Inv-loop μ-loop
-cast-tmp-2 c = omega arith
-
-array-write-tmp-2 : tie.Need-array-write-tmp-2 Inv-loop μ-loop
-array-write-tmp-2 c = omega arith
-
-add-len-2 : tie.Need-add-len-2 Inv-loop μ-loop
-add-len-2 c = omega arith
-
-array-share-prefix-tmp : tie.Need-array-share-prefix-tmp Inv-loop μ-loop
-array-share-prefix-tmp c = apart-long (c .before .before .loop .inv)
-
-slice-aggregate-digits : tie.Need-slice-aggregate-digits Inv-loop μ-loop
-slice-aggregate-digits c = sym (length-take-le _ _ (apart-long (c .before .before .before .loop .inv)))
-
-digits-requires : tie.Need-digits-requires Inv-loop μ-loop
-digits-requires c κs = apart-digits (c .before .before .before .loop .inv) (omega arith)
-
-same-length : tie.Need-same-length Inv-loop μ-loop
+same-length : tie.Need-same-length
 same-length c = search needs
 
-returns : tie.Need-returns Inv-loop μ-loop
-returns c =
-    c .before .before .digits .ensures
-    ∙ ap (written _) (apart-all (c .before .before .before .before .before .before .loop .inv) (c .before .before .before .before .before .loop-test .left))
+returns : tie.Need-returns
+returns c = c .before .before .byte .ensures ∙ ap (written _) (sym (decimal-digit _ (c .before .before .before .before .if1 .taken)))
+
+digit-count-requires : tie.Need-digit-count-requires
+digit-count-requires c κs = search needs
+
+piece-requires : tie.Need-piece-requires
+piece-requires c κs = search needs
+
+same-length-2 : tie.Need-same-length-2
+same-length-2 c = search needs
+
+returns-2 : tie.Need-returns-2
+returns-2 c = c .before .before .piece .ensures ∙ ap (written _) (decimal-padded _ _ (c .before .before .before .digit-count .ensures))
+
+numeral-requires : tie.Need-numeral-requires
+numeral-requires c κs = search needs
+
+piece-requires-2 : tie.Need-piece-requires-2
+piece-requires-2 c κs = search needs
+
+same-length-3 : tie.Need-same-length-3
+same-length-3 c = search needs
+
+returns-3 : tie.Need-returns-3
+returns-3 c =
+    let n = c .before .before .before .before .before .before .before .before .before .before .before .args .n in
+    written-then _ (decimal (n / 100000000)) (padded 8 (n % 100000000)) (c .before .before .before .before .before .before .numeral .ensures) (c .before .before .piece2 .ensures) ∙ ap (written _) (sym (decimal-split 8 n (c .before .before .before .before .before .before .before .before .if2 .left)))
 
 pub number-spec : {M : Type 1} → statement M
 number-spec =
     tie.close
     (tie.spec
-    Inv-loop
-    μ-loop
-    loop-holds
-    cast-tmp
-    array-write-tmp
-    add-len
-    loop-less
-    loop-again
-    cast-tmp-2
-    array-write-tmp-2
-    add-len-2
-    array-share-prefix-tmp
-    slice-aggregate-digits
-    digits-requires
+    cast-byte
+    add-byte
+    byte-requires
     same-length
-    returns)
+    returns
+    digit-count-requires
+    piece-requires
+    same-length-2
+    returns-2
+    numeral-requires
+    piece-requires-2
+    same-length-3
+    returns-3)
