@@ -9,7 +9,8 @@ room=$(mktemp -d)
 trap 'rm -rf "$room"' EXIT
 rustc --edition 2024 --crate-type rlib --crate-name kernel -O -A warnings -o "$room/libkernel.rlib" "$source/kernel.rs"
 rustc --edition 2024 -O --extern kernel="$room/libkernel.rlib" -o "$room/record" "$here/src/main.rs"
-mkdir -p "$here/../crates/replay_widths/data" "$here/../crates/replay_printer/data"
+mkdir -p "$here/../crates/replay_widths/data" "$here/../crates/replay_printer/data" "$here/../crates/replay_sizes/data"
 cd "$here/.."
 "$room/record" widths crates/replay_widths/data/widths.bin "$@"
 "$room/record" printer crates/replay_printer/data/printer.bin "$@"
+"$room/record" sizes crates/replay_sizes/data/sizes.bin "$@"

@@ -1,10 +1,10 @@
 /*
- * The printer `echo_ext` and the width pass `ext_wf`, for C and C++.
+ * The printer `echo_ext`, the size of its script `echo_size`, and the width pass `ext_wf`, for C and C++.
  *
  * The library is target/staticlib/libecho_c.a, written by `rt staticlib echo_c`. It is for x86-64 with the System V calling
  * convention. It allocates nothing, keeps nothing between calls and needs only memcpy and memset of the C library.
  *
- * Both functions take slices: a pointer and a number of elements (not of bytes). For each slice the caller sees to it that
+ * The functions take slices: a pointer and a number of elements (not of bytes). For each slice the caller sees to it that
  *
  *   - the pointer is not null and is aligned for its element, also where the number is 0. For an empty slice hand in the address of
  *     any object of the element type;
@@ -42,8 +42,8 @@ enum {
 };
 
 /*
- * The numbers that are answered. echo_ext answers any of them. ext_wf answers ECHO_ACCEPTED, ECHO_MALFORMED, ECHO_ENCODING,
- * ECHO_LIMIT or ECHO_ROOM. If several things are wrong, the order is 9, 8, 1 (width pass, columns), 2, 6, 4 and 7 (declarations),
+ * The numbers that are answered. echo_ext answers any of them, echo_size any but ECHO_ROOM. ext_wf answers ECHO_ACCEPTED,
+ * ECHO_MALFORMED, ECHO_ENCODING, ECHO_LIMIT or ECHO_ROOM. If several things are wrong, the order is 9, 8, 1 (width pass, columns), 2, 6, 4 and 7 (declarations),
  * then what the walk over the roots meets first, and 10 last.
  */
 enum {
@@ -105,8 +105,8 @@ enum {
     ECHO_LIMIT = 9,
 
     /*
-     * Nothing is wrong with the problem, but the result is longer than the output. Call again with a longer one. The length that is
-     * needed is not answered, and a problem within the limits can need more than a machine has.
+     * Nothing is wrong with the problem, but the result is longer than the output. Call again with a longer one. The length is 0
+     * here; echo_size tells the length to set aside, and a problem within the limits can need more than a machine has.
      */
     ECHO_ROOM = 10
 };
@@ -165,6 +165,13 @@ struct echo_answer {
     uint64_t length; /* the length of the script; 0 with a refusal */
 };
 
+/* What echo_size answers. */
+struct size_answer {
+    uint64_t number; /* ECHO_ACCEPTED, or why the problem is refused; never ECHO_ROOM */
+    uint64_t length; /* the length of the script; 0 with a refusal */
+    uint64_t terms;  /* how many terms the walk enters; 0 with a refusal */
+};
+
 /* What ext_wf answers. */
 struct width_answer {
     uint64_t number; /* ECHO_ACCEPTED, or why the nodes are refused */
@@ -210,6 +217,37 @@ struct echo_answer echo_ext(
     const uint64_t *fname_len, size_t fname_len_len,
     const uint64_t *func_width, size_t func_width_len,
     uint8_t *out, size_t out_len);
+
+/*
+ * Tells the size of the script that echo_ext prints, so that the output can be set aside beforehand. It takes the inputs of echo_ext and
+ * writes nothing.
+ *
+ * Accepted: number is ECHO_ACCEPTED, and length is the length of the script: echo_ext accepts with an output of that length or a longer
+ * one, and answers ECHO_ROOM with a shorter one. terms is how many terms the walk over the roots enters: variables, constants and
+ * operators, each as often as it stands there. A rotation's amount is none; a select is one, with its index and the index and value of
+ * each store. Terms other than variables and constants are no more than there are nodes.
+ *
+ * Refused: number is 1 to 9, which echo_ext answers whatever the output, and length and terms are 0.
+ *
+ * The length is below 2^42 and terms below 2^25, so neither ever wraps. It is as recursive as echo_ext.
+ */
+struct size_answer echo_size(
+    const uint8_t *nodes, size_t nodes_len,
+    const uint8_t *bits, size_t bits_len,
+    const uint64_t *side, size_t side_len,
+    const uint64_t *roots, size_t roots_len,
+    const uint8_t *names, size_t names_len,
+    const uint64_t *name_start, size_t name_start_len,
+    const uint64_t *name_len, size_t name_len_len,
+    const uint64_t *var_node, size_t var_node_len,
+    const uint64_t *var_width, size_t var_width_len,
+    const uint8_t *anames, size_t anames_len,
+    const uint64_t *aname_start, size_t aname_start_len,
+    const uint64_t *aname_len, size_t aname_len_len,
+    const uint8_t *fnames, size_t fnames_len,
+    const uint64_t *fname_start, size_t fname_start_len,
+    const uint64_t *fname_len, size_t fname_len_len,
+    const uint64_t *func_width, size_t func_width_len);
 
 /*
  * The width pass alone: tells whether every node is well formed, and how wide each is. A Bool has width 1 here.

@@ -85,6 +85,23 @@ fn alone(label: &str, room: usize, p: &Problem, number: u64) {
     println!("| {label} | {number} | {room} | {:.2} | {:.2} to {:.2} |", at(&ts, 0.5), at(&ts, 0.1), at(&ts, 0.9));
 }
 
+/// What the port tells of a script beforehand, beside printing it into an empty buffer.
+fn sized(label: &str, p: &Problem) {
+    let problem::Size(number, length, terms) = problem::size(p);
+    assert_eq!((number, problem::echo(p, &mut [])), (0, Answer(10, 0)), "{label}");
+    let t = pairs(&mut || { black_box(problem::echo(p, &mut [])); }, &mut || {
+        black_box(problem::size(p));
+    });
+    println!(
+        "| {label} | {length} | {terms} | {:.1} | {:.1} | {:.2} | {:.2} to {:.2} |",
+        t.rust * 1e6,
+        t.port * 1e6,
+        t.ratio[0],
+        t.ratio[1],
+        t.ratio[2]
+    );
+}
+
 fn main() {
     let wanted = std::env::args().nth(1).unwrap_or_default();
     let all: Vec<_> = shapes::all().into_iter().filter(|s| s.0.contains(&wanted)).collect();
@@ -115,9 +132,17 @@ fn main() {
         });
         line(label, p.nodes.len(), &t);
     }
+    println!();
+    println!("| size, port alone | script bytes | terms | printed into nothing us | size us | ratio | 10th to 90th |");
+    println!("|---|---|---|---|---|---|---|");
+    for (label, p) in &all {
+        assert_eq!(problem::size(p).1, Decoded::of(p).echo().unwrap().len() as u64, "{label}");
+        sized(label, p);
+    }
     if !wanted.is_empty() {
         return;
     }
+    sized("the longest script", &shapes::longest());
     println!();
     println!("| refusal, port alone | number | buffer bytes | us | 10th to 90th |");
     println!("|---|---|---|---|---|");

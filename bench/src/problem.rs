@@ -233,9 +233,14 @@ impl Decoded {
 #[derive(Clone, Copy, PartialEq, Eq, Debug)]
 pub struct Answer(pub u64, pub u64);
 
+/// Number, length and terms.
+#[repr(C)]
+#[derive(Clone, Copy, PartialEq, Eq, Debug)]
+pub struct Size(pub u64, pub u64, pub u64);
+
 #[rustfmt::skip]
 mod port {
-    use super::Answer;
+    use super::{Answer, Size};
     type B = *const u8;
     type N = *const u64;
     type L = usize;
@@ -247,6 +252,12 @@ mod port {
             fnames: B, _: L, fname_start: N, _: L, fname_len: N, _: L, func_width: N, _: L,
             out: *mut u8, _: L,
         ) -> Answer;
+        pub fn echo_size(
+            nodes: B, _: L, bits: B, _: L, side: N, _: L, roots: N, _: L,
+            names: B, _: L, name_start: N, _: L, name_len: N, _: L, var_node: N, _: L, var_width: N, _: L,
+            anames: B, _: L, aname_start: N, _: L, aname_len: N, _: L,
+            fnames: B, _: L, fname_start: N, _: L, fname_len: N, _: L, func_width: N, _: L,
+        ) -> Size;
         pub fn ext_wf(nodes: B, _: L, bits: B, _: L, side: N, _: L, out: *mut u64, _: L) -> Answer;
     }
 }
@@ -266,6 +277,25 @@ pub fn echo(p: &Problem, out: &mut [u8]) -> Answer {
             p.fnames.as_ptr(), p.fnames.len(), p.fname_start.as_ptr(), p.fname_start.len(),
             p.fname_len.as_ptr(), p.fname_len.len(), p.func_width.as_ptr(), p.func_width.len(),
             out.as_mut_ptr(), out.len(),
+        )
+    }
+}
+
+/// What the port tells of the script beforehand.
+#[rustfmt::skip]
+#[allow(dead_code)]
+pub fn size(p: &Problem) -> Size {
+    // Safety: as above.
+    unsafe {
+        port::echo_size(
+            p.nodes.as_ptr(), p.nodes.len(), p.bits.as_ptr(), p.bits.len(),
+            p.side.as_ptr(), p.side.len(), p.roots.as_ptr(), p.roots.len(),
+            p.names.as_ptr(), p.names.len(), p.name_start.as_ptr(), p.name_start.len(), p.name_len.as_ptr(), p.name_len.len(),
+            p.var_node.as_ptr(), p.var_node.len(), p.var_width.as_ptr(), p.var_width.len(),
+            p.anames.as_ptr(), p.anames.len(), p.aname_start.as_ptr(), p.aname_start.len(),
+            p.aname_len.as_ptr(), p.aname_len.len(),
+            p.fnames.as_ptr(), p.fnames.len(), p.fname_start.as_ptr(), p.fname_start.len(),
+            p.fname_len.as_ptr(), p.fname_len.len(), p.func_width.as_ptr(), p.func_width.len(),
         )
     }
 }

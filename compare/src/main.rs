@@ -1,16 +1,17 @@
-//! Makes the recorded lists: `record widths OUT` and `record printer OUT`. The problems follow from a seed; the answers are the
-//! Rust's (oracle.rs), with the three numbers that document 01 adds around it (added.rs).
+//! Makes the recorded lists: `record widths OUT`, `record printer OUT` and `record sizes OUT`. The problems follow from a seed; the answers
+//! are the Rust's (oracle.rs), with the three numbers that document 01 adds around it (added.rs). Sizes are those of the Rust's scripts.
 mod added;
 mod both;
 mod list;
 mod oracle;
 mod printer;
 mod problem;
+mod terms;
 mod trees;
 mod widths;
 mod words;
 
-use std::collections::BTreeMap;
+use std::collections::{BTreeMap, HashSet};
 
 /// How many problems had each label, and with which number.
 #[derive(Default)]
@@ -102,14 +103,40 @@ fn record_printer(out: &str, long: bool) {
     finish(&list, &tally, out, long);
 }
 
+/// The printer's problems, each once: those that are accepted where there is room, and of the others every fifth.
+fn record_sizes(out: &str, long: bool) {
+    let mut list = list::List::new(b"SIZES  1");
+    let mut tally = Tally::default();
+    let (mut seen, mut refused, mut most) = (HashSet::new(), 0, 0);
+    for c in printer::all() {
+        let a = added::print_answer(&c.problem, usize::MAX);
+        if !seen.insert(list::of_size(&c.problem, &a, 0)) {
+            continue;
+        }
+        if a.number != 0 {
+            refused += 1;
+            if refused % 5 != 0 {
+                continue;
+            }
+        }
+        let terms = terms::of_script(&a.result);
+        most = most.max(terms);
+        tally.note(&c.label, None, a.number);
+        list.add(&list::of_size(&c.problem, &a, terms));
+    }
+    println!("most terms: {most}");
+    finish(&list, &tally, out, long);
+}
+
 fn run() {
     let words: Vec<String> = std::env::args().skip(1).collect();
     let long = words.iter().any(|w| w == "--clauses");
     match (words.first().map(String::as_str), words.get(1)) {
         (Some("widths"), Some(out)) => record_widths(out, long),
         (Some("printer"), Some(out)) => record_printer(out, long),
+        (Some("sizes"), Some(out)) => record_sizes(out, long),
         _ => {
-            eprintln!("record widths|printer OUT [--clauses]");
+            eprintln!("record widths|printer|sizes OUT [--clauses]");
             std::process::exit(2);
         }
     }

@@ -1,8 +1,9 @@
 /*
- * Prints one problem: is there an 8-bit x with x + 5 = x? It is the marked case M2. The first line has the label, the number and
- * the length that were answered; the script follows.
+ * Prints one problem: is there an 8-bit x with x + 5 = x? It is the marked case M2. The output is set aside by the length that
+ * echo_size tells; the first line has the label, the number, the length and how many terms the walk enters. The script follows.
  */
 #include <stdio.h>
+#include <stdlib.h>
 
 #include "echo.h"
 
@@ -41,7 +42,24 @@ int main(void)
     const uint8_t no_bytes[1] = {0};
     const uint64_t no_numbers[1] = {0};
 
-    uint8_t out[200];
+    const struct size_answer size = echo_size(
+        nodes, sizeof nodes,
+        bits, 8,
+        no_numbers, 0, /* side */
+        roots, 1,
+        names, 1, name_start, 1, name_len, 1, var_node, 1, var_width, 1,
+        no_bytes, 0, no_numbers, 0, no_numbers, 0,                 /* arrays */
+        no_bytes, 0, no_numbers, 0, no_numbers, 0, no_numbers, 0); /* functions */
+    if (size.number != ECHO_ACCEPTED) {
+        fprintf(stderr, "M2 is refused with %llu\n", (unsigned long long)size.number);
+        return 1;
+    }
+    const size_t room = (size_t)size.length;
+    uint8_t *out = malloc(room);
+    if (out == NULL) {
+        fprintf(stderr, "no memory for %llu bytes\n", (unsigned long long)size.length);
+        return 3;
+    }
     const struct echo_answer answer = echo_ext(
         nodes, sizeof nodes,
         bits, 8,
@@ -50,15 +68,11 @@ int main(void)
         names, 1, name_start, 1, name_len, 1, var_node, 1, var_width, 1,
         no_bytes, 0, no_numbers, 0, no_numbers, 0,                /* arrays */
         no_bytes, 0, no_numbers, 0, no_numbers, 0, no_numbers, 0, /* functions */
-        out, sizeof out);
+        out, room);
 
-    printf("M2 %llu %llu\n", (unsigned long long)answer.number, (unsigned long long)answer.length);
-    if (answer.number != ECHO_ACCEPTED) {
-        return 1;
-    }
+    printf("M2 %llu %llu %llu\n", (unsigned long long)answer.number, (unsigned long long)answer.length, (unsigned long long)size.terms);
     /* The script has no byte 0 at its end: its length says where it ends. */
-    if (fwrite(out, 1, (size_t)answer.length, stdout) != (size_t)answer.length || fflush(stdout) != 0) {
-        return 2;
-    }
-    return 0;
+    const int written = answer.number == ECHO_ACCEPTED && fwrite(out, 1, room, stdout) == room && fflush(stdout) == 0;
+    free(out);
+    return written ? 0 : 2;
 }

@@ -1,12 +1,13 @@
 //! A printer of SMT-LIB scripts, proved: a problem over bit-vectors, arrays and functions is printed whole or refused by a number.
 //!
-//! This package is a thin, safe layer over the proved library. [`echo_ext`] prints a [`Problem`]; [`ext_wf`] is the width pass alone.
+//! This package is a thin, safe layer over the proved library. [`echo_ext`] prints a [`Problem`], [`echo_size`] tells beforehand how long
+//! its script is, and [`ext_wf`] is the width pass alone.
 //! Terms are node records ([`node`], [`kind`]), and every input is a slice that is lent for the call.
 //!
 //! Is there an 8-bit `x` with `x + 5 = x`?
 //!
 //! ```
-//! use smt_echo::{Problem, echo_ext, kind, node};
+//! use smt_echo::{Problem, echo_ext, echo_size, kind, node};
 //!
 //! let nodes = [
 //!     node(kind::VAR, [8, 0, 0, 0]),   // 0: a variable of width 8
@@ -26,7 +27,7 @@
 //!     var_width: &[8],
 //!     ..Problem::default()
 //! };
-//! let mut out = [0; 200];
+//! let mut out = vec![0; echo_size(&problem)?.length];
 //! let length = echo_ext(&problem, &mut out)?;
 //! assert_eq!(
 //!     std::str::from_utf8(&out[..length])?,
@@ -137,8 +138,8 @@ pub fn node(kind: u8, operands: [u32; 4]) -> [u8; NODE_BYTES] {
 /// On `Ok(length)` the script is `out[..length]`, and `out[length..]` is what it was. On `Err` every byte of `out` is 0. The answer and
 /// all of `out` depend on the problem and on what `out` was, and on nothing else.
 ///
-/// [`Refusal::Room`] comes last: it says that nothing is wrong but the length of `out`. The length that is needed is not answered;
-/// call again with a longer buffer.
+/// [`Refusal::Room`] comes last: it says that nothing is wrong but the length of `out`. The length that is needed is not answered here:
+/// [`echo_size`] tells the length to set aside.
 ///
 /// ```
 /// use smt_echo::{Problem, Refusal, echo_ext};
@@ -156,6 +157,38 @@ pub fn echo_ext(problem: &Problem<'_>, out: &mut [u8]) -> Result<usize, Refusal>
     let answer = raw::echo_ext(problem, out);
     match answer.number {
         0 => Ok(answer.length as usize),
+        n => Err(refusal::of_number(n)),
+    }
+}
+
+/// What [`echo_size`] tells of a script.
+#[derive(Clone, Copy, Debug, PartialEq, Eq, Hash)]
+pub struct Size {
+    /// The script's length in bytes. It is below 2^42, which can be more than a machine has.
+    pub length: usize,
+    /// How many terms the walk over the roots enters: variables, constants and operators, each as often as it stands there. A rotation's
+    /// amount is none; a select is one, with its index and the index and value of each store. Terms other than variables and constants
+    /// are no more than there are nodes.
+    pub terms: u64,
+}
+
+/// The size of the script that [`echo_ext`] prints, so that the output can be set aside beforehand.
+///
+/// On `Ok(size)`, [`echo_ext`] accepts with a buffer of `size.length` bytes or more, and refuses by [`Refusal::Room`] with fewer. `Err` is
+/// the refusal that [`echo_ext`] answers whatever the buffer, so it is never [`Refusal::Room`].
+///
+/// ```
+/// use smt_echo::{Problem, Refusal, Size, echo_size};
+///
+/// assert_eq!(echo_size(&Problem::default()), Ok(Size { length: 30, terms: 0 }));
+/// assert_eq!(echo_size(&Problem { roots: &[0], ..Problem::default() }), Err(Refusal::Malformed));
+/// ```
+///
+/// The walk is recursive: see [Stack](crate#stack).
+pub fn echo_size(problem: &Problem<'_>) -> Result<Size, Refusal> {
+    let answer = raw::echo_size(problem);
+    match answer.number {
+        0 => Ok(Size { length: answer.length as usize, terms: answer.terms }),
         n => Err(refusal::of_number(n)),
     }
 }

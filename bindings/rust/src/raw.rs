@@ -1,6 +1,6 @@
 //! The calls into the C library, and all of the unsafe code.
 //!
-//! The library asks of its caller what include/echo.h lists, and a safe caller of the two functions here cannot fail in it:
+//! The library asks of its caller what include/echo.h lists, and a safe caller of the functions here cannot fail in it:
 //!
 //! - each pointer comes from a slice, so it is not null, is aligned, and is good for its length;
 //! - the output is a `&mut` slice, so no input overlaps it, and no other thread has it;
@@ -19,13 +19,20 @@ pub struct EchoAnswer {
 }
 
 #[repr(C)]
+pub struct SizeAnswer {
+    pub number: u64,
+    pub length: u64,
+    pub terms: u64,
+}
+
+#[repr(C)]
 pub struct WidthAnswer {
     pub number: u64,
     pub count: u64,
 }
 
 mod c {
-    use super::{EchoAnswer, WidthAnswer};
+    use super::{EchoAnswer, SizeAnswer, WidthAnswer};
 
     unsafe extern "C" {
         pub fn echo_ext(
@@ -64,6 +71,41 @@ mod c {
             out: *mut u8,
             out_len: usize,
         ) -> EchoAnswer;
+
+        pub fn echo_size(
+            nodes: *const u8,
+            nodes_len: usize,
+            bits: *const u8,
+            bits_len: usize,
+            side: *const u64,
+            side_len: usize,
+            roots: *const u64,
+            roots_len: usize,
+            names: *const u8,
+            names_len: usize,
+            name_start: *const u64,
+            name_start_len: usize,
+            name_len: *const u64,
+            name_len_len: usize,
+            var_node: *const u64,
+            var_node_len: usize,
+            var_width: *const u64,
+            var_width_len: usize,
+            anames: *const u8,
+            anames_len: usize,
+            aname_start: *const u64,
+            aname_start_len: usize,
+            aname_len: *const u64,
+            aname_len_len: usize,
+            fnames: *const u8,
+            fnames_len: usize,
+            fname_start: *const u64,
+            fname_start_len: usize,
+            fname_len: *const u64,
+            fname_len_len: usize,
+            func_width: *const u64,
+            func_width_len: usize,
+        ) -> SizeAnswer;
 
         pub fn ext_wf(
             nodes: *const u8,
@@ -116,6 +158,46 @@ pub fn echo_ext(p: &Problem<'_>, out: &mut [u8]) -> EchoAnswer {
             p.func_width.len(),
             out.as_mut_ptr(),
             out.len(),
+        )
+    }
+}
+
+pub fn echo_size(p: &Problem<'_>) -> SizeAnswer {
+    // SAFETY: the list at the top.
+    unsafe {
+        c::echo_size(
+            p.nodes.as_ptr(),
+            p.nodes.len(),
+            p.bits.as_ptr(),
+            p.bits.len(),
+            p.side.as_ptr(),
+            p.side.len(),
+            p.roots.as_ptr(),
+            p.roots.len(),
+            p.names.as_ptr(),
+            p.names.len(),
+            p.name_start.as_ptr(),
+            p.name_start.len(),
+            p.name_len.as_ptr(),
+            p.name_len.len(),
+            p.var_node.as_ptr(),
+            p.var_node.len(),
+            p.var_width.as_ptr(),
+            p.var_width.len(),
+            p.anames.as_ptr(),
+            p.anames.len(),
+            p.aname_start.as_ptr(),
+            p.aname_start.len(),
+            p.aname_len.as_ptr(),
+            p.aname_len.len(),
+            p.fnames.as_ptr(),
+            p.fnames.len(),
+            p.fname_start.as_ptr(),
+            p.fname_start.len(),
+            p.fname_len.as_ptr(),
+            p.fname_len.len(),
+            p.func_width.as_ptr(),
+            p.func_width.len(),
         )
     }
 }

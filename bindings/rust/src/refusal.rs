@@ -3,7 +3,7 @@
 use std::error::Error;
 use std::fmt;
 
-/// Why [`echo_ext`](crate::echo_ext) refuses a problem.
+/// Why [`echo_ext`](crate::echo_ext) and [`echo_size`](crate::echo_size) refuse a problem.
 ///
 /// If several things are wrong the order is: `Limit`, `Encoding`, `Malformed` (nodes, columns), `Name`, `Shared`, `Var` and `Signature`
 /// (declarations), then what the walk over the roots meets first, and `Room` last.
@@ -37,7 +37,8 @@ pub enum Refusal {
     Encoding,
     /// 9: a slice is longer than its limit.
     Limit,
-    /// 10: the script is longer than the buffer, and nothing else is wrong.
+    /// 10: the script is longer than the buffer, and nothing else is wrong. [`echo_size`](crate::echo_size) tells the length to set aside,
+    /// and never answers this.
     Room,
 }
 

@@ -1,8 +1,9 @@
 //! One problem through both: number, count and every place of the lent output, which is filled beforehand. What lies behind the lent
 //! part must stay as it was, and so must the inputs.
-use super::port::{self, Said};
+use super::port::{self, Said, Size};
 use crate::added::Answer;
 use crate::problem::Problem;
+use crate::terms;
 
 /// So many elements behind the lent ones are watched.
 const BEHIND: usize = 16;
@@ -89,6 +90,18 @@ fn run<T: Copy + PartialEq + Default>(
 
 pub fn script(p: &Problem, want: &Answer<u8>, room: usize, fill: u8, lent: &mut Vec<u8>) -> Option<Found<u8>> {
     run(p, want, room, fill, lent, port::script)
+}
+
+/// What the port has to tell beforehand of the Rust's answer with endless room; a refusal has no length and no terms.
+pub fn expected_size(full: &Answer<u8>) -> Size {
+    Size { number: full.number as u64, length: full.result.len() as u64, terms: terms::of_script(&full.result) }
+}
+
+/// The two sizes, if they differ, or if the call changed an input.
+pub fn size(p: &Problem, full: &Answer<u8>) -> Option<(Size, Size)> {
+    let before = digest(p);
+    let (want, said) = (expected_size(full), port::size(p));
+    (said != want || digest(p) != before).then_some((want, said))
 }
 
 pub fn widths(p: &Problem, want: &Answer<u64>, room: usize, fill: u64, lent: &mut Vec<u64>) -> Option<Found<u64>> {

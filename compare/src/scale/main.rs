@@ -1,5 +1,5 @@
 //! The comparison at scale: `scale COUNT SEED` makes COUNT problems that follow from SEED, asks the Rust (with added.rs around it)
-//! and the proved port, both entry points, and stops at the first difference, which it makes small and prints.
+//! and the proved port, every entry point, and stops at the first difference, which it makes small and prints.
 #[path = "../added.rs"]
 #[allow(dead_code)]
 mod added;
@@ -16,6 +16,8 @@ mod problem;
 mod reduce;
 mod seen;
 mod show;
+#[path = "../terms.rs"]
+mod terms;
 #[path = "../words.rs"]
 mod words;
 
@@ -134,6 +136,10 @@ struct Tally {
     distinct: HashSet<u64>,
     script_bytes: u64,
     longest: usize,
+    /// sizes that were told, by number, and the terms of all and of the largest
+    told: BTreeMap<u32, usize>,
+    terms: u64,
+    most_terms: u64,
 }
 
 fn row(name: &str, m: &BTreeMap<u32, usize>) {
@@ -170,6 +176,8 @@ impl Tally {
         row("changed anywhere", &self.changed);
         row("printer", &self.printer);
         row("width pass", &self.widths);
+        row("sizes", &self.told);
+        println!("terms compared: {}, most of a problem {}", self.terms, self.most_terms);
         println!("script bytes compared: {}, longest script {}", self.script_bytes, self.longest);
         println!("distinct problems: {} of {count}", self.distinct.len());
         let least = self.clauses.iter().map(|c| c.1).min().unwrap();
@@ -207,6 +215,16 @@ fn report_widths(p: &Problem, room: usize, fill: u64) {
     show::answers(&want, room, &found, show::numbers);
 }
 
+fn report_size(p: &Problem) {
+    let differs = |q: &Problem, _: usize| check::size(&q.clone(), &added::print_answer(q, usize::MAX)).is_some();
+    println!("the sizes differ on a problem of {} nodes; made smaller:", p.count());
+    let (q, _) = reduce::reduce(p, 0, Duration::from_secs(60), &differs, &added::script_len);
+    show::problem(&q);
+    let full = added::print_answer(&q, usize::MAX);
+    let (want, said) = check::size(&q, &full).expect("the smaller problem differs too");
+    println!("expected {want:?}\nthe port {said:?}");
+}
+
 /// True if there is no difference.
 fn compare(count: u64, seed: u64) -> bool {
     let all = clauses::all();
@@ -221,6 +239,16 @@ fn compare(count: u64, seed: u64) -> bool {
 
         let full: Answer<u8> = added::print_answer(&p, usize::MAX);
         let number = full.number;
+        if check::size(&p, &full).is_some() {
+            println!("problem {i} of seed {seed}");
+            // made again, in case the port changed it
+            report_size(&problem_of(&all, i, &mut numbers_of(seed, i)).0);
+            return false;
+        }
+        let told = check::expected_size(&full);
+        *t.told.entry(number).or_default() += 1;
+        t.terms += told.terms;
+        t.most_terms = t.most_terms.max(told.terms);
         let (which, lent) = room(&mut rng, (number == 0).then_some(full.count));
         let want = added::with_room(full, lent);
         // no byte of a script is above 126

@@ -1,11 +1,18 @@
--- An answer as a struct of two numbers is the answer that was given.
+-- An answer as a struct of numbers is the answer that was given.
 use Prim.Native.Nat.{ℕ}
 use mathlib.Core.Path.{_≡_, refl, _∙_}
 use mathlib.Core.List.{List}
 use Rattle.echo_spec.specs.Answers.{Answer}
+use Rattle.sizes.specs.Size.{SizeAnswer}
 
 abbrev answer : ℕ → ℕ → List ℕ → Answer
 answer n k out = record { number = n; count = k; output = out }
 
 pub as-given : {n m k l : ℕ} {out : List ℕ} {a : Answer} → (n ≡ m) × (k ≡ l) → answer m l out ≡ a → answer n k out ≡ a
 as-given {out = out} e h = (λ i. answer (e .0 i) (e .1 i) out) ∙ h
+
+abbrev size : ℕ → ℕ → ℕ → SizeAnswer
+size n l t = record { number = n; length = l; terms = t }
+
+pub size-given : {n m k l s t : ℕ} {a : SizeAnswer} → (n ≡ m) × (k ≡ l) × (s ≡ t) → size m l t ≡ a → size n k s ≡ a
+size-given e h = (λ i. size (e .0 i) (e .1 i) (e .2 i)) ∙ h

@@ -2,11 +2,16 @@
 use Prim.Native.Nat.{ℕ}
 use mathlib.Core.List.{List}
 use Rattle.echo_spec.specs.Answers.{Answer}
+use Rattle.sizes.specs.Size as sizes
 use Rattle.echo_c.specs.declared.EchoAnswer.{EchoAnswer}
 use Rattle.echo_c.specs.declared.WidthAnswer.{WidthAnswer}
+use Rattle.echo_c.specs.declared.size.SizeAnswer.{SizeAnswer}
 
 abbrev pub printed : EchoAnswer → List ℕ → Answer
 printed r out = record { number = r .number; count = r .length; output = out }
+
+abbrev pub told : SizeAnswer → sizes.SizeAnswer
+told r = record { number = r .number; length = r .length; terms = r .terms }
 
 abbrev pub passed : WidthAnswer → List ℕ → Answer
 passed r out = record { number = r .number; count = r .count; output = out }

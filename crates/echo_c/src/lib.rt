@@ -1,5 +1,7 @@
-// The two entry points for C, and for Rust over C: `echo_ext` and `ext_wf` under their plain names, as in include/echo.h. A slice is a
-// pointer and a `size_t`; the answer is a struct of two numbers.
+// The entry points for C, and for Rust over C: `echo_ext`, `ext_wf` and, in size.rt, `echo_size` under their plain names, as in
+// include/echo.h. A slice is a pointer and a `size_t`; the answer is a struct of numbers.
+pub mod size;
+
 use echo_kernel::Echo;
 use refusals::ENCODING;
 use refusals::LIMIT;

@@ -25,7 +25,7 @@ use Rattle.echo_kernel.specs.Outcomes.{Wrote, answered}
 -- ---------------------------------------------------------------- what was written
 
 module _ {pg : Page} {o : Out} {l : List ℕ} where
-  outcome-refused : (n : ℕ) (t : List ℕ) {e : ℕ} → Wrote n t pg o l → o ≡ out.Refused e → (n ≡ e) × (0 < e)
+  pub outcome-refused : (n : ℕ) (t : List ℕ) {e : ℕ} → Wrote n t pg o l → o ≡ out.Refused e → (n ≡ e) × (0 < e)
   outcome-refused zero t {e} w f =
       let h : o ≡ out.Done (written pg t .place) = w .told .0 in let z : _≡_ {A = ℕ} 0 1 = cc in absurd (omega arith)
   outcome-refused (suc n) t {e} w f =
@@ -33,7 +33,7 @@ module _ {pg : Page} {o : Out} {l : List ℕ} where
       let a : suc n ≡ e = cc in
       (a, omega arith)
 
-  outcome-done : (n : ℕ) (t : List ℕ) {q : Place} → Wrote n t pg o l → o ≡ out.Done q → (n ≡ 0) × (page q l ≡ written pg t)
+  pub outcome-done : (n : ℕ) (t : List ℕ) {q : Place} → Wrote n t pg o l → o ≡ out.Done q → (n ≡ 0) × (page q l ≡ written pg t)
   outcome-done zero t {q} w f =
       let h : o ≡ out.Done (written pg t .place) = w .told .0 in
       let a : q ≡ written pg t .place = cc in

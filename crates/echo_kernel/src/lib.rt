@@ -132,7 +132,7 @@ fn print<'a>(
 // ---------------------------------------------------------------- the checks
 
 // What was written, or the number of a refusal.
-enum Out {
+pub enum Out {
     Done(Place),
     Refused(u64),
 }
@@ -171,7 +171,8 @@ fn tables(bytes: &[&[u8]; BYTES], numbers: &[&[u64]; NUMBERS], ws: &[u64], out: 
 }
 
 // Every check but the one for room, in order, and then the script as far as it fits; the place has the length that is needed.
-fn checked(bytes: &[&[u8]; BYTES], numbers: &[&[u64]; NUMBERS], out: &mut [u8]) -> Out
+// Ruled out: a refusal by another number than the first check's; a length of what fitted and not of the script.
+pub fn checked(bytes: &[&[u8]; BYTES], numbers: &[&[u64]; NUMBERS], out: &mut [u8]) -> Out
     ensures { λ r. ⌜ Wrote (endlessRefusal (problemAt (now (bytes .entry)) (now (numbers .entry)))) (script (queryOf (problemAt (now (bytes .entry)) (now (numbers .entry))))) (page start (now (out .entry))) r (now (out .exit)) ⌝ }
 {
     if !echo_checks::within_limits(bytes, numbers) {

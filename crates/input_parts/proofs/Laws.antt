@@ -1,4 +1,4 @@
--- The code's sizes are the definition's, and a column is filled from the front. Assumes nothing.
+-- The code's sizes are the definition's, a column is filled from the front, and the inputs are the problem's. Assumes nothing.
 use Prim.Native.Nat.{ℕ, zero, suc, _+_, _*_, _≤_, _<_}
 use mathlib.Core.Path.{_≡_, refl, ap, sym, subst, _∙_}
 use mathlib.Core.Bool.{Bool, _&&_, _||_}
@@ -11,9 +11,18 @@ use lib.ListN.{length, take, drop, getD, set, length-append, length-drop}
 use lib.Seq.{take-append-le, take-all}
 use Rattle.lists.specs.Tests.{every-at, and-0, and-1, or-elim}
 use Rattle.lists.specs.Build.{tabulate, length-tabulate}
-use Rattle.echo_spec.specs.Answers.{atFront}
-use Rattle.input_parts.specs.Parts.{sizes, sizeOf, rooms, roomOf, numbersPart}
-use Rattle.input_parts.specs.Lying.{Lies, Column}
+use Rattle.echo_spec.specs.Input.{Problem}
+use Rattle.echo_spec.specs.Answers.{atFront, echo-ext-answer}
+use Rattle.lent.specs.Lent.{problemOf}
+use Rattle.sizes.specs.Size.{echo-size-answer}
+use Rattle.echo_kernel.specs.Outcomes.{answered}
+use Rattle.echo_size.specs.Sized as sized
+use Rattle.input_parts.specs.declared.Asked.{Asked}
+use Rattle.input_parts.specs.declared.Asked.the-variants.{Print, Measure}
+use Rattle.input_parts.specs.declared.Told.{Told}
+use Rattle.input_parts.specs.Parts.{sizes, sizeOf, rooms, roomOf, bytesPart, numbersPart, problemFrom}
+use Rattle.input_parts.specs.Lying.{Lies, Column, Columns}
+use Rattle.input_parts.specs.Asking.{Answers}
 
 -- ---------------------------------------------------------------- sizes
 
@@ -86,3 +95,27 @@ module _ {s starts counts : List ℕ} {k : ℕ} (h : Lies s starts counts k) whe
         front = ap (take n) e ∙ take-append-le n p (drop (length p) lent) (omega arith) ∙ take-all n p (omega arith);
         fits = omega (arith, h .fits);
       }
+
+-- ---------------------------------------------------------------- all inputs
+
+-- the parts and the fronts of the columns are the problem's inputs
+module _ {s starts counts side roots ns nl vn vw an al fn fl fw : List ℕ} {b0 b1 t2 t3 b4 t5 t6 t7 t8 b9 t10 t11 b12 t13 t14 t15 : List ℕ}
+    (e0 : b0 ≡ bytesPart s starts counts 0) (e1 : b1 ≡ bytesPart s starts counts 1) (e2 : t2 ≡ take (getD counts 2 0) side) (e3 : t3 ≡ take (getD counts 3 0) roots)
+    (e4 : b4 ≡ bytesPart s starts counts 4) (e5 : t5 ≡ take (getD counts 5 0) ns) (e6 : t6 ≡ take (getD counts 6 0) nl) (e7 : t7 ≡ take (getD counts 7 0) vn)
+    (e8 : t8 ≡ take (getD counts 8 0) vw) (e9 : b9 ≡ bytesPart s starts counts 9) (e10 : t10 ≡ take (getD counts 10 0) an)
+    (e11 : t11 ≡ take (getD counts 11 0) al) (e12 : b12 ≡ bytesPart s starts counts 12) (e13 : t13 ≡ take (getD counts 13 0) fn)
+    (e14 : t14 ≡ take (getD counts 14 0) fl) (e15 : t15 ≡ take (getD counts 15 0) fw) (h : Columns s starts counts side roots ns nl vn vw an al fn fl fw) where
+  pub parts-are : problemOf b0 b1 t2 t3 b4 t5 t6 t7 t8 b9 t10 t11 b12 t13 t14 t15 ≡ problemFrom s starts counts
+  unfolding problemFrom
+  parts-are i =
+      problemOf (e0 i) (e1 i) ((e2 ∙ h .c2 .front) i) ((e3 ∙ h .c3 .front) i) (e4 i) ((e5 ∙ h .c5 .front) i) ((e6 ∙ h .c6 .front) i) ((e7 ∙ h .c7 .front) i)
+      ((e8 ∙ h .c8 .front) i) (e9 i) ((e10 ∙ h .c10 .front) i) ((e11 ∙ h .c11 .front) i) (e12 i) ((e13 ∙ h .c13 .front) i) ((e14 ∙ h .c14 .front) i)
+      ((e15 ∙ h .c15 .front) i)
+
+-- what was asked for is told
+module _ (r : Told) (lent out : List ℕ) {asked : Asked} {q p : Problem} where
+  pub printed-told : asked ≡ Print → answered (r .echo) out ≡ echo-ext-answer q lent → q ≡ p → Answers asked r p lent out
+  printed-told e a s = subst (λ (x : Asked). Answers x r p lent out) (sym e) (a ∙ ap (λ (z : Problem). echo-ext-answer z lent) s)
+
+  pub measured-told : asked ≡ Measure → sized.answered (r .size) ≡ echo-size-answer q → q ≡ p → Answers asked r p lent out
+  measured-told e a s = subst (λ (x : Asked). Answers x r p lent out) (sym e) (a ∙ ap echo-size-answer s)

@@ -1,7 +1,9 @@
 // The printer's sixteen inputs as parts of one byte string, by the number of the input, from 0: where the elements of each begin and how
-// many there are. Who has a problem in bytes finds the places, and this calls the printer with what lies there.
+// many there are. Who has a problem in bytes finds the places, and this calls the printer, or asks for the size, with what lies there.
 // Under "Ruled out" stand wrong programs that a public function's contract refuses.
 use echo_kernel::Echo;
+use echo_size::Size;
+use refusals::EchoError;
 use refusals::MAX_ENTRIES;
 use refusals::MAX_ROOTS;
 use refusals::MAX_SIDE;
@@ -9,9 +11,12 @@ ghost use mathlib.Core.Path.{_≡_};
 ghost use Prim.Native.Nat.{_+_, _*_, _≤_, _<_};
 ghost use lib.ListN.{length, take, getD};
 ghost use Rattle.echo_spec.specs.Answers.{atFront, echo-ext-answer};
+ghost use Rattle.sizes.specs.Size.{echo-size-answer};
 ghost use Rattle.echo_kernel.specs.Outcomes.{answered};
+ghost use Rattle.echo_size.specs.Sized as sized;
 ghost use Rattle.input_parts.specs.Parts as parts;
 ghost use Rattle.input_parts.specs.Lying.{Lies, Inside, Column, Columns};
+ghost use Rattle.input_parts.specs.Asking.{Answers};
 
 // 64 bits from place i on, least significant byte first. Ruled out: the four high bytes first; the low four alone.
 pub fn word64(s: &[u8], i: usize) -> u64
@@ -118,8 +123,20 @@ pub fn taken<'a>(counts: &[usize; INPUTS], k: usize, column: &'a [u64]) -> &'a [
 
 // ---------------------------------------------------------------- all inputs
 
-// The printer's answer, with the columns that hold the numbers.
-fn printed<'a>(
+// What is asked of a problem: its script, or the script's size.
+enum Asked {
+    Print,
+    Measure,
+}
+
+// What is told of it; of the two, what was not asked for is some refusal.
+struct Told {
+    echo: Echo,
+    size: Size,
+}
+
+// The answer, with the columns that hold the numbers.
+fn tell<'a>(
     s: &'a [u8],
     starts: &[usize; INPUTS],
     counts: &[usize; INPUTS],
@@ -134,30 +151,73 @@ fn printed<'a>(
     fname_start: &'a [u64],
     fname_len: &'a [u64],
     func_width: &'a [u64],
+    asked: Asked,
     out: &mut [u8],
-) -> Echo
+) -> Told
     requires { ⌜ Inside (now s) (now starts) (now counts) × Columns (now s) (now starts) (now counts) (now side) (now roots) (now «name_start») (now «name_len») (now «var_node») (now «var_width») (now «aname_start») (now «aname_len») (now «fname_start») (now «fname_len») (now «func_width») ⌝ }
-    ensures { λ r. ⌜ answered r (now (out .exit)) ≡ echo-ext-answer (parts.problemFrom (now (s .entry)) (now (starts .entry)) (now (counts .entry))) (now (out .entry)) ⌝ }
+    ensures { λ r. ⌜ Answers asked r (parts.problemFrom (now (s .entry)) (now (starts .entry)) (now (counts .entry))) (now (out .entry)) (now (out .exit)) ⌝ }
 {
-    echo_kernel::echo_ext(
-        bytes_of(s, starts, counts, 0),
-        bytes_of(s, starts, counts, 1),
-        taken(counts, 2, side),
-        taken(counts, 3, roots),
-        bytes_of(s, starts, counts, 4),
-        taken(counts, 5, name_start),
-        taken(counts, 6, name_len),
-        taken(counts, 7, var_node),
-        taken(counts, 8, var_width),
-        bytes_of(s, starts, counts, 9),
-        taken(counts, 10, aname_start),
-        taken(counts, 11, aname_len),
-        bytes_of(s, starts, counts, 12),
-        taken(counts, 13, fname_start),
-        taken(counts, 14, fname_len),
-        taken(counts, 15, func_width),
-        out,
-    )
+    let nodes = bytes_of(s, starts, counts, 0);
+    let bits = bytes_of(s, starts, counts, 1);
+    let entries = taken(counts, 2, side);
+    let asserted = taken(counts, 3, roots);
+    let names = bytes_of(s, starts, counts, 4);
+    let ns = taken(counts, 5, name_start);
+    let nl = taken(counts, 6, name_len);
+    let vn = taken(counts, 7, var_node);
+    let vw = taken(counts, 8, var_width);
+    let anames = bytes_of(s, starts, counts, 9);
+    let ans = taken(counts, 10, aname_start);
+    let anl = taken(counts, 11, aname_len);
+    let fnames = bytes_of(s, starts, counts, 12);
+    let fns = taken(counts, 13, fname_start);
+    let fnl = taken(counts, 14, fname_len);
+    let fw = taken(counts, 15, func_width);
+    match asked {
+        Asked::Print => Told {
+            echo: echo_kernel::echo_ext(
+                nodes,
+                bits,
+                entries,
+                asserted,
+                names,
+                ns,
+                nl,
+                vn,
+                vw,
+                anames,
+                ans,
+                anl,
+                fnames,
+                fns,
+                fnl,
+                fw,
+                out,
+            ),
+            size: Size::Refused(EchoError::Limit),
+        },
+        Asked::Measure => Told {
+            echo: Echo::Refused(EchoError::Limit),
+            size: echo_size::echo_size(
+                nodes,
+                bits,
+                entries,
+                asserted,
+                names,
+                ns,
+                nl,
+                vn,
+                vw,
+                anames,
+                ans,
+                anl,
+                fnames,
+                fns,
+                fnl,
+                fw,
+            ),
+        },
+    }
 }
 
 // With side entries and roots, and then the nine other columns.
@@ -167,10 +227,11 @@ fn with_columns<'a>(
     counts: &[usize; INPUTS],
     side: &'a [u64],
     roots: &'a [u64],
+    asked: Asked,
     out: &mut [u8],
-) -> Echo
+) -> Told
     requires { ⌜ Inside (now s) (now starts) (now counts) × Column (now s) (now starts) (now counts) 2 (now side) × Column (now s) (now starts) (now counts) 3 (now roots) ⌝ }
-    ensures { λ r. ⌜ answered r (now (out .exit)) ≡ echo-ext-answer (parts.problemFrom (now (s .entry)) (now (starts .entry)) (now (counts .entry))) (now (out .entry)) ⌝ }
+    ensures { λ r. ⌜ Answers asked r (parts.problemFrom (now (s .entry)) (now (starts .entry)) (now (counts .entry))) (now (out .entry)) (now (out .exit)) ⌝ }
 {
     let mut name_start = [0u64; ENTRIES];
     let mut name_len = [0u64; ENTRIES];
@@ -190,7 +251,7 @@ fn with_columns<'a>(
     put(s, starts, counts, 13, &mut fname_start);
     put(s, starts, counts, 14, &mut fname_len);
     put(s, starts, counts, 15, &mut func_width);
-    printed(
+    tell(
         s,
         starts,
         counts,
@@ -205,8 +266,27 @@ fn with_columns<'a>(
         &fname_start,
         &fname_len,
         &func_width,
+        asked,
         out,
     )
+}
+
+// What is asked of the problem that lies in s, with side entries and roots.
+fn ask_parts(
+    s: &[u8],
+    starts: &[usize; INPUTS],
+    counts: &[usize; INPUTS],
+    asked: Asked,
+    out: &mut [u8],
+) -> Told
+    requires { ⌜ Inside (now s) (now starts) (now counts) ⌝ }
+    ensures { λ r. ⌜ Answers asked r (parts.problemFrom (now (s .entry)) (now (starts .entry)) (now (counts .entry))) (now (out .entry)) (now (out .exit)) ⌝ }
+{
+    let mut side = [0u64; SIDE];
+    let mut roots = [0u64; ROOTS];
+    put(s, starts, counts, 2, &mut side);
+    put(s, starts, counts, 3, &mut roots);
+    with_columns(s, starts, counts, &side, &roots, asked, out)
 }
 
 // The printer's answer to the problem that lies in s. Ruled out: the side entries handed over as roots; a column that keeps its zeros.
@@ -219,9 +299,16 @@ pub fn print_parts(
     requires { ⌜ Inside (now s) (now starts) (now counts) ⌝ }
     ensures { λ r. ⌜ answered r (now (out .exit)) ≡ echo-ext-answer (parts.problemFrom (now (s .entry)) (now (starts .entry)) (now (counts .entry))) (now (out .entry)) ⌝ }
 {
-    let mut side = [0u64; SIDE];
-    let mut roots = [0u64; ROOTS];
-    put(s, starts, counts, 2, &mut side);
-    put(s, starts, counts, 3, &mut roots);
-    with_columns(s, starts, counts, &side, &roots, out)
+    let t = ask_parts(s, starts, counts, Asked::Print, out);
+    t.echo
+}
+
+// The size of the script of the problem that lies in s. Ruled out: the side entries handed over as roots; a refusal of every problem.
+pub fn size_parts(s: &[u8], starts: &[usize; INPUTS], counts: &[usize; INPUTS]) -> Size
+    requires { ⌜ Inside (now s) (now starts) (now counts) ⌝ }
+    ensures { λ r. ⌜ sized.answered r ≡ echo-size-answer (parts.problemFrom (now (s .entry)) (now (starts .entry)) (now (counts .entry))) ⌝ }
+{
+    let mut none = [0u8; 0];
+    let t = ask_parts(s, starts, counts, Asked::Measure, &mut none);
+    t.size
 }

@@ -8,7 +8,7 @@ use lib.ListN.{length}
 use Rattle.echo_spec.specs.Input.{word32}
 use Rattle.input_parts.specs.Parts.{sizeOf, roomOf}
 use Rattle.replay.specs.declared.Recorded.{Recorded}
-use Rattle.replay.specs.declared.Recorded.the-variants.{Widths, Printer}
+use Rattle.replay.specs.declared.Recorded.the-variants.{Widths, Printer, Sizes}
 use Rattle.replay.specs.declared.Head.{Head}
 use Rattle.replay.specs.declared.Opened.{Opened}
 use Rattle.replay.specs.declared.Opened.the-variants.{Whole, Damaged}
@@ -18,14 +18,16 @@ use Rattle.replay.specs.Unpacking.{pick}
 abbrev pub inputsOf : Recorded → ℕ
 inputsOf Widths = 3
 inputsOf Printer = 16
+inputsOf Sizes = 16
 
--- the bytes of an element of the result
-abbrev pub resultSize : Recorded → ℕ
-resultSize Widths = 8
-resultSize Printer = 1
+-- the bytes of an acceptance's result: a number for each node, the script, or the terms as one number
+abbrev pub acceptedBytes : Recorded → ℕ → ℕ
+acceptedBytes Widths count = 8 * count
+acceptedBytes Printer count = count
+acceptedBytes Sizes count = 8
 
 abbrev pub resultBytes : Recorded → ℕ → ℕ → ℕ
-resultBytes list number count = pick (eqb number 0) (resultSize list * count) 0
+resultBytes list number count = pick (eqb number 0) (acceptedBytes list count) 0
 
 -- where input k begins, of n, and behind the last the result
 unfoldable pub placeAt : List ℕ → ℕ → ℕ → ℕ

@@ -1,0 +1,76 @@
+// The size of a script, for C.
+use echo_size::Size;
+ghost use mathlib.Core.Path.{_≡_};
+ghost use Rattle.lent.specs.Lent.{problemOf};
+ghost use Rattle.sizes.specs.Size.{echo-size-answer};
+ghost use Rattle.echo_size.specs.Sized as sized;
+ghost use Rattle.echo_c.specs.Answered.{told};
+
+// What is told of a script. Number 0: length is the script's length, and terms is how many terms the walk enters. Any other number: a
+// refusal, and both are 0.
+#[repr(C)]
+pub struct SizeAnswer {
+    pub number: u64,
+    pub length: u64,
+    pub terms: u64,
+}
+
+fn size_answer(r: Size) -> SizeAnswer
+    ensures { λ a. ⌜ (a .number ≡ sized.number r) × (a .length ≡ sized.length r) × (a .terms ≡ sized.terms r) ⌝ }
+{
+    match r {
+        Size::Script(n, t) => SizeAnswer {
+            number: 0,
+            length: n as u64,
+            terms: t,
+        },
+        Size::Refused(e) => SizeAnswer {
+            number: refusals::number_of(e),
+            length: 0,
+            terms: 0,
+        },
+    }
+}
+
+// The size of the script that the printer prints where there is room.
+#[no_mangle]
+pub extern "C" fn echo_size<'a>(
+    nodes: &'a [u8],
+    bits: &'a [u8],
+    side: &'a [u64],
+    roots: &'a [u64],
+    names: &'a [u8],
+    name_start: &'a [u64],
+    name_len: &'a [u64],
+    var_node: &'a [u64],
+    var_width: &'a [u64],
+    anames: &'a [u8],
+    aname_start: &'a [u64],
+    aname_len: &'a [u64],
+    fnames: &'a [u8],
+    fname_start: &'a [u64],
+    fname_len: &'a [u64],
+    func_width: &'a [u64],
+) -> SizeAnswer
+    ensures { λ r. ⌜ told r ≡ echo-size-answer (problemOf (now (nodes .entry)) (now (bits .entry)) (now (side .entry)) (now (roots .entry)) (now (names .entry)) (now («name_start» .entry)) (now («name_len» .entry)) (now («var_node» .entry)) (now («var_width» .entry)) (now (anames .entry)) (now («aname_start» .entry)) (now («aname_len» .entry)) (now (fnames .entry)) (now («fname_start» .entry)) (now («fname_len» .entry)) (now («func_width» .entry))) ⌝ }
+{
+    let r = echo_size::echo_size(
+        nodes,
+        bits,
+        side,
+        roots,
+        names,
+        name_start,
+        name_len,
+        var_node,
+        var_width,
+        anames,
+        aname_start,
+        aname_len,
+        fnames,
+        fname_start,
+        fname_len,
+        func_width,
+    );
+    size_answer(r)
+}
