@@ -8,7 +8,9 @@ here=$(cd "$(dirname "$0")" && pwd)
 room=$(mktemp -d)
 trap 'rm -rf "$room"' EXIT
 rustc --edition 2024 --crate-type rlib --crate-name kernel -O -A warnings -o "$room/libkernel.rlib" "$source/kernel.rs"
-rustc --edition 2024 -O --extern kernel="$room/libkernel.rlib" -o "$room/record" "$here/src/main.rs"
+python3 "$here/by_table.py" "$source" "$room/model"
+rustc --edition 2024 --crate-type rlib --crate-name model -O -A warnings -o "$room/libmodel.rlib" "$room/model/kernel.rs"
+rustc --edition 2024 -O --extern kernel="$room/libkernel.rlib" --extern model="$room/libmodel.rlib" -o "$room/record" "$here/src/main.rs"
 mkdir -p "$here/../crates/replay_widths/data" "$here/../crates/replay_printer/data" "$here/../crates/replay_sizes/data"
 cd "$here/.."
 "$room/record" widths crates/replay_widths/data/widths.bin "$@"

@@ -13,5 +13,7 @@ fi
 room=$(mktemp -d)
 trap 'rm -rf "$room"' EXIT
 rustc --edition 2024 --crate-type rlib --crate-name kernel -O -A warnings -o "$room/libkernel.rlib" "$source/kernel.rs"
-rustc --edition 2024 -O --extern kernel="$room/libkernel.rlib" -L native="$library" -l static=echo_c -o "$room/scale" "$here/src/scale/main.rs"
+python3 "$here/by_table.py" "$source" "$room/model"
+rustc --edition 2024 --crate-type rlib --crate-name model -O -A warnings -o "$room/libmodel.rlib" "$room/model/kernel.rs"
+rustc --edition 2024 -O --extern kernel="$room/libkernel.rlib" --extern model="$room/libmodel.rlib" -L native="$library" -l static=echo_c -o "$room/scale" "$here/src/scale/main.rs"
 "$room/scale" "${2:-500000}" "${3:-1}"

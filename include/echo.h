@@ -27,8 +27,8 @@ extern "C" {
 
 /*
  * The limits. An input over its limit is refused by ECHO_LIMIT before anything else is looked at. A column is any of name_start,
- * name_len, var_node, var_width, aname_start, aname_len, fname_start, fname_len and func_width; an arena is any of names, anames and
- * fnames.
+ * name_len, var_node, var_width, aname_start, aname_len, index_width, value_width, fname_start, fname_len and func_width; an arena is
+ * any of names, anames and fnames.
  */
 enum {
     ECHO_NODE_BYTES = 17,        /* bytes of a node record */
@@ -38,21 +38,22 @@ enum {
     ECHO_MAX_SIDE_LEN = 8192,    /* elements of side */
     ECHO_MAX_ROOTS_LEN = 256,    /* elements of roots */
     ECHO_MAX_COLUMN_LEN = 512,   /* elements of a column */
-    ECHO_MAX_ARENA_LEN = 16384   /* elements of an arena */
+    ECHO_MAX_ARENA_LEN = 16384,  /* elements of an arena */
+    ECHO_MAX_ARRAY_WIDTH = 65536 /* the widest index and the widest value of an array */
 };
 
 /*
  * The numbers that are answered. echo_ext answers any of them, echo_size any but ECHO_ROOM. ext_wf answers ECHO_ACCEPTED,
- * ECHO_MALFORMED, ECHO_ENCODING, ECHO_LIMIT or ECHO_ROOM. If several things are wrong, the order is 9, 8, 1 (width pass, columns), 2, 6, 4 and 7 (declarations),
- * then what the walk over the roots meets first, and 10 last.
+ * ECHO_MALFORMED, ECHO_ENCODING, ECHO_LIMIT, ECHO_ROOM or ECHO_ARRAY_WIDTH. If several things are wrong, the order is 9, 8, 1 (columns),
+ * 12, 1 (width pass), 2, 6, 4 and 7 (declarations), then what the walk over the roots meets first, and 10 last.
  */
 enum {
     /* The result is at the front of the output. */
     ECHO_ACCEPTED = 0,
 
     /*
-     * A node is not well formed (ext_wf over the same nodes, bits and side tells which); or the columns of one table differ in
-     * length; or a root is no node; or a node below a root names an array or a function that its table does not have.
+     * A node is not well formed (ext_wf over the same nodes, bits, side and array widths tells which); or the columns of one table
+     * differ in length; or a root is no node; or a node below a root names an array or a function that its table does not have.
      */
     ECHO_MALFORMED = 1,
 
@@ -108,7 +109,10 @@ enum {
      * Nothing is wrong with the problem, but the result is longer than the output. Call again with a longer one. The length is 0
      * here; echo_size tells the length to set aside, and a problem within the limits can need more than a machine has.
      */
-    ECHO_ROOM = 10
+    ECHO_ROOM = 10,
+
+    /* An element of index_width or value_width is 0 or above ECHO_MAX_ARRAY_WIDTH, whether a node names the array or not. */
+    ECHO_ARRAY_WIDTH = 12
 };
 
 /*
@@ -154,8 +158,8 @@ enum {
     ECHO_KIND_ROTL = 34,       /* a, b: b is a constant node, the amount */
     ECHO_KIND_SDIV = 35,       /* a, b: two bit-vectors of one width */
     ECHO_KIND_SREM = 36,       /* a, b: two bit-vectors of one width */
-    ECHO_KIND_SELECT = 37,     /* array, a, side start, n: a is the index, of width 32; n pairs of index (32) and value (8) in side
-                                  are stores, the first the outermost */
+    ECHO_KIND_SELECT = 37,     /* array, a, side start, n: a is the index, as wide as the array's; n pairs of index and value in side
+                                  are stores, as wide as the array's, the first the outermost */
     ECHO_KIND_CALL = 38        /* function, width, side start, n: n arguments in side */
 };
 
@@ -175,7 +179,8 @@ struct size_answer {
 /* What ext_wf answers. */
 struct width_answer {
     uint64_t number; /* ECHO_ACCEPTED, or why the nodes are refused */
-    uint64_t count;  /* the number of nodes; with ECHO_MALFORMED the number of the refused node; 0 with any other refusal */
+    uint64_t count;  /* the number of nodes; with ECHO_MALFORMED the number of the refused node, or the number of nodes where
+                        index_width and value_width differ in length; 0 with any other refusal */
 };
 
 /*
@@ -185,14 +190,14 @@ struct width_answer {
  *   roots                  the nodes that are asserted, in order
  *   names ..               a table of variables: names is an arena of bytes, and entry i is the name_len[i] bytes of it from
  *                          name_start[i] on, for node var_node[i], of width var_width[i]
- *   anames ..              a table of arrays, by number; each has an index of width 32 and a value of width 8
+ *   anames ..              a table of arrays, by number; index_width[i] is the width of the index, value_width[i] that of the value
  *   fnames ..              a table of functions, by number; func_width[i] is the width of the result. The argument widths are those
  *                          of the first node that calls the function
  *
  * Accepted: number is ECHO_ACCEPTED, out[0] to out[length - 1] is the script, and every element of out from out[length] on is what it
  * was before the call. The script ends in a line break. No byte 0 is put after it.
  *
- * Refused: number is 1 to 10, length is 0, and all out_len elements of out are 0.
+ * Refused: number is 1 to 10 or 12, length is 0, and all out_len elements of out are 0.
  *
  * An output of out_len 0 is allowed; every script is longer than that, so that a problem is refused by some number then.
  *
@@ -212,6 +217,8 @@ struct echo_answer echo_ext(
     const uint8_t *anames, size_t anames_len,
     const uint64_t *aname_start, size_t aname_start_len,
     const uint64_t *aname_len, size_t aname_len_len,
+    const uint64_t *index_width, size_t index_width_len,
+    const uint64_t *value_width, size_t value_width_len,
     const uint8_t *fnames, size_t fnames_len,
     const uint64_t *fname_start, size_t fname_start_len,
     const uint64_t *fname_len, size_t fname_len_len,
@@ -227,7 +234,7 @@ struct echo_answer echo_ext(
  * operators, each as often as it stands there. A rotation's amount is none; a select is one, with its index and the index and value of
  * each store. Terms other than variables and constants are no more than there are nodes.
  *
- * Refused: number is 1 to 9, which echo_ext answers whatever the output, and length and terms are 0.
+ * Refused: number is 1 to 9 or 12, which echo_ext answers whatever the output, and length and terms are 0.
  *
  * The length is below 2^42 and terms below 2^25, so neither ever wraps. It is as recursive as echo_ext.
  */
@@ -244,20 +251,23 @@ struct size_answer echo_size(
     const uint8_t *anames, size_t anames_len,
     const uint64_t *aname_start, size_t aname_start_len,
     const uint64_t *aname_len, size_t aname_len_len,
+    const uint64_t *index_width, size_t index_width_len,
+    const uint64_t *value_width, size_t value_width_len,
     const uint8_t *fnames, size_t fnames_len,
     const uint64_t *fname_start, size_t fname_start_len,
     const uint64_t *fname_len, size_t fname_len_len,
     const uint64_t *func_width, size_t func_width_len);
 
 /*
- * The width pass alone: tells whether every node is well formed, and how wide each is. A Bool has width 1 here.
+ * The width pass alone: tells whether every node is well formed, and how wide each is. A Bool has width 1 here. index_width and
+ * value_width are those of the array table; a select from an array past their end has an index of width 32 and is 8 wide.
  *
  * Accepted: number is ECHO_ACCEPTED, count is the number of nodes, out[i] is the width of node i for each i below count, and every
  * element of out from out[count] on is what it was before the call.
  *
- * Refused: number is 1, 8, 9 or 10, and all out_len elements of out are 0. With ECHO_MALFORMED count is the number of the first node
- * that is not well formed; with the others count is 0. ECHO_ROOM is answered where out_len is less than the number of nodes, and
- * nothing else is wrong.
+ * Refused: number is 1, 8, 9, 10 or 12, and all out_len elements of out are 0. With ECHO_MALFORMED count is the number of the first
+ * node that is not well formed, or the number of nodes where index_width and value_width differ in length; with the others count is 0.
+ * The order is 9, 8, 1 (columns), 12, 1 (a node), 10.
  *
  * It is not recursive.
  */
@@ -265,6 +275,8 @@ struct width_answer ext_wf(
     const uint8_t *nodes, size_t nodes_len,
     const uint8_t *bits, size_t bits_len,
     const uint64_t *side, size_t side_len,
+    const uint64_t *index_width, size_t index_width_len,
+    const uint64_t *value_width, size_t value_width_len,
     uint64_t *out, size_t out_len);
 
 #ifdef __cplusplus

@@ -34,6 +34,8 @@ pub struct Problem {
     pub anames: Vec<u8>,
     pub aname_start: Vec<u64>,
     pub aname_len: Vec<u64>,
+    pub index_width: Vec<u64>,
+    pub value_width: Vec<u64>,
     pub fnames: Vec<u8>,
     pub fname_start: Vec<u64>,
     pub fname_len: Vec<u64>,
@@ -86,6 +88,9 @@ impl Problem {
         self.aname_start.push(self.anames.len() as u64);
         self.aname_len.push(name.len() as u64);
         self.anames.extend_from_slice(name);
+        // the Rust's widths
+        self.index_width.push(32);
+        self.value_width.push(8);
         self.aname_start.len() as u32 - 1
     }
     pub fn func(&mut self, name: &[u8], width: u32) -> u32 {
@@ -248,17 +253,19 @@ mod port {
         pub fn echo_ext(
             nodes: B, _: L, bits: B, _: L, side: N, _: L, roots: N, _: L,
             names: B, _: L, name_start: N, _: L, name_len: N, _: L, var_node: N, _: L, var_width: N, _: L,
-            anames: B, _: L, aname_start: N, _: L, aname_len: N, _: L,
+            anames: B, _: L, aname_start: N, _: L, aname_len: N, _: L, index_width: N, _: L, value_width: N, _: L,
             fnames: B, _: L, fname_start: N, _: L, fname_len: N, _: L, func_width: N, _: L,
             out: *mut u8, _: L,
         ) -> Answer;
         pub fn echo_size(
             nodes: B, _: L, bits: B, _: L, side: N, _: L, roots: N, _: L,
             names: B, _: L, name_start: N, _: L, name_len: N, _: L, var_node: N, _: L, var_width: N, _: L,
-            anames: B, _: L, aname_start: N, _: L, aname_len: N, _: L,
+            anames: B, _: L, aname_start: N, _: L, aname_len: N, _: L, index_width: N, _: L, value_width: N, _: L,
             fnames: B, _: L, fname_start: N, _: L, fname_len: N, _: L, func_width: N, _: L,
         ) -> Size;
-        pub fn ext_wf(nodes: B, _: L, bits: B, _: L, side: N, _: L, out: *mut u64, _: L) -> Answer;
+        pub fn ext_wf(
+            nodes: B, _: L, bits: B, _: L, side: N, _: L, index_width: N, _: L, value_width: N, _: L, out: *mut u64, _: L,
+        ) -> Answer;
     }
 }
 
@@ -274,6 +281,7 @@ pub fn echo(p: &Problem, out: &mut [u8]) -> Answer {
             p.var_node.as_ptr(), p.var_node.len(), p.var_width.as_ptr(), p.var_width.len(),
             p.anames.as_ptr(), p.anames.len(), p.aname_start.as_ptr(), p.aname_start.len(),
             p.aname_len.as_ptr(), p.aname_len.len(),
+            p.index_width.as_ptr(), p.index_width.len(), p.value_width.as_ptr(), p.value_width.len(),
             p.fnames.as_ptr(), p.fnames.len(), p.fname_start.as_ptr(), p.fname_start.len(),
             p.fname_len.as_ptr(), p.fname_len.len(), p.func_width.as_ptr(), p.func_width.len(),
             out.as_mut_ptr(), out.len(),
@@ -294,6 +302,7 @@ pub fn size(p: &Problem) -> Size {
             p.var_node.as_ptr(), p.var_node.len(), p.var_width.as_ptr(), p.var_width.len(),
             p.anames.as_ptr(), p.anames.len(), p.aname_start.as_ptr(), p.aname_start.len(),
             p.aname_len.as_ptr(), p.aname_len.len(),
+            p.index_width.as_ptr(), p.index_width.len(), p.value_width.as_ptr(), p.value_width.len(),
             p.fnames.as_ptr(), p.fnames.len(), p.fname_start.as_ptr(), p.fname_start.len(),
             p.fname_len.as_ptr(), p.fname_len.len(), p.func_width.as_ptr(), p.func_width.len(),
         )
@@ -307,6 +316,7 @@ pub fn widths(p: &Problem, out: &mut [u64]) -> Answer {
     unsafe {
         port::ext_wf(
             p.nodes.as_ptr(), p.nodes.len(), p.bits.as_ptr(), p.bits.len(), p.side.as_ptr(), p.side.len(),
+            p.index_width.as_ptr(), p.index_width.len(), p.value_width.as_ptr(), p.value_width.len(),
             out.as_mut_ptr(), out.len(),
         )
     }

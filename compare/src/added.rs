@@ -1,5 +1,5 @@
-//! NOT THE RUST'S: the numbers that document 01 adds, and the names that document 02 does. 9 (limits) and 8 (encoding) come before the
-//! Rust is asked, 10 (room) after. A name among the words of SMT-LIB 2.7 is asked of the Rust as a word that the Rust reserves.
+//! NOT THE RUST'S: the numbers that document 01 adds, and the names and the number 12 that document 02 does. 9 (limits), 8 (encoding), 1 of
+//! the columns and 12 (array widths) come before the Rust is asked, 10 (room) after. A name among the words of SMT-LIB 2.7 is asked of the Rust as a word that the Rust reserves.
 //! Written from the documents, not from the port.
 use crate::oracle;
 use crate::problem::{Problem, kind, operand_count};
@@ -20,6 +20,11 @@ fn nodes_within(p: &Problem) -> bool {
     p.nodes.len() <= 34_816 && p.bits.len() <= 131_072 && p.side.len() <= 8_192
 }
 
+/// What the width pass takes.
+fn pass_within(p: &Problem) -> bool {
+    nodes_within(p) && p.index_width.len() <= 512 && p.value_width.len() <= 512
+}
+
 fn within(p: &Problem) -> bool {
     let columns = [
         &p.name_start,
@@ -28,6 +33,8 @@ fn within(p: &Problem) -> bool {
         &p.var_width,
         &p.aname_start,
         &p.aname_len,
+        &p.index_width,
+        &p.value_width,
         &p.fname_start,
         &p.fname_len,
         &p.func_width,
@@ -47,17 +54,36 @@ fn encoded(p: &Problem) -> bool {
         && p.bits.iter().all(|b| *b <= 1)
 }
 
+/// All columns of each table are of one length.
+fn columns(p: &Problem) -> bool {
+    let same = |cs: &[&Vec<u64>]| cs.iter().all(|c| c.len() == cs[0].len());
+    same(&[&p.name_start, &p.name_len, &p.var_node, &p.var_width])
+        && same(&[&p.aname_start, &p.aname_len, &p.index_width, &p.value_width])
+        && same(&[&p.fname_start, &p.fname_len, &p.func_width])
+}
+
+/// Each width of the array table is from 1 to 65,536.
+fn array_widths(p: &Problem) -> bool {
+    p.index_width.iter().chain(&p.value_width).all(|w| (1..=65_536).contains(w))
+}
+
 /// The answer to a problem whose answer with endless room is known.
 pub fn with_room<T>(a: Answer<T>, room: usize) -> Answer<T> {
     if a.number == 0 && a.result.len() > room { refused(10, 0) } else { a }
 }
 
 pub fn width_answer(p: &Problem, room: usize) -> Answer<u64> {
-    if !nodes_within(p) {
+    if !pass_within(p) {
         return refused(9, 0);
     }
     if !encoded(p) {
         return refused(8, 0);
+    }
+    if p.index_width.len() != p.value_width.len() {
+        return refused(1, p.count());
+    }
+    if !array_widths(p) {
+        return refused(12, 0);
     }
     match oracle::widths(p) {
         Err(node) => refused(1, node),
@@ -104,6 +130,12 @@ pub fn print_answer(p: &Problem, room: usize) -> Answer<u8> {
     if !encoded(p) {
         return refused(8, 0);
     }
+    if !columns(p) {
+        return refused(1, 0);
+    }
+    if !array_widths(p) {
+        return refused(12, 0);
+    }
     match script(p) {
         Err(number) => refused(number, 0),
         Ok(s) => with_room(Answer { number: 0, count: s.len(), result: s }, room),
@@ -112,7 +144,7 @@ pub fn print_answer(p: &Problem, room: usize) -> Answer<u8> {
 
 /// How long the script is, if the problem is accepted with endless room.
 pub fn script_len(p: &Problem) -> Option<usize> {
-    if !within(p) || !encoded(p) {
+    if !within(p) || !encoded(p) || !columns(p) || !array_widths(p) {
         return None;
     }
     script(p).ok().map(|s| s.len())

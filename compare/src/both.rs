@@ -113,16 +113,27 @@ fn node_widths() -> Check {
         })
 }
 
+fn array_widths() -> Check {
+    check("12")
+        .finds(12, "index of width 0", |p| p.array_of(b"~a", 0, 8))
+        .finds(12, "value of width 0", |p| p.array_of(b"~b", 32, 0))
+        .finds(12, "index of width 65,537", |p| p.array_of(b"~c", 65_537, 8))
+        .finds(12, "value of a width over 32 bits", |p| p.array_of(b"~d", 32, (1 << 32) + 8))
+}
+
 fn before_the_walk() -> Vec<Check> {
     vec![
         more_limits(limits()),
         encodings(),
-        node_widths(),
         check("1 of columns")
             .finds_last(1, "lengths of names", |p| p.name_len.push(1))
             .finds_last(1, "variables' nodes", |p| p.var_node.push(0))
             .finds_last(1, "lengths of array names", |p| p.aname_len.push(1))
+            .finds_last(1, "index widths", |p| p.index_width.push(32))
+            .finds_last(1, "value widths", |p| p.value_width.push(8))
             .finds_last(1, "functions' widths", |p| p.func_width.push(8)),
+        array_widths(),
+        node_widths(),
         check("2")
             .finds(2, "variable's name", |p| named(p, 0, b"@"))
             .finds(2, "array's name", |p| named(p, 1, b"let"))
@@ -483,7 +494,8 @@ fn calls(add: &mut impl FnMut(&str, Problem, Room, u32)) {
 
 fn operands(add: &mut impl FnMut(&str, Problem, Room, u32)) {
     let any = ordered(&[1, 3, 4, 5, 7]);
-    let twos: Vec<u8> = (0..kind::COUNT).filter(|k| is_same_width(*k) && *k != kind::ROTR && *k != kind::ROTL).chain([kind::CONCAT]).collect();
+    let twos: Vec<u8> =
+        (0..kind::COUNT).filter(|k| is_same_width(*k) && *k != kind::ROTR && *k != kind::ROTL).chain([kind::CONCAT]).collect();
     for (j, k) in twos.into_iter().enumerate() {
         for t in 0..4 {
             let (x, y) = any[(4 * j + 5 * t) % any.len()];
@@ -491,7 +503,11 @@ fn operands(add: &mut impl FnMut(&str, Problem, Room, u32)) {
                 let a = term(p, x, 1);
                 let b = term(p, y, 1);
                 let n = p.node(k, &[a, b]);
-                if (kind::EQ..=kind::SGE).contains(&k) { root(p, n) } else { compared(p, n, if k == kind::CONCAT { 2 } else { 1 }) }
+                if (kind::EQ..=kind::SGE).contains(&k) {
+                    root(p, n)
+                } else {
+                    compared(p, n, if k == kind::CONCAT { 2 } else { 1 })
+                }
             });
         }
     }
@@ -515,7 +531,15 @@ fn operands(add: &mut impl FnMut(&str, Problem, Room, u32)) {
                 continue;
             }
             two(add, &format!("operand {first} of an ite before operand {second}"), x, y, move |p, x, y| {
-                let of = |place| if place == first { x } else if place == second { y } else { 0 };
+                let of = |place| {
+                    if place == first {
+                        x
+                    } else if place == second {
+                        y
+                    } else {
+                        0
+                    }
+                };
                 let c = formula_of(p, of(0));
                 let a = term(p, of(1), 1);
                 let b = term(p, of(2), 1);
@@ -525,7 +549,21 @@ fn operands(add: &mut impl FnMut(&str, Problem, Room, u32)) {
         }
         for (first, second) in [(0, 1), (0, 2), (1, 2)] {
             two(add, &format!("argument {first} of a call before argument {second}"), x, y, move |p, x, y| {
-                let args: Vec<u32> = (0..3).map(|j| term(p, if j == first { x } else if j == second { y } else { 0 }, 1)).collect();
+                let args: Vec<u32> = (0..3)
+                    .map(|j| {
+                        term(
+                            p,
+                            if j == first {
+                                x
+                            } else if j == second {
+                                y
+                            } else {
+                                0
+                            },
+                            1,
+                        )
+                    })
+                    .collect();
                 reached_call(p, &args, &[]);
             });
         }
@@ -574,7 +612,11 @@ pub fn of_widths() -> Vec<widths::Case> {
         p.node(kind::NEG, &[v]);
         p
     };
-    let checks = [limits(), encodings(), node_widths()];
+    let uneven =
+        check("1 of columns")
+            .finds_last(1, "index widths", |p| p.index_width.push(32))
+            .finds_last(1, "value widths", |p| p.value_width.push(0));
+    let checks = [limits(), encodings(), uneven, array_widths(), node_widths()];
     for f in checks.iter().flat_map(|c| &c.faults) {
         let p = with(grown(), &[f]);
         assert!(width_answer(&p, p.count()).number == f.number, "alone it is another number: {}", f.what);

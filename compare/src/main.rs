@@ -1,6 +1,7 @@
 //! Makes the recorded lists: `record widths OUT`, `record printer OUT` and `record sizes OUT`. The problems follow from a seed; the answers
-//! are the Rust's (oracle.rs), with the three numbers that document 01 adds around it (added.rs). Sizes are those of the Rust's scripts.
+//! are the Rust's (oracle.rs), with what documents 01 and 02 add around it (added.rs). Sizes are those of the Rust's scripts.
 mod added;
+mod arrays;
 mod both;
 mod list;
 mod oracle;
@@ -58,9 +59,9 @@ fn finish(list: &list::List, tally: &Tally, out: &str, long: bool) {
 const FILL: u64 = 0xAAAA_AAAA_AAAA_AAAA;
 
 fn record_widths(out: &str, long: bool) {
-    let mut list = list::List::new(b"WIDTHS 1");
+    let mut list = list::List::new(b"WIDTHS 2");
     let mut tally = Tally::default();
-    for c in widths::all() {
+    for c in widths::all().into_iter().chain(arrays::of_widths()) {
         let a = added::width_answer(&c.problem, c.room);
         assert!(!a.result.contains(&FILL), "a width is the number that the replay fills with");
         tally.note(&c.label, c.want, a.number);
@@ -82,10 +83,10 @@ fn check_added_words() {
 
 fn record_printer(out: &str, long: bool) {
     check_added_words();
-    let mut list = list::List::new(b"PRINTER1");
+    let mut list = list::List::new(b"PRINTER2");
     let mut tally = Tally::default();
     let mut accepted = 0;
-    for c in printer::all() {
+    for c in printer::all().into_iter().chain(arrays::of_printer()) {
         let len = added::script_len(&c.problem).unwrap_or(64);
         let room = match c.room {
             printer::Room::Exact => len,
@@ -105,10 +106,10 @@ fn record_printer(out: &str, long: bool) {
 
 /// The printer's problems, each once: those that are accepted where there is room, and of the others every fifth.
 fn record_sizes(out: &str, long: bool) {
-    let mut list = list::List::new(b"SIZES  1");
+    let mut list = list::List::new(b"SIZES  2");
     let mut tally = Tally::default();
     let (mut seen, mut refused, mut most) = (HashSet::new(), 0, 0);
-    for c in printer::all() {
+    for c in printer::all().into_iter().chain(arrays::of_printer()) {
         let a = added::print_answer(&c.problem, usize::MAX);
         if !seen.insert(list::of_size(&c.problem, &a, 0)) {
             continue;

@@ -177,8 +177,10 @@ fn column(p: &mut Problem, c: usize) -> &mut Vec<u64> {
         3 => &mut p.var_width,
         4 => &mut p.aname_start,
         5 => &mut p.aname_len,
-        6 => &mut p.fname_start,
-        7 => &mut p.fname_len,
+        6 => &mut p.index_width,
+        7 => &mut p.value_width,
+        8 => &mut p.fname_start,
+        9 => &mut p.fname_len,
         _ => &mut p.func_width,
     }
 }
@@ -186,7 +188,7 @@ fn column(p: &mut Problem, c: usize) -> &mut Vec<u64> {
 // ---------------------------------------------------------------- defects
 
 /// Something that an accepted problem is refused for. It can be added to any problem, and adds nothing else that is refused.
-/// `phase` is its place in the order of document 01.
+/// `phase` is its place in the order of documents 01 and 02.
 pub struct Defect {
     clause: String,
     phase: u8,
@@ -196,13 +198,14 @@ pub struct Defect {
 
 const LIMIT: u8 = 0;
 const ENCODING: u8 = 1;
-const WIDTHS: u8 = 2;
-const COLUMNS: u8 = 3;
-const NAMES: u8 = 4;
-const SHARING: u8 = 5;
-const VARIABLES: u8 = 6;
-const FUNCTIONS: u8 = 7;
-const WALK: u8 = 8;
+const COLUMNS: u8 = 2;
+const ARRAYS: u8 = 3;
+const WIDTHS: u8 = 4;
+const NAMES: u8 = 5;
+const SHARING: u8 = 6;
+const VARIABLES: u8 = 7;
+const FUNCTIONS: u8 = 8;
+const WALK: u8 = 9;
 
 type Defects = Vec<Defect>;
 
@@ -242,14 +245,14 @@ fn encoding(ds: &mut Defects) {
 }
 
 fn columns(ds: &mut Defects) {
-    for c in 0..9 {
+    for c in 0..11 {
         put(ds, COLUMNS, 1, "columns: one is longer", move |p| column(p, c).push(0));
         put(ds, COLUMNS, 1, "columns: one is shorter", move |p| {
-            named(p, [0, 0, 0, 0, 1, 1, 2, 2, 2][c], b"~short");
+            named(p, [0, 0, 0, 0, 1, 1, 1, 1, 2, 2, 2][c], b"~short");
             column(p, c).pop();
         });
         put(ds, COLUMNS, 1, "columns: one is empty", move |p| {
-            named(p, [0, 0, 0, 0, 1, 1, 2, 2, 2][c], b"~short");
+            named(p, [0, 0, 0, 0, 1, 1, 1, 1, 2, 2, 2][c], b"~short");
             column(p, c).clear();
         });
     }
@@ -841,6 +844,10 @@ fn for_pairs() -> Defects {
         p.node(kind::VAR, &[0]);
     });
     put(&mut ds, COLUMNS, 1, "column", |p| p.func_width.push(8));
+    put(&mut ds, ARRAYS, 12, "array's width", |p| {
+        let n = fresh(p);
+        p.array_of(&n, 24, 0);
+    });
     put(&mut ds, NAMES, 2, "variable's name", |p| named(p, 0, b"@"));
     put(&mut ds, NAMES, 2, "function's name", |p| named(p, 2, b"let"));
     put(&mut ds, SHARING, 6, "shared", |p| {
@@ -1297,11 +1304,11 @@ fn limits(rng: &mut Rng, add: &mut impl FnMut(&str, Problem, Room, Option<u32>))
         if turn >= 4 {
             continue;
         }
-        for c in 0..9 {
+        for c in 0..11 {
             over("a column", &|p| column(p, c).resize(513, 0));
         }
         over("all columns", &|p| {
-            for c in 0..9 {
+            for c in 0..11 {
                 column(p, c).resize(513, 0);
             }
         });
@@ -1511,7 +1518,7 @@ fn extremes(add: &mut impl FnMut(&str, Problem, Room, Option<u32>)) {
             for place in 0..2 {
                 let mut p = Problem::default();
                 named(&mut p, t, b"aa");
-                let c = [0, 4, 6][t] + place;
+                let c = [0, 4, 8][t] + place;
                 column(&mut p, c)[0] = x;
                 // a start of 0 is where the name is; a length of 0 is refused
                 let want = if x == 0 && place == 0 { 0 } else { 2 };
@@ -1711,7 +1718,7 @@ fn change(p: &mut Problem, rng: &mut Rng) {
             }
         }
         _ => {
-            let c = rng.below(9) as usize;
+            let c = rng.below(11) as usize;
             let col = column(p, c);
             if !col.is_empty() {
                 let i = rng.below(col.len() as u64) as usize;

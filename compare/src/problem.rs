@@ -1,4 +1,4 @@
-//! A problem as it is lent to the two entry points: the sixteen inputs, as bytes and 64-bit numbers.
+//! A problem as it is lent to the entry points: the eighteen inputs, as bytes and 64-bit numbers.
 
 #[derive(Clone, Default)]
 pub struct Problem {
@@ -14,6 +14,8 @@ pub struct Problem {
     pub anames: Vec<u8>,
     pub aname_start: Vec<u64>,
     pub aname_len: Vec<u64>,
+    pub index_width: Vec<u64>,
+    pub value_width: Vec<u64>,
     pub fnames: Vec<u8>,
     pub fname_start: Vec<u64>,
     pub fname_len: Vec<u64>,
@@ -111,10 +113,16 @@ impl Problem {
         self.var_node.push(node);
         self.var_width.push(width);
     }
+    /// Of the Rust's widths.
     pub fn array_entry(&mut self, name: &[u8]) {
+        self.array_of(name, 32, 8);
+    }
+    pub fn array_of(&mut self, name: &[u8], index: u64, value: u64) {
         self.aname_start.push(self.anames.len() as u64);
         self.aname_len.push(name.len() as u64);
         self.anames.extend_from_slice(name);
+        self.index_width.push(index);
+        self.value_width.push(value);
     }
     pub fn func_entry(&mut self, name: &[u8], width: u64) {
         self.fname_start.push(self.fnames.len() as u64);

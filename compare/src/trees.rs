@@ -11,6 +11,8 @@ pub struct Grower<'r> {
     funcs: Vec<(Vec<u64>, u64)>,
     /// bit strings that a constant can be given again
     consts: Vec<(u32, u64)>,
+    /// arrays have any widths
+    by_table: bool,
 }
 
 const LETTERS: &[u8] = b"abcdefghijklmnopqrstuvwxyzABCDEFGHIJKLMNOPQRSTUVWXYZ";
@@ -18,7 +20,7 @@ const OTHERS: &[u8] = b"0123456789 !\"#$%&'()*+,-./:;<=>?@[]^_`{}";
 
 impl<'r> Grower<'r> {
     pub fn new(rng: &'r mut Rng) -> Grower<'r> {
-        Grower { p: Problem::default(), rng, vars: vec![], funcs: vec![], consts: vec![] }
+        Grower { p: Problem::default(), rng, vars: vec![], funcs: vec![], consts: vec![], by_table: false }
     }
 
     /// A name that no table has yet: its last bytes are a number of its own.
@@ -111,7 +113,7 @@ impl<'r> Grower<'r> {
                 let b = self.vector(w, d);
                 self.p.node(kind::ITE, &[c, a, b])
             }
-            6 if w == 8 => self.select(d),
+            6 if w == 8 || self.by_table => self.select(w, d),
             7 => self.call(w, d),
             _ => {
                 let a = self.vector(w, d);
@@ -123,22 +125,25 @@ impl<'r> Grower<'r> {
         }
     }
 
-    fn select(&mut self, d: u32) -> u32 {
+    fn select(&mut self, w: u64, d: u32) -> u32 {
         let arrays = self.p.aname_start.len() as u64;
-        let array = if arrays == 0 || self.rng.one_in(4) {
+        let fits: Vec<u64> = (0..arrays).filter(|a| self.p.value_width[*a as usize] == w).collect();
+        let array = if fits.is_empty() || self.rng.one_in(4) {
             let name = self.name();
-            self.p.array_entry(&name);
+            let index = if self.by_table { self.rng.pick(&[1, 2, 8, 16, 24, 31, 32, 33, 64]) } else { 32 };
+            self.p.array_of(&name, index, w);
             arrays
         } else {
-            self.rng.below(arrays)
+            fits[self.rng.below(fits.len() as u64) as usize]
         };
+        let index = self.p.index_width[array as usize];
         let n = self.rng.below(4);
         let mut pairs = vec![];
         for _ in 0..n {
-            pairs.push(self.vector(32, d) as u64);
-            pairs.push(self.vector(8, d) as u64);
+            pairs.push(self.vector(index, d) as u64);
+            pairs.push(self.vector(w, d) as u64);
         }
-        let i = self.vector(32, d);
+        let i = self.vector(index, d);
         let s = self.place_side(&pairs);
         self.p.node(kind::SELECT, &[array as u32, i, s, n as u32])
     }
@@ -198,7 +203,17 @@ impl<'r> Grower<'r> {
 
 /// An accepted problem with so many roots, each so deep; some nodes besides are reached from no root.
 pub fn accepted(rng: &mut Rng, roots: u64, depth: u32) -> Problem {
+    grown(Grower::new(rng), roots, depth)
+}
+
+/// The same with arrays of any widths.
+pub fn accepted_by_table(rng: &mut Rng, roots: u64, depth: u32) -> Problem {
     let mut g = Grower::new(rng);
+    g.by_table = true;
+    grown(g, roots, depth)
+}
+
+fn grown(mut g: Grower, roots: u64, depth: u32) -> Problem {
     for _ in 0..roots {
         let r = g.formula(depth);
         g.p.roots.push(r as u64);

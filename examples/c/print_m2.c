@@ -48,8 +48,8 @@ int main(void)
         no_numbers, 0, /* side */
         roots, 1,
         names, 1, name_start, 1, name_len, 1, var_node, 1, var_width, 1,
-        no_bytes, 0, no_numbers, 0, no_numbers, 0,                 /* arrays */
-        no_bytes, 0, no_numbers, 0, no_numbers, 0, no_numbers, 0); /* functions */
+        no_bytes, 0, no_numbers, 0, no_numbers, 0, no_numbers, 0, no_numbers, 0, /* arrays */
+        no_bytes, 0, no_numbers, 0, no_numbers, 0, no_numbers, 0);               /* functions */
     if (size.number != ECHO_ACCEPTED) {
         fprintf(stderr, "M2 is refused with %llu\n", (unsigned long long)size.number);
         return 1;
@@ -66,8 +66,8 @@ int main(void)
         no_numbers, 0, /* side */
         roots, 1,
         names, 1, name_start, 1, name_len, 1, var_node, 1, var_width, 1,
-        no_bytes, 0, no_numbers, 0, no_numbers, 0,                /* arrays */
-        no_bytes, 0, no_numbers, 0, no_numbers, 0, no_numbers, 0, /* functions */
+        no_bytes, 0, no_numbers, 0, no_numbers, 0, no_numbers, 0, no_numbers, 0, /* arrays */
+        no_bytes, 0, no_numbers, 0, no_numbers, 0, no_numbers, 0,                /* functions */
         out, room);
 
     printf("M2 %llu %llu %llu\n", (unsigned long long)answer.number, (unsigned long long)answer.length, (unsigned long long)size.terms);

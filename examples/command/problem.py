@@ -7,7 +7,7 @@
       "bits":   a list of 0 and 1
       "side", "roots": lists of numbers
       "vars":   a list of [name, node, width]
-      "arrays": a list of names
+      "arrays": a list of [name, index width, value width]
       "funcs":  a list of [name, width]
     What is left out is empty.
 """
@@ -16,13 +16,13 @@ import struct
 import sys
 
 INPUTS = ['nodes', 'bits', 'side', 'roots', 'names', 'name_start', 'name_len', 'var_node', 'var_width',
-          'anames', 'aname_start', 'aname_len', 'fnames', 'fname_start', 'fname_len', 'func_width']
-SIZES = [1, 1, 8, 8, 1, 8, 8, 8, 8, 1, 8, 8, 1, 8, 8, 8]
-LIMITS = [34816, 131072, 8192, 256, 16384, 512, 512, 512, 512, 16384, 512, 512, 16384, 512, 512, 512]
+          'anames', 'aname_start', 'aname_len', 'index_width', 'value_width', 'fnames', 'fname_start', 'fname_len', 'func_width']
+SIZES = [1, 1, 8, 8, 1, 8, 8, 8, 8, 1, 8, 8, 8, 8, 1, 8, 8, 8]
+LIMITS = [34816, 131072, 8192, 256, 16384, 512, 512, 512, 512, 16384, 512, 512, 512, 512, 16384, 512, 512, 512]
 
 
 def layout(inputs):
-    """The sixteen inputs, lists of numbers, as bytes."""
+    """The eighteen inputs, lists of numbers, as bytes."""
     parts = []
     for elements, size in zip(inputs, SIZES):
         parts.append(struct.pack('<Q', len(elements)))
@@ -47,10 +47,11 @@ def table(names):
 def problem(p):
     vs, arrays, funcs = p.get('vars', []), p.get('arrays', []), p.get('funcs', [])
     names, ns, nl = table([v[0] for v in vs])
-    anames, as_, al = table(arrays)
+    anames, as_, al = table([a[0] for a in arrays])
     fnames, fs, fl = table([f[0] for f in funcs])
     return [sum((record(*r) for r in p.get('nodes', [])), []), p.get('bits', []), p.get('side', []), p.get('roots', []),
-            names, ns, nl, [v[1] for v in vs], [v[2] for v in vs], anames, as_, al, fnames, fs, fl, [f[1] for f in funcs]]
+            names, ns, nl, [v[1] for v in vs], [v[2] for v in vs], anames, as_, al, [a[1] for a in arrays],
+            [a[2] for a in arrays], fnames, fs, fl, [f[1] for f in funcs]]
 
 
 def bits(n, width):

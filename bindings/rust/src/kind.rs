@@ -86,8 +86,9 @@ kinds! {
     SDIV = 35;
     /// `a`, `b`: the signed remainder, with the sign of `a` (`bvsrem`).
     SREM = 36;
-    /// The number of an array, `a`, a place in `side` and a count n: what the array has at the index `a`, of width 32, after n stores
-    /// (`select`, `store`). The stores are n pairs of an index of width 32 and a value of width 8 in `side`, the first the outermost.
+    /// The number of an array, `a`, a place in `side` and a count n: what the array has at the index `a` after n stores (`select`,
+    /// `store`). The stores are n pairs of an index and a value in `side`, the first the outermost. Indices and values are as wide as the
+    /// array's `index_width` and `value_width`.
     SELECT = 37;
     /// The number of a function, the width of the result, a place in `side` and a count n: a call with the n arguments there.
     CALL = 38;

@@ -67,12 +67,14 @@ pub const MAX_SIDE_LEN: usize = 8_192;
 /// The most elements of [`Problem::roots`].
 pub const MAX_ROOTS_LEN: usize = 256;
 /// The most elements of any table column: `name_start`, `name_len`, `var_node`, `var_width`, `aname_start`, `aname_len`,
-/// `fname_start`, `fname_len`, `func_width`.
+/// `index_width`, `value_width`, `fname_start`, `fname_len`, `func_width`.
 pub const MAX_COLUMN_LEN: usize = 512;
 /// The most bytes of any arena: `names`, `anames`, `fnames`.
 pub const MAX_ARENA_LEN: usize = 16_384;
+/// The widest index and the widest value of an array.
+pub const MAX_ARRAY_WIDTH: u64 = 65_536;
 
-/// A problem: sixteen slices, which are only read. The default is the empty problem, of which every slice is empty.
+/// A problem: eighteen slices, which are only read. The default is the empty problem, of which every slice is empty.
 ///
 /// The three tables have columns of one length each. Entry `i` of a table has the name `arena[start[i]..start[i] + len[i]]`. Names are
 /// printable ASCII other than `|` and `\`, not empty, and all different, over the tables too. The first byte is no `@` and no `.`, and the
@@ -97,12 +99,16 @@ pub struct Problem<'a> {
     pub var_node: &'a [u64],
     /// For each variable, its width, which is its node's.
     pub var_width: &'a [u64],
-    /// The arena of the arrays' names. An array has an index of width 32 and a value of width 8.
+    /// The arena of the arrays' names.
     pub anames: &'a [u8],
     /// For each array, where its name starts in the arena.
     pub aname_start: &'a [u64],
     /// For each array, how long its name is.
     pub aname_len: &'a [u64],
+    /// For each array, the width of its index: from 1 to [`MAX_ARRAY_WIDTH`].
+    pub index_width: &'a [u64],
+    /// For each array, the width of its value, and so of a select from it: from 1 to [`MAX_ARRAY_WIDTH`].
+    pub value_width: &'a [u64],
     /// The arena of the functions' names. A function's argument widths are those of the first node that calls it.
     pub fnames: &'a [u8],
     /// For each function, where its name starts in the arena.
@@ -198,21 +204,36 @@ pub fn echo_size(problem: &Problem<'_>) -> Result<Size, Refusal> {
 /// On `Ok(count)` the width of node `i` is `out[i]` for each `i` below `count`, and `out[count..]` is what it was; a Bool has width 1. On
 /// `Err` every element of `out` is 0.
 ///
+/// `index_width` and `value_width` are those of the array table. A select from an array past their end has an index of width 32 and is
+/// 8 wide.
+///
 /// ```
 /// use smt_echo::{WidthRefusal, ext_wf, kind, node};
 ///
 /// let nodes = [node(kind::VAR, [8, 0, 0, 0]), node(kind::CONCAT, [0, 0, 0, 0])].concat();
 /// let mut widths = [7; 3];
-/// assert_eq!(ext_wf(&nodes, &[], &[], &mut widths), Ok(2));
+/// assert_eq!(ext_wf(&nodes, &[], &[], &[], &[], &mut widths), Ok(2));
 /// assert_eq!(widths, [8, 16, 7]);
 ///
 /// // Node 1 negates a bit-vector of width 8 as if it were Bool.
 /// let nodes = [node(kind::VAR, [8, 0, 0, 0]), node(kind::NOT, [0, 0, 0, 0])].concat();
-/// assert_eq!(ext_wf(&nodes, &[], &[], &mut widths), Err(WidthRefusal::Malformed { node: 1 }));
+/// assert_eq!(ext_wf(&nodes, &[], &[], &[], &[], &mut widths), Err(WidthRefusal::Malformed { node: 1 }));
 /// assert_eq!(widths, [0, 0, 0]);
+///
+/// // Node 1 selects from an array of 24-bit addresses and 16-bit words.
+/// let nodes = [node(kind::VAR, [24, 0, 0, 0]), node(kind::SELECT, [0, 0, 0, 0])].concat();
+/// assert_eq!(ext_wf(&nodes, &[], &[], &[24], &[16], &mut widths), Ok(2));
+/// assert_eq!(widths[..2], [24, 16]);
 /// ```
-pub fn ext_wf(nodes: &[u8], bits: &[u8], side: &[u64], out: &mut [u64]) -> Result<usize, WidthRefusal> {
-    let answer = raw::ext_wf(nodes, bits, side, out);
+pub fn ext_wf(
+    nodes: &[u8],
+    bits: &[u8],
+    side: &[u64],
+    index_width: &[u64],
+    value_width: &[u64],
+    out: &mut [u64],
+) -> Result<usize, WidthRefusal> {
+    let answer = raw::ext_wf(nodes, bits, side, index_width, value_width, out);
     match answer.number {
         0 => Ok(answer.count as usize),
         n => Err(refusal::of_width_number(n, answer.count as usize)),

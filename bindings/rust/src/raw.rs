@@ -60,6 +60,10 @@ mod c {
             aname_start_len: usize,
             aname_len: *const u64,
             aname_len_len: usize,
+            index_width: *const u64,
+            index_width_len: usize,
+            value_width: *const u64,
+            value_width_len: usize,
             fnames: *const u8,
             fnames_len: usize,
             fname_start: *const u64,
@@ -97,6 +101,10 @@ mod c {
             aname_start_len: usize,
             aname_len: *const u64,
             aname_len_len: usize,
+            index_width: *const u64,
+            index_width_len: usize,
+            value_width: *const u64,
+            value_width_len: usize,
             fnames: *const u8,
             fnames_len: usize,
             fname_start: *const u64,
@@ -114,6 +122,10 @@ mod c {
             bits_len: usize,
             side: *const u64,
             side_len: usize,
+            index_width: *const u64,
+            index_width_len: usize,
+            value_width: *const u64,
+            value_width_len: usize,
             out: *mut u64,
             out_len: usize,
         ) -> WidthAnswer;
@@ -148,6 +160,10 @@ pub fn echo_ext(p: &Problem<'_>, out: &mut [u8]) -> EchoAnswer {
             p.aname_start.len(),
             p.aname_len.as_ptr(),
             p.aname_len.len(),
+            p.index_width.as_ptr(),
+            p.index_width.len(),
+            p.value_width.as_ptr(),
+            p.value_width.len(),
             p.fnames.as_ptr(),
             p.fnames.len(),
             p.fname_start.as_ptr(),
@@ -190,6 +206,10 @@ pub fn echo_size(p: &Problem<'_>) -> SizeAnswer {
             p.aname_start.len(),
             p.aname_len.as_ptr(),
             p.aname_len.len(),
+            p.index_width.as_ptr(),
+            p.index_width.len(),
+            p.value_width.as_ptr(),
+            p.value_width.len(),
             p.fnames.as_ptr(),
             p.fnames.len(),
             p.fname_start.as_ptr(),
@@ -202,9 +222,22 @@ pub fn echo_size(p: &Problem<'_>) -> SizeAnswer {
     }
 }
 
-pub fn ext_wf(nodes: &[u8], bits: &[u8], side: &[u64], out: &mut [u64]) -> WidthAnswer {
+pub fn ext_wf(nodes: &[u8], bits: &[u8], side: &[u64], index_width: &[u64], value_width: &[u64], out: &mut [u64]) -> WidthAnswer {
     // SAFETY: the list at the top.
     unsafe {
-        c::ext_wf(nodes.as_ptr(), nodes.len(), bits.as_ptr(), bits.len(), side.as_ptr(), side.len(), out.as_mut_ptr(), out.len())
+        c::ext_wf(
+            nodes.as_ptr(),
+            nodes.len(),
+            bits.as_ptr(),
+            bits.len(),
+            side.as_ptr(),
+            side.len(),
+            index_width.as_ptr(),
+            index_width.len(),
+            value_width.as_ptr(),
+            value_width.len(),
+            out.as_mut_ptr(),
+            out.len(),
+        )
     }
 }

@@ -5,8 +5,8 @@ use std::fmt;
 
 /// Why [`echo_ext`](crate::echo_ext) and [`echo_size`](crate::echo_size) refuse a problem.
 ///
-/// If several things are wrong the order is: `Limit`, `Encoding`, `Malformed` (nodes, columns), `Name`, `Shared`, `Var` and `Signature`
-/// (declarations), then what the walk over the roots meets first, and `Room` last.
+/// If several things are wrong the order is: `Limit`, `Encoding`, `Malformed` (columns), `ArrayWidth`, `Malformed` (nodes), `Name`, `Shared`,
+/// `Var` and `Signature` (declarations), then what the walk over the roots meets first, and `Room` last.
 ///
 /// ```
 /// use smt_echo::Refusal;
@@ -40,11 +40,13 @@ pub enum Refusal {
     /// 10: the script is longer than the buffer, and nothing else is wrong. [`echo_size`](crate::echo_size) tells the length to set aside,
     /// and never answers this.
     Room,
+    /// 12: a width in the array table is 0 or above 65,536, whether a node names the array or not.
+    ArrayWidth = 12,
 }
 
 impl Refusal {
-    /// All of them, by number from 1 to 10.
-    pub const ALL: [Refusal; 10] = [
+    /// All of them, by number: 1 to 10, and 12.
+    pub const ALL: [Refusal; 11] = [
         Refusal::Malformed,
         Refusal::Name,
         Refusal::Sort,
@@ -55,9 +57,10 @@ impl Refusal {
         Refusal::Encoding,
         Refusal::Limit,
         Refusal::Room,
+        Refusal::ArrayWidth,
     ];
 
-    /// Its number, from 1 to 10.
+    /// Its number: 1 to 10, or 12.
     pub const fn number(self) -> u64 {
         self as u64
     }
@@ -100,6 +103,7 @@ impl fmt::Display for Refusal {
                  16,384 bytes an arena"
             }
             Refusal::Room => "the script is longer than the buffer, and nothing else is wrong: call again with a longer one",
+            Refusal::ArrayWidth => ARRAY_WIDTH,
         };
         write!(f, "{} {self:?}: {text}", self.number())
     }
@@ -107,12 +111,13 @@ impl fmt::Display for Refusal {
 
 impl Error for Refusal {}
 
-/// Why [`ext_wf`](crate::ext_wf) refuses nodes. If several things are wrong the order is `Limit`, `Encoding`, `Malformed`, `Room`.
+/// Why [`ext_wf`](crate::ext_wf) refuses nodes. If several things are wrong the order is `Limit`, `Encoding`,
+/// `Malformed` (columns), `ArrayWidth`, `Malformed` (a node), `Room`.
 #[derive(Clone, Copy, Debug, PartialEq, Eq, Hash)]
 pub enum WidthRefusal {
-    /// 1: a node is not well formed.
+    /// 1: a node is not well formed, or the two columns of the array table differ in length.
     Malformed {
-        /// The first such node.
+        /// The first such node, or the number of nodes where the columns differ.
         node: usize,
     },
     /// 8: the last record is cut short, a kind is above 38, an operand that the kind does not have is not 0, or a bit is neither 0 nor 1.
@@ -121,16 +126,19 @@ pub enum WidthRefusal {
     Limit,
     /// 10: there are more nodes than the slice for the widths has elements, and nothing else is wrong.
     Room,
+    /// 12: a width in the array table is 0 or above 65,536, whether a node names the array or not.
+    ArrayWidth,
 }
 
 impl WidthRefusal {
-    /// Its number: 1, 8, 9 or 10.
+    /// Its number: 1, 8, 9, 10 or 12.
     pub const fn number(self) -> u64 {
         match self {
             WidthRefusal::Malformed { .. } => 1,
             WidthRefusal::Encoding => 8,
             WidthRefusal::Limit => 9,
             WidthRefusal::Room => 10,
+            WidthRefusal::ArrayWidth => 12,
         }
     }
 }
@@ -141,12 +149,16 @@ impl fmt::Display for WidthRefusal {
             WidthRefusal::Malformed { node } => write!(
                 f,
                 "1 Malformed: node {node} is not well formed: look at its operands (earlier nodes only), their widths, and the bits or \
-                 side entries that it reads"
+                 side entries that it reads; or, where {node} is the number of nodes, index_width and value_width differ in length"
             ),
             WidthRefusal::Encoding => write!(f, "8 Encoding: {ENCODING}"),
             WidthRefusal::Limit => {
-                write!(f, "9 Limit: a slice is over its limit: 34,816 node bytes, 131,072 bits, 8,192 side entries")
+                write!(
+                    f,
+                    "9 Limit: a slice is over its limit: 34,816 node bytes, 131,072 bits, 8,192 side entries, 512 array widths"
+                )
             }
+            WidthRefusal::ArrayWidth => write!(f, "12 ArrayWidth: {ARRAY_WIDTH}"),
             WidthRefusal::Room => {
                 write!(
                     f,
@@ -162,6 +174,8 @@ impl Error for WidthRefusal {}
 const ENCODING: &str = "the length of nodes is no multiple of 17, a kind is above 38, an operand that its kind does not have is not 0, \
                         or an element of bits is neither 0 nor 1";
 
+const ARRAY_WIDTH: &str = "an element of index_width or value_width is 0 or above 65,536, whether a node names the array or not";
+
 /// The refusal of a number that the printer answered.
 pub(crate) fn of_number(n: u64) -> Refusal {
     match n {
@@ -175,6 +189,7 @@ pub(crate) fn of_number(n: u64) -> Refusal {
         8 => Refusal::Encoding,
         9 => Refusal::Limit,
         10 => Refusal::Room,
+        12 => Refusal::ArrayWidth,
         n => unreachable!("echo_ext answered {n}, which its contract rules out"),
     }
 }
@@ -186,6 +201,7 @@ pub(crate) fn of_width_number(n: u64, count: usize) -> WidthRefusal {
         8 => WidthRefusal::Encoding,
         9 => WidthRefusal::Limit,
         10 => WidthRefusal::Room,
+        12 => WidthRefusal::ArrayWidth,
         n => unreachable!("ext_wf answered {n}, which its contract rules out"),
     }
 }

@@ -31,12 +31,15 @@ fn limits_numbers_and_kinds() {
         ("ECHO_MAX_ROOTS_LEN", MAX_ROOTS_LEN),
         ("ECHO_MAX_COLUMN_LEN", MAX_COLUMN_LEN),
         ("ECHO_MAX_ARENA_LEN", MAX_ARENA_LEN),
+        ("ECHO_MAX_ARRAY_WIDTH", MAX_ARRAY_WIDTH as usize),
         ("ECHO_ACCEPTED", 0),
     ] {
         here.insert(name.into(), value as u64);
     }
     for refusal in Refusal::ALL {
-        here.insert(format!("ECHO_{refusal:?}").to_uppercase(), refusal.number());
+        // Words of a name are parted by a low line there.
+        let name = format!("{refusal:?}").replace("ArrayWidth", "Array_Width");
+        here.insert(format!("ECHO_{name}").to_uppercase(), refusal.number());
     }
     macro_rules! kinds {
         ($($name:ident)*) => { $(here.insert(concat!("ECHO_KIND_", stringify!($name)).into(), kind::$name.into());)* };
@@ -46,5 +49,5 @@ fn limits_numbers_and_kinds() {
 
     let there: BTreeMap<String, u64> = header().into_iter().map(|(name, value)| (name.to_string(), value)).collect();
     assert_eq!(here, there);
-    assert_eq!(here.len(), 8 + 11 + 39);
+    assert_eq!(here.len(), 9 + 12 + 39);
 }

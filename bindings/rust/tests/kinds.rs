@@ -31,6 +31,8 @@ fn printed(last: &[[u8; 17]]) -> String {
         anames: b"m",
         aname_start: arrays,
         aname_len: &[1][..arrays.len()],
+        index_width: &[32][..arrays.len()],
+        value_width: &[8][..arrays.len()],
         fnames: b"f",
         fname_start: functions,
         fname_len: &[1][..functions.len()],

@@ -31,6 +31,8 @@ fn rich(nodes: &[u8]) -> Problem<'_> {
         anames: b"m",
         aname_start: &[0],
         aname_len: &[1],
+        index_width: &[32],
+        value_width: &[8],
         fnames: b"f",
         fname_start: &[0],
         fname_len: &[1],
@@ -70,6 +72,8 @@ fn malformed() {
         Problem { var_width: &[32], ..base },
         Problem { aname_start: &[], ..base },
         Problem { aname_len: &[1, 1], ..base },
+        Problem { index_width: &[], ..base },
+        Problem { value_width: &[8, 8], ..base },
         Problem { fname_start: &[], ..base },
         Problem { fname_len: &[1, 1], ..base },
         Problem { func_width: &[], ..base },
@@ -79,7 +83,10 @@ fn malformed() {
     // A root, an array and a function that are not there.
     assert_eq!(refused(&Problem { roots: &[4, 5], ..base }), Refusal::Malformed);
     assert_eq!(refused(&Problem { roots: &[u64::MAX], ..base }), Refusal::Malformed);
-    assert_eq!(refused(&Problem { anames: b"", aname_start: &[], aname_len: &[], ..base }), Refusal::Malformed);
+    assert_eq!(
+        refused(&Problem { anames: b"", aname_start: &[], aname_len: &[], index_width: &[], value_width: &[], ..base }),
+        Refusal::Malformed
+    );
     assert_eq!(refused(&Problem { fnames: b"", fname_start: &[], fname_len: &[], func_width: &[], ..base }), Refusal::Malformed);
 }
 
@@ -215,7 +222,7 @@ fn limit() {
     let numbers = vec![0; MAX_SIDE_LEN + 1];
     let none = Problem::default();
     type With<'f> = &'f dyn for<'a> Fn(&'a [u8], &'a [u64]) -> Problem<'a>;
-    let with: [(usize, With<'_>); 16] = [
+    let with: [(usize, With<'_>); 18] = [
         (MAX_NODES_LEN, &|b, _| Problem { nodes: b, ..none }),
         (MAX_BITS_LEN, &|b, _| Problem { bits: b, ..none }),
         (MAX_SIDE_LEN, &|_, n| Problem { side: n, ..none }),
@@ -228,6 +235,8 @@ fn limit() {
         (MAX_ARENA_LEN, &|b, _| Problem { anames: b, ..none }),
         (MAX_COLUMN_LEN, &|_, n| Problem { aname_start: n, ..none }),
         (MAX_COLUMN_LEN, &|_, n| Problem { aname_len: n, ..none }),
+        (MAX_COLUMN_LEN, &|_, n| Problem { index_width: n, ..none }),
+        (MAX_COLUMN_LEN, &|_, n| Problem { value_width: n, ..none }),
         (MAX_ARENA_LEN, &|b, _| Problem { fnames: b, ..none }),
         (MAX_COLUMN_LEN, &|_, n| Problem { fname_start: n, ..none }),
         (MAX_COLUMN_LEN, &|_, n| Problem { fname_len: n, ..none }),
@@ -237,6 +246,81 @@ fn limit() {
         let cut = |len: usize| problem(&bytes[..len.min(bytes.len())], &numbers[..len.min(numbers.len())]);
         assert_eq!(refused(&cut(limit + 1)), Refusal::Limit);
         assert_ne!(echo_ext(&cut(limit), &mut [FILL; 100]), Err(Refusal::Limit));
+    }
+}
+
+#[test]
+fn array_width() {
+    let nodes = rich_nodes().concat();
+    let base = rich(&nodes);
+    // 0 and above 65,536, used or not, and before a node and a name that are refused.
+    for (index, value) in [(0, 8), (32, 0), (MAX_ARRAY_WIDTH + 1, 8), (32, MAX_ARRAY_WIDTH + 1), (u64::MAX, 8)] {
+        let problem = Problem { index_width: &[index], value_width: &[value], ..base };
+        assert_eq!(refused(&problem), Refusal::ArrayWidth);
+        assert_eq!(refused(&Problem { roots: &[], ..problem }), Refusal::ArrayWidth);
+        assert_eq!(refused(&Problem { anames: b"@", ..problem }), Refusal::ArrayWidth);
+        assert_eq!(refused(&Problem { nodes: &node(kind::VAR, [0; 4]), ..problem }), Refusal::ArrayWidth);
+        // Columns come before, of any table, and so does the encoding.
+        assert_eq!(refused(&Problem { func_width: &[], ..problem }), Refusal::Malformed);
+        assert_eq!(refused(&Problem { bits: &[2], ..problem }), Refusal::Encoding);
+    }
+    // A width that is allowed and is not the index's is a node that is not well formed.
+    assert_eq!(refused(&Problem { index_width: &[24], ..base }), Refusal::Malformed);
+    assert_eq!(refused(&Problem { value_width: &[16], ..base }), Refusal::Malformed);
+}
+
+/// A 24-bit address part with 16-bit words, and an array of flags.
+#[test]
+fn other_widths() {
+    let nodes = [
+        node(kind::VAR, [24, 0, 0, 0]),   // 0: i
+        node(kind::VAR, [16, 0, 0, 0]),   // 1: v
+        node(kind::VAR, [1, 0, 0, 0]),    // 2: b
+        node(kind::SELECT, [0, 0, 0, 1]), // 3: m with v stored at i, at i
+        node(kind::EQ, [3, 1, 0, 0]),     // 4
+        node(kind::SELECT, [1, 2, 2, 1]), // 5: k with b stored at b, at b
+        node(kind::EQ, [5, 2, 0, 0]),     // 6
+        node(kind::EQ, [2, 2, 0, 0]),     // 7: a Bool, of width 1
+    ]
+    .concat();
+    let base = Problem {
+        nodes: &nodes,
+        side: &[0, 1, 2, 2],
+        roots: &[4, 6],
+        names: b"ivb",
+        name_start: &[0, 1, 2],
+        name_len: &[1, 1, 1],
+        var_node: &[0, 1, 2],
+        var_width: &[24, 16, 1],
+        anames: b"mk",
+        aname_start: &[0, 1],
+        aname_len: &[1, 1],
+        index_width: &[24, 1],
+        value_width: &[16, 1],
+        ..Problem::default()
+    };
+    assert_eq!(
+        script(&base, 400),
+        "(set-logic QF_ABV)\n\
+         (declare-const |i| (_ BitVec 24))\n\
+         (declare-const |v| (_ BitVec 16))\n\
+         (declare-const |b| (_ BitVec 1))\n\
+         (declare-const |m| (Array (_ BitVec 24) (_ BitVec 16)))\n\
+         (declare-const |k| (Array (_ BitVec 1) (_ BitVec 1)))\n\
+         (assert (= (select (store |m| |i| |v|) |i|) |v|))\n\
+         (assert (= (select (store |k| |b| |b|) |b|) |b|))\n\
+         (check-sat)\n"
+    );
+    // A value of width 1 is no Bool, and a Bool is no index and no value of width 1.
+    assert_eq!(refused(&Problem { nodes: &nodes[..6 * NODE_BYTES], roots: &[5], ..base }), Refusal::Sort);
+    let records: Vec<&[u8]> = nodes.chunks(NODE_BYTES).collect();
+    let by_bool =
+        [&nodes[..5 * NODE_BYTES], records[7], &node(kind::SELECT, [1, 5, 0, 0]), &node(kind::EQ, [6, 2, 0, 0])].concat();
+    assert_eq!(refused(&Problem { nodes: &by_bool, roots: &[7], ..base }), Refusal::Sort);
+    for side in [[0, 1, 5, 2], [0, 1, 2, 5]] {
+        let stored =
+            [&nodes[..5 * NODE_BYTES], records[7], &node(kind::SELECT, [1, 2, 2, 1]), &node(kind::EQ, [6, 2, 0, 0])].concat();
+        assert_eq!(refused(&Problem { nodes: &stored, side: &side, roots: &[7], ..base }), Refusal::Sort);
     }
 }
 

@@ -57,6 +57,8 @@ fn what_is_a_term() {
         anames: b"m",
         aname_start: &[0],
         aname_len: &[1],
+        index_width: &[32],
+        value_width: &[8],
         ..Problem::default()
     };
     assert_eq!(told(&arrays).terms, 8);

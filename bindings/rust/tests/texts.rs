@@ -7,10 +7,11 @@ use std::error::Error;
 #[test]
 fn texts_begin_with_their_number_and_differ() {
     let mut texts = HashSet::new();
-    for (i, refusal) in Refusal::ALL.into_iter().enumerate() {
-        assert_eq!(refusal.number(), i as u64 + 1);
+    let numbers = [1, 2, 3, 4, 5, 6, 7, 8, 9, 10, 12];
+    assert_eq!(Refusal::ALL.map(Refusal::number), numbers);
+    for (n, refusal) in numbers.into_iter().zip(Refusal::ALL) {
         let text = refusal.to_string();
-        assert!(text.starts_with(&format!("{} {refusal:?}: ", i + 1)), "{text}");
+        assert!(text.starts_with(&format!("{n} {refusal:?}: ")), "{text}");
         assert!(!text.contains('\n') && !text.contains("  "), "{text}");
         assert!(texts.insert(text));
     }
@@ -18,7 +19,13 @@ fn texts_begin_with_their_number_and_differ() {
 
 #[test]
 fn texts_of_the_width_pass() {
-    let all = [WidthRefusal::Malformed { node: 7 }, WidthRefusal::Encoding, WidthRefusal::Limit, WidthRefusal::Room];
+    let all = [
+        WidthRefusal::Malformed { node: 7 },
+        WidthRefusal::Encoding,
+        WidthRefusal::Limit,
+        WidthRefusal::Room,
+        WidthRefusal::ArrayWidth,
+    ];
     let mut texts = HashSet::new();
     for refusal in all {
         let text = refusal.to_string();
@@ -26,7 +33,7 @@ fn texts_of_the_width_pass() {
         assert!(!text.contains('\n') && !text.contains("  "), "{text}");
         assert!(texts.insert(text));
     }
-    assert_eq!(all.map(WidthRefusal::number), [1, 8, 9, 10]);
+    assert_eq!(all.map(WidthRefusal::number), [1, 8, 9, 10, 12]);
     assert!(all[0].to_string().contains("node 7 "));
 }
 

@@ -7,8 +7,21 @@ const FILL: u64 = 0xAAAA_AAAA_AAAA_AAAA;
 /// The answer, with a check of every element of the slice.
 #[track_caller]
 fn pass(nodes: &[u8], bits: &[u8], side: &[u64], room: usize) -> Result<Vec<u64>, WidthRefusal> {
+    pass_with(nodes, bits, side, &[], &[], room)
+}
+
+/// The same over arrays of these widths.
+#[track_caller]
+fn pass_with(
+    nodes: &[u8],
+    bits: &[u8],
+    side: &[u64],
+    index_width: &[u64],
+    value_width: &[u64],
+    room: usize,
+) -> Result<Vec<u64>, WidthRefusal> {
     let mut out = vec![FILL; room];
-    match ext_wf(nodes, bits, side, &mut out) {
+    match ext_wf(nodes, bits, side, index_width, value_width, &mut out) {
         Ok(count) => {
             assert!(out[count..].iter().all(|&w| w == FILL));
             out.truncate(count);
@@ -74,6 +87,11 @@ fn limit() {
     assert_eq!(pass(&vec![0; MAX_NODES_LEN + 1], &[], &[], 8), Err(WidthRefusal::Limit));
     assert_eq!(pass(&[], &vec![0; MAX_BITS_LEN + 1], &[], 8), Err(WidthRefusal::Limit));
     assert_eq!(pass(&[], &[], &vec![0; MAX_SIDE_LEN + 1], 8), Err(WidthRefusal::Limit));
+    let column = vec![1; MAX_COLUMN_LEN + 1];
+    let most = &column[1..];
+    assert_eq!(pass_with(&[], &[], &[], &column, most, 8), Err(WidthRefusal::Limit));
+    assert_eq!(pass_with(&[], &[], &[], most, &column, 8), Err(WidthRefusal::Limit));
+    assert_eq!(pass_with(&[], &[], &[], most, most, 8), Ok(vec![]));
     assert_eq!(pass(&[], &vec![0; MAX_BITS_LEN], &vec![0; MAX_SIDE_LEN], 8), Ok(vec![]));
 }
 
@@ -82,4 +100,32 @@ fn room() {
     for room in 0..8 {
         assert_eq!(pass(&some_nodes(), &[1, 0], &[0, 3], room), Err(WidthRefusal::Room));
     }
+}
+
+#[test]
+fn array_widths() {
+    // A select from array 0 by a variable of 24 bits, with a store of 16 bits.
+    let nodes = [node(kind::VAR, [24, 0, 0, 0]), node(kind::VAR, [16, 0, 0, 0]), node(kind::SELECT, [0, 0, 0, 1])].concat();
+    let malformed = |node| Err(WidthRefusal::Malformed { node });
+    assert_eq!(pass_with(&nodes, &[], &[0, 1], &[24], &[16], 3), Ok(vec![24, 16, 16]));
+    // Other widths; the two exchanged; those of another array; none, so that they are 32 and 8.
+    assert_eq!(pass_with(&nodes, &[], &[0, 1], &[23], &[16], 3), malformed(2));
+    assert_eq!(pass_with(&nodes, &[], &[0, 1], &[24], &[8], 3), malformed(2));
+    assert_eq!(pass_with(&nodes, &[], &[0, 1], &[16], &[24], 3), malformed(2));
+    assert_eq!(pass_with(&nodes, &[], &[0, 1], &[32, 24], &[8, 16], 3), malformed(2));
+    assert_eq!(pass_with(&nodes, &[], &[0, 1], &[], &[], 3), malformed(2));
+    // Columns of different lengths: 1 with the number of nodes, before 12 and before a node.
+    assert_eq!(pass_with(&nodes, &[], &[0, 1], &[24], &[], 3), malformed(3));
+    assert_eq!(pass_with(&nodes, &[], &[0, 1], &[0], &[16, 16], 3), malformed(3));
+    // 0 and above 65,536, whether the array is used or not; before a node and before the room.
+    for (index, value) in [(0, 16), (24, 0), (MAX_ARRAY_WIDTH + 1, 16), (24, u64::MAX)] {
+        assert_eq!(pass_with(&nodes, &[], &[0, 1], &[index], &[value], 3), Err(WidthRefusal::ArrayWidth));
+        assert_eq!(pass_with(&nodes, &[], &[0, 1], &[24, index], &[16, value], 3), Err(WidthRefusal::ArrayWidth));
+        assert_eq!(pass_with(&node(kind::VAR, [0; 4]), &[], &[], &[index], &[value], 0), Err(WidthRefusal::ArrayWidth));
+    }
+    // Encoding comes before both.
+    assert_eq!(pass_with(&nodes[1..], &[], &[], &[0], &[], 3), Err(WidthRefusal::Encoding));
+    // The largest widths.
+    let nodes = [node(kind::VAR, [65_536, 0, 0, 0]), node(kind::SELECT, [0, 0, 0, 0])].concat();
+    assert_eq!(pass_with(&nodes, &[], &[], &[MAX_ARRAY_WIDTH], &[MAX_ARRAY_WIDTH], 2), Ok(vec![65_536, 65_536]));
 }

@@ -24,7 +24,7 @@ pub struct Found<T> {
     pub out: Vec<T>,
 }
 
-/// A number that follows from all sixteen inputs.
+/// A number that follows from all eighteen inputs.
 pub fn digest(p: &Problem) -> u64 {
     let mut h = 0u64;
     let mut add = |x: u64| h = (h.rotate_left(29) ^ x).wrapping_mul(0x9E37_79B9_7F4A_7C15);
@@ -45,6 +45,8 @@ pub fn digest(p: &Problem) -> u64 {
         &p.var_width,
         &p.aname_start,
         &p.aname_len,
+        &p.index_width,
+        &p.value_width,
         &p.fname_start,
         &p.fname_len,
         &p.func_width,

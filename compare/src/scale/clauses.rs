@@ -22,7 +22,7 @@ pub struct Clauses(pub Vec<Clause>);
 impl Clauses {
     /// Any clause, by number first: seldom 0, 8 or 9, which decide before the others are looked at or do nothing.
     pub fn any(&self, rng: &mut Rng) -> usize {
-        let number = if rng.one_in(5) { rng.pick(&[0, 8, 9]) } else { rng.from_to(1, 7) as u32 };
+        let number = if rng.one_in(5) { rng.pick(&[0, 8, 9]) } else { rng.pick(&[1, 2, 3, 4, 5, 6, 7, 12]) };
         loop {
             let c = rng.below(self.0.len() as u64) as usize;
             if self.0[c].number == number {
@@ -70,6 +70,7 @@ pub fn all() -> Clauses {
     let mut c = Clauses(vec![]);
     widths(&mut c);
     columns(&mut c);
+    array_widths(&mut c);
     walked_numbers(&mut c);
     names(&mut c);
     sorts(&mut c);
@@ -148,7 +149,7 @@ fn widths(c: &mut Clauses) {
         ("a not's operand of another width than 1", &[kind::NOT], &[0]),
         ("a connective's first operand of another width than 1", &CONNECTIVES, &[0]),
         ("a connective's second operand of another width than 1", &CONNECTIVES, &[1]),
-        ("a select's index of another width than 32", &[kind::SELECT], &[0]),
+        ("a select's index of another width than its array's", &[kind::SELECT], &[0]),
     ];
     for (what, kinds, places) in OTHER {
         c.plan(1, &format!("width pass: {what}"), move |g| {
@@ -158,12 +159,12 @@ fn widths(c: &mut Clauses) {
             Some(t)
         });
     }
-    c.plan(1, "width pass: a store's index of another width than 32", |g| {
+    c.plan(1, "width pass: a store's index of another width than the array's", |g| {
         let (t, j) = a_store(g);
         other_kid(g, t, 1 + 2 * j);
         Some(t)
     });
-    c.plan(1, "width pass: a store's value of another width than 8", |g| {
+    c.plan(1, "width pass: a store's value of another width than the array's", |g| {
         let (t, j) = a_store(g);
         other_kid(g, t, 2 + 2 * j);
         Some(t)
@@ -266,11 +267,11 @@ fn a_store(g: &mut Grower) -> (usize, usize) {
     let t = if all.is_empty() {
         let t = g.plant(false, |g, _| {
             let n = 1 + g.rng.below(4);
-            let kids: Vec<usize> = (0..2 * n + 1).map(|j| g.vector(if j == 0 || j % 2 == 1 { 32 } else { 8 }, j % 3)).collect();
-            if g.plan.arrays.is_empty() {
-                g.new_array();
-            }
-            g.add(kind::SELECT, [0, 0], &kids, 8)
+            let array = g.array(8);
+            let index = g.plan.arrays[array as usize].index;
+            let kids: Vec<usize> =
+                (0..2 * n + 1).map(|j| g.vector(if j == 0 || j % 2 == 1 { index } else { 8 }, j % 3)).collect();
+            g.add(kind::SELECT, [array, 0], &kids, 8)
         });
         t
     } else {
@@ -339,8 +340,10 @@ fn column(p: &mut Problem, c: usize) -> &mut Vec<u64> {
         3 => &mut p.var_width,
         4 => &mut p.aname_start,
         5 => &mut p.aname_len,
-        6 => &mut p.fname_start,
-        7 => &mut p.fname_len,
+        6 => &mut p.index_width,
+        7 => &mut p.value_width,
+        8 => &mut p.fname_start,
+        9 => &mut p.fname_len,
         _ => &mut p.func_width,
     }
 }
@@ -353,8 +356,19 @@ fn arena(p: &mut Problem, table: usize) -> &mut Vec<u8> {
     }
 }
 
-const COLUMNS: [&str; 9] =
-    ["name_start", "name_len", "var_node", "var_width", "aname_start", "aname_len", "fname_start", "fname_len", "func_width"];
+const COLUMNS: [&str; 11] = [
+    "name_start",
+    "name_len",
+    "var_node",
+    "var_width",
+    "aname_start",
+    "aname_len",
+    "index_width",
+    "value_width",
+    "fname_start",
+    "fname_len",
+    "func_width",
+];
 
 fn columns(c: &mut Clauses) {
     for (j, name) in COLUMNS.into_iter().enumerate() {
@@ -377,6 +391,37 @@ fn columns(c: &mut Clauses) {
     }
 }
 
+// ---------------------------------------------------------------- 12
+
+/// A width that no array may have.
+fn no_width(rng: &mut Rng) -> u64 {
+    rng.pick(&[0, 0, 65_537, 65_537, 65_600, 1 << 32, (1 << 32) + 8, 1 << 63, u64::MAX])
+}
+
+fn array_widths(c: &mut Clauses) {
+    // 6 and 7 are the two columns
+    for (j, what) in [(6, "an index"), (7, "a value")] {
+        c.node(12, &format!("{what} of an array that is selected from"), &[kind::SELECT], move |p, i, rng| {
+            let a = p.operand(i, 0) as usize;
+            let widths = column(p, j);
+            if a < widths.len() {
+                widths[a] = no_width(rng);
+                return true;
+            }
+            false
+        });
+        c.laid(12, &format!("{what} of an array that nothing needs"), move |p, rng| {
+            if p.aname_start.len() >= 512 {
+                return false;
+            }
+            // a name that is refused is told after 12
+            p.array_entry(b"@");
+            *column(p, j).last_mut().unwrap() = no_width(rng);
+            true
+        });
+    }
+}
+
 fn walked_numbers(c: &mut Clauses) {
     c.laid(1, "walk: a root past the nodes", |p, rng| {
         let n = p.count() as u64;
@@ -389,13 +434,13 @@ fn walked_numbers(c: &mut Clauses) {
     c.plan(1, "walk: an array number past its table", |g| {
         let n = g.plan.arrays.len() as u32;
         let x = g.rng.pick(&[n, n, n + 1, n + 200, LAST]);
-        let t = match g.reached_of(&[kind::SELECT], |_, _| true) {
-            Some(t) if g.rng.one_in(2) => t,
-            _ => g.plant(false, |g, _| {
-                let b = g.rng.below(6);
-                g.of_kind(kind::SELECT, 8, b)
-            }),
-        };
+        // past the table the index has 32 bits and the value 8
+        let t = g.plant(false, |g, _| {
+            let b = g.rng.below(6);
+            let index = g.vector(32, b);
+            let array = g.array_of(32, 8);
+            g.add(kind::SELECT, [array, 0], &[index], 8)
+        });
         // planting may have added an array
         g.plan.terms[t].nums[0] = x.max(g.plan.arrays.len() as u32);
         Some(t)
@@ -449,7 +494,7 @@ fn an_entry(g: &mut Grower, table: usize) -> usize {
 fn name_of<'a>(g: &'a mut Grower, table: usize, i: usize) -> &'a mut Vec<u8> {
     match table {
         0 => &mut g.plan.vars[i].name,
-        1 => &mut g.plan.arrays[i],
+        1 => &mut g.plan.arrays[i].name,
         _ => &mut g.plan.funcs[i].name,
     }
 }
@@ -507,7 +552,7 @@ fn names(c: &mut Clauses) {
             move |g| Some(an_entry(g, t)),
             move |l, i, rng| {
                 let n = arena(&mut l.p, t).len() as u64;
-                let first = [0, 4, 6][t];
+                let first = [0, 4, 8][t];
                 let (Some(s), Some(len)) = (column(&mut l.p, first).get(i).copied(), column(&mut l.p, first + 1).get(i).copied())
                 else {
                     return false;
@@ -576,6 +621,12 @@ fn wrong_sort(g: &mut Grower, kinds: &'static [u8], at: fn(usize) -> bool) -> Op
                 let f = g.new_func(w, args);
                 g.call(f, b)
             }
+            kind::SELECT => {
+                let array = g.array_of(1, 1);
+                let n = 1 + g.rng.below(3);
+                let kids: Vec<usize> = (0..2 * n + 1).map(|_| g.vector(1, b / 4)).collect();
+                g.add(k, [array, 0], &kids, 1)
+            }
             kind::EXTRACT => {
                 let v = g.leaf(1);
                 g.add(k, [0, 0], &[v], 1)
@@ -621,7 +672,7 @@ fn sorts(c: &mut Clauses) {
         let t = g.vector(w, b);
         at_root(g, t)
     });
-    const PLACES: [(&str, &[u8], fn(usize) -> bool); 12] = [
+    const PLACES: [(&str, &[u8], fn(usize) -> bool); 15] = [
         ("a bit-vector below not", &[kind::NOT], |_| true),
         ("a bit-vector below and or or", &CONNECTIVES, |_| true),
         ("a bit-vector as an ite's condition", &[kind::ITE], |j| j == 0),
@@ -634,6 +685,9 @@ fn sorts(c: &mut Clauses) {
         ("a Bool as an ite's arm", &[kind::ITE], |j| j > 0),
         ("a Bool below bvnot or bvneg", &UNARY, |_| true),
         ("a Bool as an argument", &[kind::CALL], |_| true),
+        ("a Bool as a select's index", &[kind::SELECT], |j| j == 0),
+        ("a Bool as a store's index", &[kind::SELECT], |j| j % 2 == 1),
+        ("a Bool as a store's value", &[kind::SELECT], |j| j > 0 && j % 2 == 0),
     ];
     for (label, kinds, at) in PLACES {
         c.plan(3, label, move |g| wrong_sort(g, kinds, at));
@@ -889,7 +943,8 @@ fn sharing(c: &mut Clauses) {
     });
     c.plan(6, "a select's index", |g| {
         let x = to_share(g, Some(32));
-        let array = g.rng.pick(&[0, LAST]);
+        let array = g.array_of(32, 8);
+        let array = g.rng.pick(&[array, LAST]);
         Some(g.add(kind::SELECT, [array, 0], &[x], 8))
     });
     for (place, w, label) in [(0, 32, "a store's index"), (1, 8, "a store's value")] {
@@ -902,7 +957,8 @@ fn sharing(c: &mut Clauses) {
                 kids.push(g.leaf(8));
             }
             kids[1 + 2 * g.rng.below(n as u64) as usize + place] = x;
-            let array = g.rng.pick(&[0, LAST]);
+            let array = g.array_of(32, 8);
+            let array = g.rng.pick(&[array, LAST]);
             Some(g.add(kind::SELECT, [array, 0], &kids, 8))
         });
     }
@@ -1352,7 +1408,7 @@ fn accepted(c: &mut Clauses) {
             move |g| Some(an_entry(g, t)),
             move |l, i, rng| {
                 // the name goes to the end of the arena, which it fills
-                let first = [0, 4, 6][t];
+                let first = [0, 4, 8][t];
                 let a = arena(&mut l.p, t);
                 let start = a.len();
                 if start >= 16_384 {
@@ -1467,12 +1523,12 @@ pub fn change(p: &mut Problem, rng: &mut Rng) {
                 p.roots.pop();
             }
             _ => {
-                let c = column(p, rng.below(9) as usize);
+                let c = column(p, rng.below(11) as usize);
                 c.pop();
             }
         },
         _ => {
-            let c = column(p, rng.below(9) as usize);
+            let c = column(p, rng.below(11) as usize);
             if !c.is_empty() {
                 let i = rng.below(c.len() as u64) as usize;
                 c[i] = near(rng, c[i], n);

@@ -173,7 +173,9 @@ pub fn lay(plan: &Plan, rng: &mut Rng) -> Laid {
     (p.names, p.name_start, p.name_len) = names(rng, &plan.vars.iter().map(|v| &v.name[..]).collect::<Vec<_>>());
     p.var_node = plan.vars.iter().map(|v| raw(&v.at)).collect();
     p.var_width = plan.vars.iter().map(|v| v.width).collect();
-    (p.anames, p.aname_start, p.aname_len) = names(rng, &plan.arrays.iter().map(|a| &a[..]).collect::<Vec<_>>());
+    (p.anames, p.aname_start, p.aname_len) = names(rng, &plan.arrays.iter().map(|a| &a.name[..]).collect::<Vec<_>>());
+    p.index_width = plan.arrays.iter().map(|a| a.index).collect();
+    p.value_width = plan.arrays.iter().map(|a| a.value).collect();
     (p.fnames, p.fname_start, p.fname_len) = names(rng, &plan.funcs.iter().map(|f| &f.name[..]).collect::<Vec<_>>());
     p.func_width = plan.funcs.iter().map(|f| f.width).collect();
     Laid { p, at }

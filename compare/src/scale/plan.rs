@@ -37,12 +37,18 @@ pub struct Func {
     pub args: Vec<u64>,
 }
 
+pub struct Array {
+    pub name: Vec<u8>,
+    pub index: u64,
+    pub value: u64,
+}
+
 #[derive(Default)]
 pub struct Plan {
     pub terms: Vec<Term>,
     pub roots: Vec<At>,
     pub vars: Vec<Var>,
-    pub arrays: Vec<Vec<u8>>,
+    pub arrays: Vec<Array>,
     pub funcs: Vec<Func>,
 }
 
@@ -156,6 +162,8 @@ pub struct Grower<'r> {
     new_leaf: u64,
     calls: u64,
     selects: u64,
+    /// every array has the Rust's widths
+    rusts: bool,
     formulas: u64,
     short_names: bool,
 }
@@ -185,6 +193,7 @@ impl<'r> Grower<'r> {
             new_leaf: rng.from_to(2, 8),
             calls: rng.pick(&[0, 0, 1, 2, 5]),
             selects: rng.pick(&[0, 0, 1, 2, 5]),
+            rusts: rng.one_in(2),
             formulas: rng.from_to(1, 4),
             short_names: rng.one_in(2),
             rng,
@@ -375,7 +384,8 @@ impl<'r> Grower<'r> {
             9 | 10 => self.of_kind(kind::ITE, w, b),
             _ if turn >= 16 && turn < 16 + self.calls && w <= LAST as u64 => self.of_kind(kind::CALL, w, b),
             _ if turn >= 16 + self.calls => {
-                let t = self.of_kind(kind::SELECT, 8, b);
+                let value = self.value_width(w);
+                let t = self.of_kind(kind::SELECT, value, b);
                 self.fit(t, w)
             }
             _ => {
@@ -446,13 +456,14 @@ impl<'r> Grower<'r> {
                 let n = if self.rng.one_in(40) { self.rng.below(40) } else { self.rng.below(4) };
                 let mut left = b;
                 let mut kids = vec![];
+                let array = self.array(w);
+                let index = self.plan.arrays[array as usize].index;
                 for j in 0..2 * n + 1 {
                     let part = if self.rng.one_in(2) { self.rng.below(left + 1) } else { 0 };
                     left -= part;
-                    kids.push(self.vector(if j == 0 || j % 2 == 1 { 32 } else { 8 }, part));
+                    kids.push(self.vector(if j == 0 || j % 2 == 1 { index } else { w }, part));
                 }
-                let array = self.array();
-                self.add(k, [array, 0], &kids, 8)
+                self.add(k, [array, 0], &kids, w)
             }
             kind::CALL => {
                 let f = self.func(w);
@@ -481,19 +492,52 @@ impl<'r> Grower<'r> {
             }
             self.widths.push(8);
         };
-        self.of_kind(k, if k == kind::EXTRACT { w.min(LAST as u64 - 20) } else { w }, b)
+        let w = match k {
+            kind::EXTRACT => w.min(LAST as u64 - 20),
+            kind::SELECT => self.value_width(w),
+            _ => w,
+        };
+        self.of_kind(k, w, b)
     }
-    fn array(&mut self) -> u32 {
-        let n = self.plan.arrays.len() as u64;
-        if n == 0 || (n < 480 && self.rng.one_in(5)) {
-            self.new_array();
-            return n as u32;
+    /// The width of an array's value where a term of width w is wanted: that one, or one to be fitted.
+    fn value_width(&mut self, w: u64) -> u64 {
+        if self.rusts {
+            8
+        } else if w <= 65_536 && self.rng.one_in(2) {
+            w
+        } else {
+            self.rng.pick(&[1, 1, 2, 7, 8, 9, 16, 32, 64, 65, 255, 65_535, 65_536])
         }
-        self.rng.below(n) as u32
     }
-    pub fn new_array(&mut self) {
+    /// An array with values of this width, old or new.
+    pub fn array(&mut self, value: u64) -> u32 {
+        let old: Vec<usize> = (0..self.plan.arrays.len()).filter(|a| self.plan.arrays[*a].value == value).collect();
+        if old.is_empty() || (self.plan.arrays.len() < 480 && self.rng.one_in(5)) {
+            let index = self.index_width();
+            return self.new_array_of(index, value);
+        }
+        self.rng.pick(&old) as u32
+    }
+    /// An array with these widths, old or new.
+    pub fn array_of(&mut self, index: u64, value: u64) -> u32 {
+        let fits = |a: &Array| (a.index, a.value) == (index, value);
+        match self.plan.arrays.iter().position(fits) {
+            Some(a) => a as u32,
+            None => self.new_array_of(index, value),
+        }
+    }
+    fn index_width(&mut self) -> u64 {
+        if self.rusts { 32 } else { self.rng.pick(&[1, 1, 2, 8, 15, 16, 24, 31, 32, 32, 33, 64, 65_535, 65_536]) }
+    }
+    fn new_array_of(&mut self, index: u64, value: u64) -> u32 {
         let name = self.name(1);
-        self.plan.arrays.push(name);
+        self.plan.arrays.push(Array { name, index, value });
+        self.plan.arrays.len() as u32 - 1
+    }
+    /// Of any widths that are allowed.
+    pub fn new_array(&mut self) {
+        let (index, value) = (self.index_width(), self.value_width(8));
+        self.new_array_of(index, value);
     }
     /// A function of the width, old or new.
     fn func(&mut self, w: u64) -> usize {
@@ -580,8 +624,8 @@ impl<'r> Grower<'r> {
             }
             1 => {
                 let a = self.leaf(32);
-                let n = self.plan.arrays.len() as u32;
-                let array = self.rng.pick(&[n, n + 1, LAST]);
+                // past the table, however many arrays there come to be
+                let array = self.rng.pick(&[512, 513, LAST]);
                 self.add(kind::SELECT, [array, 0], &[a], 8);
             }
             2 => {

@@ -26,6 +26,7 @@ unsafe extern "C" {
         var_width: *const u64, var_width_len: usize,
         anames: *const u8, anames_len: usize, aname_start: *const u64, aname_start_len: usize,
         aname_len: *const u64, aname_len_len: usize,
+        index_width: *const u64, index_width_len: usize, value_width: *const u64, value_width_len: usize,
         fnames: *const u8, fnames_len: usize, fname_start: *const u64, fname_start_len: usize,
         fname_len: *const u64, fname_len_len: usize, func_width: *const u64, func_width_len: usize,
         out: *mut u8, out_len: usize,
@@ -38,11 +39,13 @@ unsafe extern "C" {
         var_width: *const u64, var_width_len: usize,
         anames: *const u8, anames_len: usize, aname_start: *const u64, aname_start_len: usize,
         aname_len: *const u64, aname_len_len: usize,
+        index_width: *const u64, index_width_len: usize, value_width: *const u64, value_width_len: usize,
         fnames: *const u8, fnames_len: usize, fname_start: *const u64, fname_start_len: usize,
         fname_len: *const u64, fname_len_len: usize, func_width: *const u64, func_width_len: usize,
     ) -> Size;
     fn ext_wf(
         nodes: *const u8, nodes_len: usize, bits: *const u8, bits_len: usize, side: *const u64, side_len: usize,
+        index_width: *const u64, index_width_len: usize, value_width: *const u64, value_width_len: usize,
         out: *mut u64, out_len: usize,
     ) -> Said;
 }
@@ -59,6 +62,7 @@ pub fn script(p: &Problem, out: &mut [u8]) -> Said {
             p.var_width.as_ptr(), p.var_width.len(),
             p.anames.as_ptr(), p.anames.len(), p.aname_start.as_ptr(), p.aname_start.len(),
             p.aname_len.as_ptr(), p.aname_len.len(),
+            p.index_width.as_ptr(), p.index_width.len(), p.value_width.as_ptr(), p.value_width.len(),
             p.fnames.as_ptr(), p.fnames.len(), p.fname_start.as_ptr(), p.fname_start.len(),
             p.fname_len.as_ptr(), p.fname_len.len(), p.func_width.as_ptr(), p.func_width.len(),
             out.as_mut_ptr(), out.len(),
@@ -78,6 +82,7 @@ pub fn size(p: &Problem) -> Size {
             p.var_width.as_ptr(), p.var_width.len(),
             p.anames.as_ptr(), p.anames.len(), p.aname_start.as_ptr(), p.aname_start.len(),
             p.aname_len.as_ptr(), p.aname_len.len(),
+            p.index_width.as_ptr(), p.index_width.len(), p.value_width.as_ptr(), p.value_width.len(),
             p.fnames.as_ptr(), p.fnames.len(), p.fname_start.as_ptr(), p.fname_start.len(),
             p.fname_len.as_ptr(), p.fname_len.len(), p.func_width.as_ptr(), p.func_width.len(),
         )
@@ -90,6 +95,7 @@ pub fn widths(p: &Problem, out: &mut [u64]) -> Said {
     unsafe {
         ext_wf(
             p.nodes.as_ptr(), p.nodes.len(), p.bits.as_ptr(), p.bits.len(), p.side.as_ptr(), p.side.len(),
+            p.index_width.as_ptr(), p.index_width.len(), p.value_width.as_ptr(), p.value_width.len(),
             out.as_mut_ptr(), out.len(),
         )
     }

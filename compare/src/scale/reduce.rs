@@ -35,7 +35,7 @@ fn read(p: &Problem) -> Vec<bool> {
     r
 }
 
-fn columns(p: &mut Problem) -> [&mut Vec<u64>; 9] {
+fn columns(p: &mut Problem) -> [&mut Vec<u64>; 11] {
     [
         &mut p.name_start,
         &mut p.name_len,
@@ -43,6 +43,8 @@ fn columns(p: &mut Problem) -> [&mut Vec<u64>; 9] {
         &mut p.var_width,
         &mut p.aname_start,
         &mut p.aname_len,
+        &mut p.index_width,
+        &mut p.value_width,
         &mut p.fname_start,
         &mut p.fname_len,
         &mut p.func_width,
@@ -133,7 +135,7 @@ fn without_store(p: &Problem, i: usize, pair: usize) -> Option<Problem> {
 
 fn without_row(p: &Problem, table: usize, row: usize) -> Problem {
     let mut q = p.clone();
-    let of = [0..4, 4..6, 6..9][table].clone();
+    let of = [0..4, 4..8, 8..11][table].clone();
     for c in &mut columns(&mut q)[of] {
         if row < c.len() {
             c.remove(row);

@@ -87,6 +87,19 @@ pub fn features(p: &Problem) -> Vec<String> {
     put(any(&|a, s, l| a[s..s + l].contains(&32)), "a name with byte 32");
     put(any(&|a, s, l| a[s..s + l].contains(&126)), "a name with byte 126");
     put(any(&|a, s, l| a[s + 1..s + l].iter().any(|b| matches!(b, b'@' | b'.'))), "a name with @ or a full stop inside");
+    let arrays = || p.index_width.iter().zip(&p.value_width);
+    put(arrays().any(|(i, v)| (*i, *v) != (32, 8)), "an array of other widths than the Rust's");
+    put(!p.index_width.is_empty() && arrays().all(|(i, v)| (*i, *v) == (32, 8)), "arrays, all of the Rust's widths");
+    put(p.index_width.contains(&1), "an array with an index of width 1");
+    put(p.value_width.contains(&1), "an array with a value of width 1");
+    put(p.index_width.iter().chain(&p.value_width).any(|w| *w == 65_536), "an array with the largest width");
+    let read = |i: usize| p.kind_of(i) == kind::SELECT && reached[i];
+    let other = |i: usize| {
+        let a = p.operand(i, 0) as usize;
+        (p.index_width[a], p.value_width[a]) != (32, 8)
+    };
+    put((0..n).any(|i| read(i) && other(i)), "a select from an array of other widths than the Rust's");
+    put((0..n).any(|i| read(i) && other(i) && p.operand(i, 3) > 0), "a store into an array of other widths than the Rust's");
     put(p.var_width.iter().chain(&p.func_width).any(|w| *w > u32::MAX as u64), "a declared width above 32 bits");
     out
 }

@@ -50,8 +50,9 @@ pub fn problem(p: &Problem) {
         println!("  {k}: {at}, node {}, width {}", number(p.var_node.get(k)), number(p.var_width.get(k)));
     }
     println!("arrays, arena \"{}\":", text(&p.anames));
-    for k in 0..p.aname_start.len().max(p.aname_len.len()) {
-        println!("  {k}: {}", name(&p.anames, p.aname_start.get(k), p.aname_len.get(k)));
+    for k in 0..[&p.aname_start, &p.aname_len, &p.index_width, &p.value_width].iter().map(|c| c.len()).max().unwrap() {
+        let at = name(&p.anames, p.aname_start.get(k), p.aname_len.get(k));
+        println!("  {k}: {at}, index {}, value {}", number(p.index_width.get(k)), number(p.value_width.get(k)));
     }
     println!("functions, arena \"{}\":", text(&p.fnames));
     for k in 0..[&p.fname_start, &p.fname_len, &p.func_width].iter().map(|c| c.len()).max().unwrap() {

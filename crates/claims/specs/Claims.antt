@@ -1,8 +1,8 @@
 -- What the project promises of the printer's answers. A reader who believes the definitions (crate `echo_spec`: what is
 -- printed and what is refused; crate `smtlib`: what bytes mean by the standard) can stop at this page.
 --
--- Contents of this crate: here, the printer and the width pass; `SizeClaims`, room for a script, known beforehand (document 02, L1). Beside each
--- stand instances (`Instances`, `SizeInstances`), which show that its claims are not empty.
+-- Contents of this crate: here, the printer and the width pass; `ArrayClaims`, widths of arrays by the table (L5); `SizeClaims`, room for a script, known beforehand (document 02, L1). Beside each
+-- stand instances (`Instances`, `ArrayInstances`, `SizeInstances`), which show that its claims are not empty.
 use Prim.Native.Nat.{ℕ, suc, _-_, _≤_, _<_}
 use denote.Ref.{now}
 use mathlib.Core.Path.{_≡_, refl, sym, ap, _∙_}
@@ -20,7 +20,7 @@ use Rattle.smtlib.specs.Grammar.{Script, scriptTokens}
 use Rattle.smtlib.specs.LexUnique.{lex-unique}
 use Rattle.smtlib.specs.Readings.{operators, Reads}
 use Rattle.smtlib.specs.Sorts.{WellSorted}
-use Rattle.echo_spec.specs.Input.{Problem, nodesOf, no-node, dagOf}
+use Rattle.echo_spec.specs.Input.{Problem, ArrayWidths, arrayColumns, nodesOf, no-node, dagOf}
 use Rattle.echo_spec.specs.Widths.{node-wf, ext-wf}
 use Rattle.echo_spec.specs.Names.{rustWords, smtlib27Words, reserved}
 use Rattle.echo_spec.specs.NameLaws.{allNames}
@@ -44,7 +44,7 @@ use Rattle.theorems.specs.Answered.{
   printed,
   acceptance,
   refused,
-  number-bound,
+  number-listed,
   accepted-exactly,
   accepted-whole,
   room-refusal,
@@ -59,7 +59,7 @@ use Rattle.theorems.specs.Answered.{
   width-accepted,
   width-refused,
 }
-use Rattle.claims.specs.WidthAnswers.{width-listed, width-count, width-refused-node}
+use Rattle.claims.specs.WidthAnswers.{width-listed, width-count, width-refused-node, width-uneven}
 
 -- The printer accepts the problem with this lent buffer.
 abbrev pub Accepts : Problem → List ℕ → Type 0
@@ -67,9 +67,9 @@ Accepts p lent = echo-ext-answer p lent .number ≡ 0
 
 -- ---------------------------------------------------------------- every answer
 
--- An answer is acceptance or one of the numbers 1 to 10.
-pub listed-number : (p : Problem) (lent : List ℕ) → echo-ext-answer p lent .number ≤ 10
-listed-number = number-bound
+-- An answer is acceptance, one of the numbers 1 to 10, or 12.
+pub listed-number : (p : Problem) (lent : List ℕ) → T (among (0 ∷ 1 ∷ 2 ∷ 3 ∷ 4 ∷ 5 ∷ 6 ∷ 7 ∷ 8 ∷ 9 ∷ 10 ∷ 12 ∷ []) (echo-ext-answer p lent .number))
+listed-number = number-listed
 
 -- A refusal has length 0 and a zeroed output.
 pub refusal-zeroes : (p : Problem) (lent : List ℕ) (n : ℕ) → echo-ext-answer p lent .number ≡ suc n
@@ -141,8 +141,9 @@ pub echo-contract : (κs : _) (x : _) (r : _) (y : _) → echo-ext-code.Post κs
     (now (x .1 .1 .1 .1 .1 .1 .0)) (now (x .1 .1 .1 .1 .1 .1 .1 .0)) (now (x .1 .1 .1 .1 .1 .1 .1 .1 .0)) (now (x .1 .1 .1 .1 .1 .1 .1 .1 .1 .0))
     (now (x .1 .1 .1 .1 .1 .1 .1 .1 .1 .1 .0)) (now (x .1 .1 .1 .1 .1 .1 .1 .1 .1 .1 .1 .0)) (now (x .1 .1 .1 .1 .1 .1 .1 .1 .1 .1 .1 .1 .0))
     (now (x .1 .1 .1 .1 .1 .1 .1 .1 .1 .1 .1 .1 .1 .0)) (now (x .1 .1 .1 .1 .1 .1 .1 .1 .1 .1 .1 .1 .1 .1 .0))
-    (now (x .1 .1 .1 .1 .1 .1 .1 .1 .1 .1 .1 .1 .1 .1 .1 .0)))
-    (now (x .1 .1 .1 .1 .1 .1 .1 .1 .1 .1 .1 .1 .1 .1 .1 .1 .0)) (now (y .1 .1 .1 .1 .1 .1 .1 .1 .1 .1 .1 .1 .1 .1 .1 .1 .0))
+    (now (x .1 .1 .1 .1 .1 .1 .1 .1 .1 .1 .1 .1 .1 .1 .1 .0)) (now (x .1 .1 .1 .1 .1 .1 .1 .1 .1 .1 .1 .1 .1 .1 .1 .1 .0))
+    (now (x .1 .1 .1 .1 .1 .1 .1 .1 .1 .1 .1 .1 .1 .1 .1 .1 .1 .0)))
+    (now (x .1 .1 .1 .1 .1 .1 .1 .1 .1 .1 .1 .1 .1 .1 .1 .1 .1 .1 .0)) (now (y .1 .1 .1 .1 .1 .1 .1 .1 .1 .1 .1 .1 .1 .1 .1 .1 .1 .1 .0))
 echo-contract κs x r y h = h
 
 -- What it answers by `Printed` is the script: its length, its bytes at the front of the buffer, and the rest of the buffer as it was.
@@ -182,42 +183,50 @@ bytes-equal p p′ lent lent′ out out′ n n′ c c′ =
 
 -- ---------------------------------------------------------------- the width pass
 
--- Its answer is acceptance or 1, 8, 9 or 10.
-pub widths-listed : (nodes bits side lent : List ℕ) → T (among (0 ∷ 1 ∷ 8 ∷ 9 ∷ 10 ∷ []) (ext-wf-answer nodes bits side lent .number))
+-- Its answer is acceptance or 1, 8, 9, 10 or 12.
+pub widths-listed : (nodes bits side : List ℕ) (arrays : ArrayWidths) (lent : List ℕ)
+    → T (among (0 ∷ 1 ∷ 8 ∷ 9 ∷ 10 ∷ 12 ∷ []) (ext-wf-answer nodes bits side arrays lent .number))
 widths-listed = width-listed
 
 -- The contract of `ext_wf`.
-abbrev pub WidthContract : Outcome → List ℕ → List ℕ → List ℕ → List ℕ → List ℕ → Type 0
-WidthContract r nodes bits side lent out = widths.answered r out ≡ ext-wf-answer nodes bits side lent
+abbrev pub WidthContract : Outcome → List ℕ → List ℕ → List ℕ → ArrayWidths → List ℕ → List ℕ → Type 0
+WidthContract r nodes bits side arrays lent out = widths.answered r out ≡ ext-wf-answer nodes bits side arrays lent
 
 -- It is what the function is proved to ensure.
 pub width-contract : (κs : _) (x : _) (r : _) (y : _) → ext-wf-code.Post κs x r y
-    → WidthContract r (now (x .0)) (now (x .1 .0)) (now (x .1 .1 .0)) (now (x .1 .1 .1 .0)) (now (y .1 .1 .1 .0))
+    → WidthContract r (now (x .0)) (now (x .1 .0)) (now (x .1 .1 .0)) (arrayColumns (now (x .1 .1 .1 .0)) (now (x .1 .1 .1 .1 .0))) (now (x .1 .1 .1 .1 .1 .0))
+    (now (y .1 .1 .1 .1 .1 .0))
 width-contract κs x r y h = h
 
 -- What it accepts has a width for each node, in order, at the front of the slice.
-pub widths-written : (nodes bits side lent out : List ℕ) (n : ℕ) → WidthContract (Accepted n) nodes bits side lent out
-    → (n ≡ length (ext-wf (length bits) side (nodesOf nodes)))
-    × (out ≡ ext-wf (length bits) side (nodesOf nodes) ++ drop (length (ext-wf (length bits) side (nodesOf nodes))) lent)
-widths-written nodes bits side lent out n c =
-    let e = c ∙ width-accepted nodes bits side lent (sym (ap (λ (x : Answer). x .number) c)) in (ap (λ (x : Answer). x .count) e, ap (λ (x : Answer). x .output) e)
+pub widths-written : (nodes bits side : List ℕ) (arrays : ArrayWidths) (lent out : List ℕ) (n : ℕ) → WidthContract (Accepted n) nodes bits side arrays lent out
+    → (n ≡ length (ext-wf (length bits) arrays side (nodesOf nodes)))
+    × (out ≡ ext-wf (length bits) arrays side (nodesOf nodes) ++ drop (length (ext-wf (length bits) arrays side (nodesOf nodes))) lent)
+widths-written nodes bits side arrays lent out n c =
+    let e = c ∙ width-accepted nodes bits side arrays lent (sym (ap (λ (x : Answer). x .number) c)) in (ap (λ (x : Answer). x .count) e, ap (λ (x : Answer). x .output) e)
 
 -- The count of an acceptance is the node count, and every node has a width.
-pub widths-count : (nodes bits side lent out : List ℕ) (n : ℕ) → WidthContract (Accepted n) nodes bits side lent out
-    → (n ≡ length (nodesOf nodes)) × (length (ext-wf (length bits) side (nodesOf nodes)) ≡ length (nodesOf nodes))
-widths-count nodes bits side lent out n c = width-count nodes bits side lent (ap (λ (x : Answer). x .number) c) (ap (λ (x : Answer). x .count) c)
+pub widths-count : (nodes bits side : List ℕ) (arrays : ArrayWidths) (lent out : List ℕ) (n : ℕ) → WidthContract (Accepted n) nodes bits side arrays lent out
+    → (n ≡ length (nodesOf nodes)) × (length (ext-wf (length bits) arrays side (nodesOf nodes)) ≡ length (nodesOf nodes))
+widths-count nodes bits side arrays lent out n c = width-count nodes bits side arrays lent (ap (λ (x : Answer). x .number) c) (ap (λ (x : Answer). x .count) c)
 
--- The node that is told with 1 is there, and it is not well formed after the widths of those before it, which all have one.
-pub widths-node : (nodes bits side lent out : List ℕ) (k : ℕ) → WidthContract (NodeRefused k) nodes bits side lent out
-    → (k < length (nodesOf nodes)) × (k ≡ length (ext-wf (length bits) side (nodesOf nodes)))
-    × (node-wf (length bits) side (ext-wf (length bits) side (nodesOf nodes)) (getD (nodesOf nodes) k no-node) ≡ false)
-widths-node nodes bits side lent out k c = width-refused-node nodes bits side lent (ap (λ (x : Answer). x .number) c) (ap (λ (x : Answer). x .count) c)
+-- Where the two columns of the array table are of one length, the node that is told with 1 is there, and it is not well formed after the
+-- widths of those before it, which all have one.
+pub widths-node : (nodes bits side : List ℕ) (arrays : ArrayWidths) (lent out : List ℕ) (k : ℕ) → WidthContract (NodeRefused k) nodes bits side arrays lent out
+    → length (arrays .index) ≡ length (arrays .value) → (k < length (nodesOf nodes)) × (k ≡ length (ext-wf (length bits) arrays side (nodesOf nodes)))
+    × (node-wf (length bits) arrays side (ext-wf (length bits) arrays side (nodesOf nodes)) (getD (nodesOf nodes) k no-node) ≡ false)
+widths-node nodes bits side arrays lent out k c e = width-refused-node nodes bits side arrays lent (ap (λ (x : Answer). x .number) c) (ap (λ (x : Answer). x .count) c) e
+
+-- Where they are not, the node count is told.
+pub widths-uneven : (nodes bits side : List ℕ) (arrays : ArrayWidths) (lent out : List ℕ) (k : ℕ) → WidthContract (NodeRefused k) nodes bits side arrays lent out
+    → (length (arrays .index) ≡ length (arrays .value) → ⊥) → k ≡ length (nodesOf nodes)
+widths-uneven nodes bits side arrays lent out k c e = width-uneven nodes bits side arrays lent (ap (λ (x : Answer). x .number) c) (ap (λ (x : Answer). x .count) c) e
 
 -- What it refuses leaves the slice zeroed.
-pub widths-refused : (nodes bits side lent out : List ℕ) (r : Outcome) (k : ℕ) → widths.number r ≡ suc k → WidthContract r nodes bits side lent out
+pub widths-refused : (nodes bits side : List ℕ) (arrays : ArrayWidths) (lent out : List ℕ) (r : Outcome) (k : ℕ) → widths.number r ≡ suc k → WidthContract r nodes bits side arrays lent out
     → out ≡ replicate (length lent) 0
-widths-refused nodes bits side lent out r k h c =
-    ap (λ (x : Answer). x .output) c ∙ width-refused nodes bits side lent k (sym (ap (λ (x : Answer). x .number) c) ∙ h)
+widths-refused nodes bits side arrays lent out r k h c =
+    ap (λ (x : Answer). x .output) c ∙ width-refused nodes bits side arrays lent k (sym (ap (λ (x : Answer). x .number) c) ∙ h)
 
 -- ---------------------------------------------------------------- symbols
 

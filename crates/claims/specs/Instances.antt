@@ -16,7 +16,7 @@ use Rattle.smtlib.specs.Readings.{Reads}
 use Rattle.echo_spec.specs.Input.{Problem, nodesOf, no-node}
 use Rattle.echo_spec.specs.Widths.{node-wf, ext-wf}
 use Rattle.echo_spec.specs.Answers.{reading, ext-wf-answer, echo-ext-answer}
-use Rattle.echo_spec.specs.Examples.{node, problem, var, fun, lent, eleven, allMeet}
+use Rattle.echo_spec.specs.Examples.{noArrays, node, problem, var, fun, lent, eleven, allMeet}
 use Rattle.refusals.specs.declared.EchoError.the-variants.{Room}
 use Rattle.echo_kernel.specs.declared.Echo.the-variants.{Printed, Refused}
 use Rattle.sliver_kernel.specs.declared.Outcome.the-variants.{Accepted, Refused as NodeRefused}
@@ -114,7 +114,7 @@ integer = problem (node Call 0 8 0 0 ∷ []) [] [] [] [] [] (fun "int_to_bv" 8 �
 
 before-names : BeforeNames integer
 unfolding allMeet integer
-before-names = record { limits = tt; encoding = tt; widths = tt; columns = tt }
+before-names = record { limits = tt; encoding = tt; columns = tt; arrays = tt; widths = tt }
 
 added-word : echo-ext-answer integer (lent 200) .number ≡ 2
 unfolding allMeet integer
@@ -185,22 +185,22 @@ good = node Var 8 0 0 0 ++ (node Var 8 0 0 0 ++ node Eq 0 1 0 0)
 bad : List ℕ
 bad = node Var 8 0 0 0 ++ node Not 0 0 0 0
 
-passed : WidthContract (Accepted 3) good [] [] (lent 4) (8 ∷ 8 ∷ 1 ∷ 170 ∷ [])
+passed : WidthContract (Accepted 3) good [] [] noArrays (lent 4) (8 ∷ 8 ∷ 1 ∷ 170 ∷ [])
 unfolding allMeet good
 passed = refl
 
-stopped : WidthContract (NodeRefused 1) bad [] [] (lent 2) (0 ∷ 0 ∷ [])
+stopped : WidthContract (NodeRefused 1) bad [] [] noArrays (lent 2) (0 ∷ 0 ∷ [])
 unfolding allMeet bad
 stopped = refl
 
 every-width : 3 ≡ length (nodesOf good)
-every-width = widths-count good [] [] (lent 4) (8 ∷ 8 ∷ 1 ∷ 170 ∷ []) 3 passed .0
+every-width = widths-count good [] [] noArrays (lent 4) (8 ∷ 8 ∷ 1 ∷ 170 ∷ []) 3 passed .0
 
-widths-are : 3 ≡ length (ext-wf 0 [] (nodesOf good))
-widths-are = widths-written good [] [] (lent 4) (8 ∷ 8 ∷ 1 ∷ 170 ∷ []) 3 passed .0
+widths-are : 3 ≡ length (ext-wf 0 noArrays [] (nodesOf good))
+widths-are = widths-written good [] [] noArrays (lent 4) (8 ∷ 8 ∷ 1 ∷ 170 ∷ []) 3 passed .0
 
-ill-formed : node-wf 0 [] (ext-wf 0 [] (nodesOf bad)) (getD (nodesOf bad) 1 no-node) ≡ false
-ill-formed = widths-node bad [] [] (lent 2) (0 ∷ 0 ∷ []) 1 stopped .2
+ill-formed : node-wf 0 noArrays [] (ext-wf 0 noArrays [] (nodesOf bad)) (getD (nodesOf bad) 1 no-node) ≡ false
+ill-formed = widths-node bad [] [] noArrays (lent 2) (0 ∷ 0 ∷ []) 1 stopped refl .2
 
 zeroed-widths : _≡_ {A = List ℕ} (0 ∷ 0 ∷ []) (replicate 2 0)
-zeroed-widths = widths-refused bad [] [] (lent 2) (0 ∷ 0 ∷ []) (NodeRefused 1) 0 refl stopped
+zeroed-widths = widths-refused bad [] [] noArrays (lent 2) (0 ∷ 0 ∷ []) (NodeRefused 1) 0 refl stopped

@@ -1,15 +1,16 @@
 -- The answer of `echo_size` taken apart.
 use Prim.Native.Nat.{ℕ, zero, suc, _≤_}
 use mathlib.Core.Path.{_≡_, refl, sym, ap, _∙_}
-use mathlib.Core.List.{List}
+use mathlib.Core.List.{List, [], _∷_}
 use native.Mathlib.Omega.{arith}
-use lib.Dec.{leb}
+use lib.Dec.{T, leb}
 use lib.ListN.{length}
+use Rattle.lists.specs.Tests.{among}
 use Rattle.echo_spec.specs.Refusals.{unless, _orElse_}
 use Rattle.echo_spec.specs.Input.{Problem, Query, queryOf}
 use Rattle.echo_spec.specs.Answers.{script, endlessRefusal, textRefusal, echo-ext-answer}
 use Rattle.sizes.specs.Size.{termsEntered, SizeAnswer, sizeWith, echo-size-answer}
-use Rattle.echo_spec.specs.Accepted.{endless-bound}
+use Rattle.echo_spec.specs.Accepted.{endlessNumber, endless-number}
 use Rattle.theorems.specs.Answered.{text-number}
 
 with-number : (n : ℕ) (q : Query) → sizeWith n q .number ≡ n
@@ -22,8 +23,9 @@ module _ (p : Problem) where
   unfolding echo-size-answer
   size-number = with-number (endlessRefusal p) (queryOf p)
 
-  pub endless-listed : echo-size-answer p .number ≤ 9
-  endless-listed = rw size-number (endless-bound p)
+  pub endless-listed : T (among (0 ∷ 1 ∷ 2 ∷ 3 ∷ 4 ∷ 5 ∷ 6 ∷ 7 ∷ 8 ∷ 9 ∷ 12 ∷ []) (echo-size-answer p .number))
+  unfolding endlessNumber
+  endless-listed = rw size-number (endless-number p)
 
   by-number : {n : ℕ} → echo-size-answer p .number ≡ n → echo-size-answer p ≡ sizeWith n (queryOf p)
   unfolding echo-size-answer

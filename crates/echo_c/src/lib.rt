@@ -3,12 +3,14 @@
 pub mod size;
 
 use echo_kernel::Echo;
+use refusals::ARRAY_WIDTH;
 use refusals::ENCODING;
 use refusals::LIMIT;
 use refusals::MALFORMED;
 use refusals::ROOM;
 use sliver_kernel::Outcome;
 ghost use mathlib.Core.Path.{_≡_};
+ghost use Rattle.echo_spec.specs.Input.{arrayColumns};
 ghost use Rattle.echo_spec.specs.Answers.{echo-ext-answer, ext-wf-answer};
 ghost use Rattle.lent.specs.Lent.{problemOf};
 ghost use Rattle.echo_kernel.specs.Outcomes as echo;
@@ -22,8 +24,8 @@ pub struct EchoAnswer {
     pub length: u64,
 }
 
-// What the width pass answers. Number 0: the widths are written, and count is how many. Number 1: count is the node refused. Any other
-// number: count is 0.
+// What the width pass answers. Number 0: the widths are written, and count is how many. Number 1: count is the node refused, or
+// the node count where the two columns of the array table differ in length. Any other number: count is 0.
 #[repr(C)]
 pub struct WidthAnswer {
     pub number: u64,
@@ -69,6 +71,10 @@ fn width_answer(r: Outcome) -> WidthAnswer
             number: ROOM,
             count: 0,
         },
+        Outcome::ArrayWidth => WidthAnswer {
+            number: ARRAY_WIDTH,
+            count: 0,
+        },
     }
 }
 
@@ -87,13 +93,15 @@ pub extern "C" fn echo_ext<'a>(
     anames: &'a [u8],
     aname_start: &'a [u64],
     aname_len: &'a [u64],
+    index_width: &'a [u64],
+    value_width: &'a [u64],
     fnames: &'a [u8],
     fname_start: &'a [u64],
     fname_len: &'a [u64],
     func_width: &'a [u64],
     out: &mut [u8],
 ) -> EchoAnswer
-    ensures { λ r. ⌜ printed r (now (out .exit)) ≡ echo-ext-answer (problemOf (now (nodes .entry)) (now (bits .entry)) (now (side .entry)) (now (roots .entry)) (now (names .entry)) (now («name_start» .entry)) (now («name_len» .entry)) (now («var_node» .entry)) (now («var_width» .entry)) (now (anames .entry)) (now («aname_start» .entry)) (now («aname_len» .entry)) (now (fnames .entry)) (now («fname_start» .entry)) (now («fname_len» .entry)) (now («func_width» .entry))) (now (out .entry)) ⌝ }
+    ensures { λ r. ⌜ printed r (now (out .exit)) ≡ echo-ext-answer (problemOf (now (nodes .entry)) (now (bits .entry)) (now (side .entry)) (now (roots .entry)) (now (names .entry)) (now («name_start» .entry)) (now («name_len» .entry)) (now («var_node» .entry)) (now («var_width» .entry)) (now (anames .entry)) (now («aname_start» .entry)) (now («aname_len» .entry)) (now («index_width» .entry)) (now («value_width» .entry)) (now (fnames .entry)) (now («fname_start» .entry)) (now («fname_len» .entry)) (now («func_width» .entry))) (now (out .entry)) ⌝ }
 {
     let r = echo_kernel::echo_ext(
         nodes,
@@ -108,6 +116,8 @@ pub extern "C" fn echo_ext<'a>(
         anames,
         aname_start,
         aname_len,
+        index_width,
+        value_width,
         fnames,
         fname_start,
         fname_len,
@@ -119,9 +129,16 @@ pub extern "C" fn echo_ext<'a>(
 
 // The width pass.
 #[no_mangle]
-pub extern "C" fn ext_wf(nodes: &[u8], bits: &[u8], side: &[u64], out: &mut [u64]) -> WidthAnswer
-    ensures { λ r. ⌜ passed r (now (out .exit)) ≡ ext-wf-answer (now (nodes .entry)) (now (bits .entry)) (now (side .entry)) (now (out .entry)) ⌝ }
+pub extern "C" fn ext_wf(
+    nodes: &[u8],
+    bits: &[u8],
+    side: &[u64],
+    index_width: &[u64],
+    value_width: &[u64],
+    out: &mut [u64],
+) -> WidthAnswer
+    ensures { λ r. ⌜ passed r (now (out .exit)) ≡ ext-wf-answer (now (nodes .entry)) (now (bits .entry)) (now (side .entry)) (arrayColumns (now («index_width» .entry)) (now («value_width» .entry))) (now (out .entry)) ⌝ }
 {
-    let r = sliver_kernel::ext_wf(nodes, bits, side, out);
+    let r = sliver_kernel::ext_wf(nodes, bits, side, index_width, value_width, out);
     width_answer(r)
 }

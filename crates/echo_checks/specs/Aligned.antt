@@ -9,10 +9,6 @@ use borrow.Author.Tests.{eq-eqb}
 use Rattle.lists.specs.Tests.{and-true}
 use Rattle.echo_spec.specs.Tables.{oneLength}
 
-pub two-lengths : (a b : List ℕ) → oneLength (a ∷ b ∷ []) ≡ eqb (length b) (length a)
-unfolding oneLength
-two-lengths a b = rw (eq-eqb (length a) (length a) refl, and-true) refl
-
 pub three-lengths : (a b c : List ℕ) → oneLength (a ∷ b ∷ c ∷ []) ≡ eqb (length b) (length a) && eqb (length c) (length a)
 unfolding oneLength
 three-lengths a b c = rw (eq-eqb (length a) (length a) refl, and-true (eqb (length c) (length a))) refl

@@ -12,7 +12,7 @@ use Rattle.lent.specs.Lent.{Slice, slot, problemAt}
 
 abbrev pub columns : Problem → List (List ℕ)
 columns p =
-    p .name-start ∷ p .name-len ∷ p .var-node ∷ p .var-width ∷ p .aname-start ∷ p .aname-len ∷ p .fname-start ∷ p .fname-len ∷ p .func-width ∷ []
+    p .name-start ∷ p .name-len ∷ p .var-node ∷ p .var-width ∷ p .aname-start ∷ p .aname-len ∷ p .index-width ∷ p .value-width ∷ p .fname-start ∷ p .fname-len ∷ p .func-width ∷ []
 
 abbrev pub arenas : Problem → List (List ℕ)
 arenas p = p .names ∷ p .anames ∷ p .fnames ∷ []
@@ -26,10 +26,10 @@ pub record Bounds (p : Problem) : Type 0 where
 -- ---------------------------------------------------------------- laws
 
 -- the columns are the slices of numbers from place 2 on
-pub column-at : (n : List Slice) (k : ℕ) → 2 ≤ k → k < 11 → getD (columns (problemAt [] n)) (k - 2) [] ≡ slot n k
+pub column-at : (n : List Slice) (k : ℕ) → 2 ≤ k → k < 13 → getD (columns (problemAt [] n)) (k - 2) [] ≡ slot n k
 column-at n k l h =
     let e : 2 + (k - 2) ≡ k = omega arith in
-    getD-tabulate 9 (λ i. slot n (2 + i)) [] (k - 2) (omega arith) ∙ ap (slot n) e
+    getD-tabulate 11 (λ i. slot n (2 + i)) [] (k - 2) (omega arith) ∙ ap (slot n) e
 
 pub bounds : (p : Problem) → T (withinLimits p) → Bounds p
 unfolding withinLimits nodesWithin columnWithin
@@ -42,5 +42,5 @@ bounds p t =
     record {
       nodes = leb→le _ _ (and-0 nodes _ n);
       side = leb→le _ _ (and-1 bits _ (and-1 nodes _ n));
-      functions = leb→le _ _ (c .1 .1 .1 .1 .1 .1 .0);
+      functions = leb→le _ _ (c .1 .1 .1 .1 .1 .1 .1 .1 .0);
     }

@@ -14,6 +14,7 @@ use lent::FNAME_LEN;
 use lent::FNAME_START;
 use lent::FNAMES;
 use lent::FUNC_WIDTH;
+use lent::INDEX_WIDTH;
 use lent::NAME_LEN;
 use lent::NAME_START;
 use lent::NAMES;
@@ -22,6 +23,7 @@ use lent::NUMBERS;
 use lent::Node;
 use lent::ROOTS;
 use lent::SIDE;
+use lent::VALUE_WIDTH;
 use lent::VAR_NODE;
 use lent::VAR_WIDTH;
 use lent::count;
@@ -113,12 +115,6 @@ pub fn within_limits(bytes: &[&[u8]; BYTES], numbers: &[&[u64]; NUMBERS]) -> boo
 
 // ---------------------------------------------------------------- columns
 
-fn two_aligned(a: &[u64], b: &[u64]) -> bool
-    ensures { λ r. ⌜ r ≡ oneLength (now (a .entry) ∷ now (b .entry) ∷ []) ⌝ }
-{
-    b.len() == a.len()
-}
-
 fn three_aligned(a: &[u64], b: &[u64], c: &[u64]) -> bool
     ensures { λ r. ⌜ r ≡ oneLength (now (a .entry) ∷ now (b .entry) ∷ now (c .entry) ∷ []) ⌝ }
 {
@@ -153,7 +149,12 @@ pub fn columns_ok(bytes: &[&[u8]; BYTES], numbers: &[&[u64]; NUMBERS]) -> bool
     ) {
         return false;
     }
-    if !two_aligned(numbers[ANAME_START], numbers[ANAME_LEN]) {
+    if !four_aligned(
+        numbers[ANAME_START],
+        numbers[ANAME_LEN],
+        numbers[INDEX_WIDTH],
+        numbers[VALUE_WIDTH],
+    ) {
         return false;
     }
     three_aligned(

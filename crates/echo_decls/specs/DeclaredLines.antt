@@ -21,7 +21,7 @@ unfoldable pub variableLine : Dag → ℕ → List ℕ
 variableLine d k = variableText (record { name = getD (nameTable d) k []; width = getD (d .var-width) k 0 })
 
 unfoldable pub arrayLine : Dag → ℕ → List ℕ
-arrayLine d k = arrayText (record { name = getD (anameTable d) k []; index = indexWidth k; value = valueWidth k })
+arrayLine d k = arrayText (record { name = getD (anameTable d) k []; index = indexWidth (d .array-widths .index) k; value = valueWidth (d .array-widths .value) k })
 
 unfoldable pub functionLine : Dag → List ℕ → ℕ → List ℕ
 functionLine d ws g =
@@ -39,7 +39,7 @@ module _ (d : Dag) (k : ℕ) {n : Name} where
   unfolding variableLine
   variable-line p q = λ i. variableText (record { name = p i; width = q i })
 
-  pub array-line : {index value : ℕ} → n ≡ getD (anameTable d) k [] → index ≡ indexWidth k → value ≡ valueWidth k
+  pub array-line : {index value : ℕ} → n ≡ getD (anameTable d) k [] → index ≡ indexWidth (d .array-widths .index) k → value ≡ valueWidth (d .array-widths .value) k
       → arrayText (record { name = n; index = index; value = value }) ≡ arrayLine d k
   unfolding arrayLine
   array-line p q r = λ i. arrayText (record { name = p i; index = q i; value = r i })

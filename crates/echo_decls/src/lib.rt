@@ -19,19 +19,21 @@ use lent::FNAME_LEN;
 use lent::FNAME_START;
 use lent::FNAMES;
 use lent::FUNC_WIDTH;
+use lent::INDEX_WIDTH;
 use lent::NAME_LEN;
 use lent::NAME_START;
 use lent::NAMES;
 use lent::NODES;
 use lent::NUMBERS;
 use lent::SIDE;
+use lent::VALUE_WIDTH;
 use lent::VAR_WIDTH;
 use lent::count;
 use lent::get;
 use lent::node_of;
 use refusals::MAX_ENTRIES;
-use sliver_kernel::index_width;
-use sliver_kernel::value_width;
+use sliver_kernel::width_of_index;
+use sliver_kernel::width_of_value;
 ghost use mathlib.Core.Path.{_≡_};
 ghost use mathlib.Core.List.{[]};
 ghost use Prim.Native.Nat.{_<_};
@@ -86,7 +88,7 @@ fn decl_vars(bytes: &[&[u8]; BYTES], numbers: &[&[u64]; NUMBERS], p: Place, out:
 
 // ---------------------------------------------------------------- arrays
 
-// The line of array k.
+// The line of array k, by the widths that the table has for it.
 fn push_array(
     bytes: &[&[u8]; BYTES],
     numbers: &[&[u64]; NUMBERS],
@@ -98,8 +100,8 @@ fn push_array(
     ensures { λ r. ⌜ page r (now (out .exit)) ≡ written (page p (now (out .entry))) (arrayLine (dagAt (now (bytes .entry)) (now (numbers .entry))) k) ⌝ }
 {
     let name = entry_name(bytes[ANAMES], numbers[ANAME_START], numbers[ANAME_LEN], k);
-    let index = index_width(k);
-    let value = value_width(k);
+    let index = width_of_index(numbers[INDEX_WIDTH], k);
+    let value = width_of_value(numbers[VALUE_WIDTH], k);
     decl_array(name, index, value, p, out)
 }
 

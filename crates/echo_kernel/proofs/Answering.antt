@@ -1,22 +1,23 @@
 -- What each way out of an entry point answers, of any text with its number with endless room. Assumes nothing.
 use Prim.Native.Nat.{ℕ, zero, suc, _+_, _^_, _≤_, _<_}
-use mathlib.Core.Path.{_≡_, refl, sym, ap, _∙_}
-use mathlib.Core.List.{List, _++_}
+use mathlib.Core.Path.{_≡_, refl, sym, ap, _∙_, subst}
+use mathlib.Core.List.{List, [], _∷_, _++_}
 use native.Mathlib.Omega.{arith}
 use native.Mathlib.Decide.{decLe}
 use borrow.Author.Tests.{le-leb, lt-leb}
-use lib.Dec.{leb}
+use lib.Dec.{T, leb, leb→le}
 use lib.ListN.{length, drop, replicate}
+use Rattle.lists.specs.Tests.{among-every}
 use Rattle.echo_spec.specs.Refusals.{unless, _orElse_}
 use Rattle.echo_spec.specs.Input.{Problem, queryOf}
 use Rattle.echo_spec.specs.Answers.{zeroed, script, endlessRefusal, textRefusal, echoAnswer, textAnswer, echo-ext-answer}
-use Rattle.echo_spec.specs.Accepted.{endless-bound}
+use Rattle.echo_spec.specs.Accepted.{endlessNumber, endless-number}
 use Rattle.echo_bytes.specs.declared.Place.{Place}
 use Rattle.echo_bytes.specs.Page.{Page, page, start, written}
 use Rattle.echo_bytes.specs.Laws.{need-exact, written-fits}
 use Rattle.refusals.specs.declared.EchoError.{EchoError}
 use Rattle.refusals.specs.declared.EchoError.the-variants.{Room}
-use Rattle.refusals.specs.Numbers.{errorNumber}
+use Rattle.refusals.specs.Numbers.{errorNumber, Numbered}
 use Rattle.echo_kernel.specs.declared.Out.{Out}
 use Rattle.echo_kernel.specs.declared.Out.the-variants as out
 use Rattle.echo_kernel.specs.declared.Echo.the-variants.{Printed, Refused}
@@ -107,5 +108,9 @@ module _ (number : ℕ) (text : List ℕ) {lent l : List ℕ} {o : Out} (w : Wro
 
 -- the plain script's number is listed
 pub listed : (p : Problem) {text lent l : List ℕ} {o : Out} → Wrote (endlessRefusal p) text (page start lent) o l → {x : ℕ} → o ≡ out.Refused x
-    → (0 < x) × (x ≤ 10)
-listed p {text} w f = let t = told (endlessRefusal p) text w f in (t .1, omega (arith, t .0, endless-bound p))
+    → Numbered x
+unfolding endlessNumber
+listed p {text} w {x} f =
+    let t = told (endlessRefusal p) text w f in
+    let m : T (endlessNumber x) = subst (λ (k : ℕ). T (endlessNumber k)) (t .0) (endless-number p) in
+    (t .1, leb→le x 12 (among-every (λ k. leb k 12) (0 ∷ 1 ∷ 2 ∷ 3 ∷ 4 ∷ 5 ∷ 6 ∷ 7 ∷ 8 ∷ 9 ∷ 12 ∷ []) tt x m), λ e. subst (λ (k : ℕ). T (endlessNumber k)) e m)

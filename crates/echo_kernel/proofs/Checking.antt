@@ -8,7 +8,8 @@ use borrow.Author.Tests.{eq-eqb, ne-eqb}
 use lib.Dec.{T, leb, eqb}
 use lib.ListN.{length, take}
 use Rattle.lists.specs.Tests.{every, and-1, true→T}
-use Rattle.echo_spec.specs.Input.{Problem, withinLimits, nodeEncoded, encoded, nodesOf, dagOf, queryOf}
+use Rattle.echo_spec.specs.Input.{Problem, arrayWidths, withinLimits, nodeEncoded, encoded, nodesOf, dagOf, queryOf}
+use Rattle.echo_spec.specs.Widths.{arrayWidthsOk}
 use Rattle.echo_spec.specs.Names.{namesOk}
 use Rattle.echo_spec.specs.Sharing.{unshared}
 use Rattle.echo_spec.specs.Tables.{columnsOk, decl-vars-ok, decl-funcs-ok}
@@ -33,58 +34,60 @@ bits-binary p h =
     let B : Bool = every (λ b. leb b 1) (p .bits) in
     and-1 F B (and-1 E (F && B) h)
 
--- ---------------------------------------------------------------- from the columns on
+-- ---------------------------------------------------------------- from the names on
 
 pub walked : {e w : ℕ} → e ≡ w → e ≤ 0 → w ≡ 0
 walked q h = omega arith
 
 module _ (p : Problem) (ws : List ℕ) where
-  pub bad-columns : columnsOk (dagOf p) ≡ false → {text : List ℕ} {pg : Page} {l : List ℕ} → Wrote (tablesRefusal p ws) text pg (Refused 1) l
+  pub bad-names : namesOk (dagOf p) ≡ false → {text : List ℕ} {pg : Page} {l : List ℕ} → Wrote (tablesRefusal p ws) text pg (Refused 2) l
   unfolding tablesRefusal
-  bad-columns e = rw e (record { told = refl })
+  bad-names e = rw e (record { told = refl })
 
-  module _ (c : columnsOk (dagOf p) ≡ true) where
-    pub bad-names : namesOk (dagOf p) ≡ false → {text : List ℕ} {pg : Page} {l : List ℕ} → Wrote (tablesRefusal p ws) text pg (Refused 2) l
-    unfolding tablesRefusal
-    bad-names e = rw (c, e) (record { told = refl })
+  module _ (n : namesOk (dagOf p) ≡ true) where
+    pub shared-node : unshared (nodesOf (p .nodes)) (p .side) (p .roots) ≡ false → {text : List ℕ} {pg : Page} {l : List ℕ} → Wrote (tablesRefusal p ws) text pg (Refused 6) l
+    unfolding tablesRefusal dagOf
+    shared-node e = rw (n, e) (record { told = refl })
 
-    module _ (n : namesOk (dagOf p) ≡ true) where
-      pub shared-node : unshared (nodesOf (p .nodes)) (p .side) (p .roots) ≡ false → {text : List ℕ} {pg : Page} {l : List ℕ} → Wrote (tablesRefusal p ws) text pg (Refused 6) l
+    module _ (s : unshared (nodesOf (p .nodes)) (p .side) (p .roots) ≡ true) where
+      pub bad-variables : decl-vars-ok (dagOf p) ≡ false → {text : List ℕ} {pg : Page} {l : List ℕ} → Wrote (tablesRefusal p ws) text pg (Refused 4) l
       unfolding tablesRefusal dagOf
-      shared-node e = rw (c, n, e) (record { told = refl })
+      bad-variables e = rw (n, s, e) (record { told = refl })
 
-      module _ (s : unshared (nodesOf (p .nodes)) (p .side) (p .roots) ≡ true) where
-        pub bad-variables : decl-vars-ok (dagOf p) ≡ false → {text : List ℕ} {pg : Page} {l : List ℕ} → Wrote (tablesRefusal p ws) text pg (Refused 4) l
+      module _ (v : decl-vars-ok (dagOf p) ≡ true) where
+        pub bad-functions : decl-funcs-ok (dagOf p) ws ≡ false → {text : List ℕ} {pg : Page} {l : List ℕ} → Wrote (tablesRefusal p ws) text pg (Refused 7) l
         unfolding tablesRefusal dagOf
-        bad-variables e = rw (c, n, s, e) (record { told = refl })
+        bad-functions e = rw (n, s, v, e) (record { told = refl })
 
-        module _ (v : decl-vars-ok (dagOf p) ≡ true) where
-          pub bad-functions : decl-funcs-ok (dagOf p) ws ≡ false → {text : List ℕ} {pg : Page} {l : List ℕ} → Wrote (tablesRefusal p ws) text pg (Refused 7) l
+        module _ (f : decl-funcs-ok (dagOf p) ws ≡ true) where
+          all-passed : tablesRefusal p ws ≡ walkRoots (dagOf p) ws (p .roots)
           unfolding tablesRefusal dagOf
-          bad-functions e = rw (c, n, s, v, e) (record { told = refl })
+          all-passed = rw (n, s, v, f) refl
 
-          module _ (f : decl-funcs-ok (dagOf p) ws ≡ true) where
-            all-passed : tablesRefusal p ws ≡ walkRoots (dagOf p) ws (p .roots)
-            unfolding tablesRefusal dagOf
-            all-passed = rw (c, n, s, v, f) refl
+          pub bad-root : (e : ℕ) → e ≡ walkRoots (dagOf p) ws (p .roots) → 0 < e → {text : List ℕ} {pg : Page} {l : List ℕ} → Wrote (tablesRefusal p ws) text pg (Refused e) l
+          bad-root zero q h = absurd (omega arith)
+          bad-root (suc e) q h = rw (all-passed, ← q) (record { told = refl })
 
-            pub bad-root : (e : ℕ) → e ≡ walkRoots (dagOf p) ws (p .roots) → 0 < e → {text : List ℕ} {pg : Page} {l : List ℕ} → Wrote (tablesRefusal p ws) text pg (Refused e) l
-            bad-root zero q h = absurd (omega arith)
-            bad-root (suc e) q h = rw (all-passed, ← q) (record { told = refl })
-
-            pub tables-passed : (e : ℕ) → e ≡ walkRoots (dagOf p) ws (p .roots) → e ≤ 0 → {q : Place} {text : List ℕ} {pg : Page} {l : List ℕ}
-                → page q l ≡ written pg text → Wrote (tablesRefusal p ws) text pg (Done q) l
-            tables-passed zero r h w = rw (all-passed, ← r) (record { told = (ap (λ (x : Page). Done (x .place)) w, ap (λ (x : Page). x .bytes) w) })
-            tables-passed (suc e) r h w = absurd (omega arith)
+          pub tables-passed : (e : ℕ) → e ≡ walkRoots (dagOf p) ws (p .roots) → e ≤ 0 → {q : Place} {text : List ℕ} {pg : Page} {l : List ℕ}
+              → page q l ≡ written pg text → Wrote (tablesRefusal p ws) text pg (Done q) l
+          tables-passed zero r h w = rw (all-passed, ← r) (record { told = (ap (λ (x : Page). Done (x .place)) w, ap (λ (x : Page). x .bytes) w) })
+          tables-passed (suc e) r h w = absurd (omega arith)
 
 -- ---------------------------------------------------------------- from the limits on
 
-module _ (p : Problem) {n : ℕ} {ws : List ℕ} (h : Passed (length (p .bits)) (p .side) (nodesOf (p .nodes)) n ws) (m : length (nodesOf (p .nodes)) ≤ n) where
+module _ (p : Problem) {n : ℕ} {ws : List ℕ} (h : Passed (length (p .bits)) (arrayWidths p) (p .side) (nodesOf (p .nodes)) n ws) (m : length (nodesOf (p .nodes)) ≤ n) where
   all-formed : n ≡ length (nodesOf (p .nodes))
-  all-formed = omega (arith, h .count, ext-wf-short (length (p .bits)) (p .side) (nodesOf (p .nodes)))
+  all-formed = omega (arith, h .count, ext-wf-short (length (p .bits)) (arrayWidths p) (p .side) (nodesOf (p .nodes)))
 
-  pub formed : withinLimits p ≡ true → encoded (p .nodes) (p .bits) ≡ true → WellFormed p (take n ws)
-  formed w c = record { within = true→T w; encodes = true→T c; widths = h .table; counted = ap length (h .table) ∙ sym (h .count) ∙ all-formed }
+  pub formed : withinLimits p ≡ true → encoded (p .nodes) (p .bits) ≡ true → columnsOk (dagOf p) ≡ true → arrayWidthsOk (arrayWidths p) ≡ true → WellFormed p (take n ws)
+  formed w c k a = record {
+    within = true→T w;
+    encodes = true→T c;
+    columns = true→T k;
+    arrays = true→T a;
+    widths = h .table;
+    counted = ap length (h .table) ∙ sym (h .count) ∙ all-formed;
+  }
 
 module _ (p : Problem) where
   pub over-limit : withinLimits p ≡ false → {text : List ℕ} {pg : Page} {l : List ℕ} → Wrote (endlessRefusal p) text pg (Refused 9) l
@@ -96,15 +99,25 @@ module _ (p : Problem) where
     unfolding endlessRefusal endlessWith
     ill-encoded e = rw (w, e) (record { told = refl })
 
-    module _ (c : encoded (p .nodes) (p .bits) ≡ true) {n : ℕ} {ws : List ℕ} (h : Passed (length (p .bits)) (p .side) (nodesOf (p .nodes)) n ws) where
-      pub ill-formed : n < length (nodesOf (p .nodes)) → {text : List ℕ} {pg : Page} {l : List ℕ} → Wrote (endlessRefusal p) text pg (Refused 1) l
-      unfolding endlessRefusal endlessWith refusalWith dagOf
-      ill-formed m =
-          rw (w, c, ← h .count, ne-eqb n (length (nodesOf (p .nodes))) (λ q. omega arith)) (record { told = refl })
+    module _ (c : encoded (p .nodes) (p .bits) ≡ true) where
+      pub bad-columns : columnsOk (dagOf p) ≡ false → {text : List ℕ} {pg : Page} {l : List ℕ} → Wrote (endlessRefusal p) text pg (Refused 1) l
+      unfolding endlessRefusal endlessWith refusalWith
+      bad-columns e = rw (w, c, e) (record { told = refl })
 
-      pub checks-passed : length (nodesOf (p .nodes)) ≤ n → {pg : Page} {o : Out} {l : List ℕ} → Wrote (tablesRefusal p (take n ws)) (plainScript p (take n ws)) pg o l
-          → Wrote (endlessRefusal p) (script (queryOf p)) pg o l
-      unfolding endlessRefusal endlessWith refusalWith tablesRefusal script readingOf render dagOf
-      checks-passed m {pg} {o} {l} k =
-          rw (w, c, ← h .count, eq-eqb n (length (nodesOf (p .nodes))) (all-formed p h m))
-          (subst (λ (z : List ℕ). Wrote (tablesRefusal p z) (plainScript p z) pg o l) (h .table) k)
+      module _ (k : columnsOk (dagOf p) ≡ true) where
+        pub bad-widths : arrayWidthsOk (arrayWidths p) ≡ false → {text : List ℕ} {pg : Page} {l : List ℕ} → Wrote (endlessRefusal p) text pg (Refused 12) l
+        unfolding endlessRefusal endlessWith refusalWith dagOf
+        bad-widths e = rw (w, c, k, e) (record { told = refl })
+
+        module _ (a : arrayWidthsOk (arrayWidths p) ≡ true) {n : ℕ} {ws : List ℕ} (h : Passed (length (p .bits)) (arrayWidths p) (p .side) (nodesOf (p .nodes)) n ws) where
+          pub ill-formed : n < length (nodesOf (p .nodes)) → {text : List ℕ} {pg : Page} {l : List ℕ} → Wrote (endlessRefusal p) text pg (Refused 1) l
+          unfolding endlessRefusal endlessWith refusalWith dagOf
+          ill-formed m =
+              rw (w, c, k, a, ← h .count, ne-eqb n (length (nodesOf (p .nodes))) (λ q. omega arith)) (record { told = refl })
+
+          pub checks-passed : length (nodesOf (p .nodes)) ≤ n → {pg : Page} {o : Out} {l : List ℕ} → Wrote (tablesRefusal p (take n ws)) (plainScript p (take n ws)) pg o l
+              → Wrote (endlessRefusal p) (script (queryOf p)) pg o l
+          unfolding endlessRefusal endlessWith refusalWith tablesRefusal script readingOf render dagOf
+          checks-passed m {pg} {o} {l} t =
+              rw (w, c, k, a, ← h .count, eq-eqb n (length (nodesOf (p .nodes))) (all-formed p h m))
+              (subst (λ (z : List ℕ). Wrote (tablesRefusal p z) (plainScript p z) pg o l) (h .table) t)

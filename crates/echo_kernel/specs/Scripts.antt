@@ -40,7 +40,7 @@ roots-are g d ws bits (r ∷ rs) h =
     let e : (bytes "(assert" ++ ((32 ∷ t) ++ bytes ")\n")) ++ rest ≡ bytes "(assert" ++ ((32 ∷ t) ++ (bytes ")\n" ++ rest)) = simp append-assoc in
     (λ i. (bytes "(assert" ++ ((32 ∷ h 0 (omega arith) i) ++ bytes ")\n")) ++ roots-are g d ws bits rs (λ k l. h (suc k) (omega arith)) i) ∙ e
 
--- ---------------------------------------------------------------- the plain script, and what it is refused with from the columns on
+-- ---------------------------------------------------------------- the plain script, and what it is refused with from the names on
 
 -- over the widths ws
 abbrev pub plainScript : Problem → List ℕ → List ℕ

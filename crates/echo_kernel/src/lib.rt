@@ -6,14 +6,17 @@ use echo_walk::SYMBOLS;
 use echo_walk::TABLES;
 use lent::BITS;
 use lent::BYTES;
+use lent::INDEX_WIDTH;
 use lent::NODES;
 use lent::NUMBERS;
 use lent::ROOTS;
 use lent::SIDE;
+use lent::VALUE_WIDTH;
 use lent::VAR_NODE;
 use lent::clear_bytes;
 use lent::node_count;
 use lent::size;
+use refusals::ARRAY_WIDTH;
 use refusals::ENCODING;
 use refusals::EchoError;
 use refusals::LIMIT;
@@ -137,14 +140,11 @@ pub enum Out {
     Refused(u64),
 }
 
-// From the columns on: the nodes are well formed and have these widths.
+// From the names on: the columns are of one length, and the nodes well formed and of these widths.
 fn tables(bytes: &[&[u8]; BYTES], numbers: &[&[u64]; NUMBERS], ws: &[u64], out: &mut [u8]) -> Out
     requires { ⌜ WellFormed (problemAt (now bytes) (now numbers)) (now ws) ⌝ }
     ensures { λ r. ⌜ Wrote (tablesRefusal (problemAt (now (bytes .entry)) (now (numbers .entry))) (now (ws .entry))) (plainScript (problemAt (now (bytes .entry)) (now (numbers .entry))) (now (ws .entry))) (page start (now (out .entry))) r (now (out .exit)) ⌝ }
 {
-    if !echo_checks::columns_ok(bytes, numbers) {
-        return Out::Refused(MALFORMED);
-    }
     if !echo_checks::names_ok(bytes, numbers) {
         return Out::Refused(NAME);
     }
@@ -181,8 +181,21 @@ pub fn checked(bytes: &[&[u8]; BYTES], numbers: &[&[u64]; NUMBERS], out: &mut [u
     if !blast_kernel::encoded(bytes[NODES], bytes[BITS]) {
         return Out::Refused(ENCODING);
     }
+    if !echo_checks::columns_ok(bytes, numbers) {
+        return Out::Refused(MALFORMED);
+    }
+    if !sliver_kernel::array_widths_ok(numbers[INDEX_WIDTH], numbers[VALUE_WIDTH]) {
+        return Out::Refused(ARRAY_WIDTH);
+    }
     let mut ws = [0u64; MAX_NODES];
-    let n = sliver_kernel::widths(bytes[NODES], size(bytes[BITS]), numbers[SIDE], &mut ws);
+    let n = sliver_kernel::widths(
+        bytes[NODES],
+        size(bytes[BITS]),
+        numbers[SIDE],
+        numbers[INDEX_WIDTH],
+        numbers[VALUE_WIDTH],
+        &mut ws,
+    );
     if n < node_count(bytes[NODES]) {
         return Out::Refused(MALFORMED);
     }
@@ -232,13 +245,15 @@ pub fn echo_ext<'a>(
     anames: &'a [u8],
     aname_start: &'a [u64],
     aname_len: &'a [u64],
+    index_width: &'a [u64],
+    value_width: &'a [u64],
     fnames: &'a [u8],
     fname_start: &'a [u64],
     fname_len: &'a [u64],
     func_width: &'a [u64],
     out: &mut [u8],
 ) -> Echo
-    ensures { λ r. ⌜ answered r (now (out .exit)) ≡ echo-ext-answer (problemOf (now (nodes .entry)) (now (bits .entry)) (now (side .entry)) (now (roots .entry)) (now (names .entry)) (now («name_start» .entry)) (now («name_len» .entry)) (now («var_node» .entry)) (now («var_width» .entry)) (now (anames .entry)) (now («aname_start» .entry)) (now («aname_len» .entry)) (now (fnames .entry)) (now («fname_start» .entry)) (now («fname_len» .entry)) (now («func_width» .entry))) (now (out .entry)) ⌝ }
+    ensures { λ r. ⌜ answered r (now (out .exit)) ≡ echo-ext-answer (problemOf (now (nodes .entry)) (now (bits .entry)) (now (side .entry)) (now (roots .entry)) (now (names .entry)) (now («name_start» .entry)) (now («name_len» .entry)) (now («var_node» .entry)) (now («var_width» .entry)) (now (anames .entry)) (now («aname_start» .entry)) (now («aname_len» .entry)) (now («index_width» .entry)) (now («value_width» .entry)) (now (fnames .entry)) (now («fname_start» .entry)) (now («fname_len» .entry)) (now («func_width» .entry))) (now (out .entry)) ⌝ }
 {
     let bytes = [nodes, bits, names, anames, fnames];
     let numbers = [
@@ -250,6 +265,8 @@ pub fn echo_ext<'a>(
         var_width,
         aname_start,
         aname_len,
+        index_width,
+        value_width,
         fname_start,
         fname_len,
         func_width,

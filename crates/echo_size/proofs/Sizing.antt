@@ -6,7 +6,7 @@ use native.Mathlib.Omega.{arith}
 use lib.Dec.{T, lt→ltb, le→leb}
 use lib.ListN.{length, getD}
 use Rattle.lists.specs.Tests.{every, places-every}
-use Rattle.echo_spec.specs.Input.{Problem, nodesOf, dagOf, largest, fits64, Query, queryOf}
+use Rattle.echo_spec.specs.Input.{Problem, arrayWidths, nodesOf, dagOf, largest, fits64, Query, queryOf}
 use Rattle.echo_spec.specs.Answers.{script, endlessRefusal}
 use Rattle.echo_bytes.specs.declared.Place.{Place}
 use Rattle.echo_bytes.specs.Page.{Page, page, start, written}
@@ -46,7 +46,7 @@ module _ (p : Problem) {lent l : List ℕ} {o : Out} (w : Wrote (endlessRefusal 
 
     pub countable : Countable (p .nodes) (p .side)
     unfolding dagOf
-    countable = record { within = limits p passed .bytes; bits = length (p .bits); formed = widths-all p passed }
+    countable = record { within = limits p passed .bytes; bits = length (p .bits); arrays = arrayWidths p; formed = widths-all p passed }
 
     needed : Columns p → q .need ≡ length (script (queryOf p))
     unfolding written

@@ -49,12 +49,14 @@ pub fn echo_size<'a>(
     anames: &'a [u8],
     aname_start: &'a [u64],
     aname_len: &'a [u64],
+    index_width: &'a [u64],
+    value_width: &'a [u64],
     fnames: &'a [u8],
     fname_start: &'a [u64],
     fname_len: &'a [u64],
     func_width: &'a [u64],
 ) -> Size
-    ensures { λ r. ⌜ answered r ≡ echo-size-answer (problemOf (now (nodes .entry)) (now (bits .entry)) (now (side .entry)) (now (roots .entry)) (now (names .entry)) (now («name_start» .entry)) (now («name_len» .entry)) (now («var_node» .entry)) (now («var_width» .entry)) (now (anames .entry)) (now («aname_start» .entry)) (now («aname_len» .entry)) (now (fnames .entry)) (now («fname_start» .entry)) (now («fname_len» .entry)) (now («func_width» .entry))) ⌝ }
+    ensures { λ r. ⌜ answered r ≡ echo-size-answer (problemOf (now (nodes .entry)) (now (bits .entry)) (now (side .entry)) (now (roots .entry)) (now (names .entry)) (now («name_start» .entry)) (now («name_len» .entry)) (now («var_node» .entry)) (now («var_width» .entry)) (now (anames .entry)) (now («aname_start» .entry)) (now («aname_len» .entry)) (now («index_width» .entry)) (now («value_width» .entry)) (now (fnames .entry)) (now («fname_start» .entry)) (now («fname_len» .entry)) (now («func_width» .entry))) ⌝ }
 {
     let bytes = [nodes, bits, names, anames, fnames];
     let numbers = [
@@ -66,6 +68,8 @@ pub fn echo_size<'a>(
         var_width,
         aname_start,
         aname_len,
+        index_width,
+        value_width,
         fname_start,
         fname_len,
         func_width,

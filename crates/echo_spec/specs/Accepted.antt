@@ -29,7 +29,7 @@ use Rattle.echo_spec.specs.Shapes.{
   isBool,
 }
 use Rattle.echo_spec.specs.Input.{Node, shape, no-node, Dag, anameTable, fnameTable, Problem, withinLimits, encoded, dagOf}
-use Rattle.echo_spec.specs.Widths.{ext-wf}
+use Rattle.echo_spec.specs.Widths.{arrayWidthsOk, ext-wf}
 use Rattle.echo_spec.specs.Answers.{endlessWith, endlessRefusal}
 use Rattle.echo_spec.specs.Names.{namesOk}
 use Rattle.echo_spec.specs.Sharing.{unshared}
@@ -76,23 +76,26 @@ unless-bound false n k h = h
 
 -- whatever way it is printed
 pub record Checked (d : Dag) (ws : List ℕ) : Type 0 where
-  pub widths : length ws ≡ length (d .nodes)
   pub columns : T (columnsOk d)
+  pub arrays : T (arrayWidthsOk (d .array-widths))
+  pub widths : length ws ≡ length (d .nodes)
   pub names : T (namesOk d)
   pub variables : T (decl-vars-ok d)
   pub functions : T (decl-funcs-ok d ws)
 
 pub checks-passed : (d : Dag) (ws : List ℕ) (sharing walked : ℕ) → checks d ws sharing walked ≡ 0 → Checked d ws × (sharing ≡ 0) × (walked ≡ 0)
 checks-passed d ws sharing walked e =
-    let e₁ = orElse-passed (unless (eqb (length ws) (length (d .nodes))) 1) _ e in
-    let e₂ = orElse-passed (unless (columnsOk d) 1) _ (e₁ .1) in
+    let c = orElse-passed (unless (columnsOk d) 1) _ e in
+    let e₁ = orElse-passed (unless (arrayWidthsOk (d .array-widths)) 12) _ (c .1) in
+    let e₂ = orElse-passed (unless (eqb (length ws) (length (d .nodes))) 1) _ (e₁ .1) in
     let e₃ = orElse-passed (unless (namesOk d) 2) _ (e₂ .1) in
     let e₄ = orElse-passed sharing _ (e₃ .1) in
     let e₅ = orElse-passed (unless (decl-vars-ok d) 4) _ (e₄ .1) in
     let e₆ = orElse-passed (unless (decl-funcs-ok d ws) 7) _ (e₅ .1) in (
       record {
-        widths = eqb→eq (length ws) (length (d .nodes)) (unless-passed (eqb (length ws) (length (d .nodes))) 0 (e₁ .0));
-        columns = unless-passed (columnsOk d) 0 (e₂ .0);
+        columns = unless-passed (columnsOk d) 0 (c .0);
+        arrays = unless-passed (arrayWidthsOk (d .array-widths)) 11 (e₁ .0);
+        widths = eqb→eq (length ws) (length (d .nodes)) (unless-passed (eqb (length ws) (length (d .nodes))) 0 (e₂ .0));
         names = unless-passed (namesOk d) 1 (e₃ .0);
         variables = unless-passed (decl-vars-ok d) 3 (e₅ .0);
         functions = unless-passed (decl-funcs-ok d ws) 6 (e₆ .0);
@@ -195,32 +198,38 @@ walk-number d ws i =
     step-number d ws (walksBelow d ws i)
     (upto-all (λ (f : Bool → ℕ). (b : Bool) → T (walkNumber (f b))) (walkStep d ws) (λ _. 1) (λ b. tt) (λ below h k. step-number d ws below h k) i) i
 
--- the checks that every way to print has tell 1, 2, 4 and 7, besides what its own two tell
-pub checks-number : (t : ℕ → Bool) (d : Dag) (ws : List ℕ) (sharing walked : ℕ) → T (every t (0 ∷ 1 ∷ 2 ∷ 4 ∷ 7 ∷ [])) → T (t sharing) → T (t walked) → T (t (checks d ws sharing walked))
+-- the checks that every way to print has tell 1, 2, 4, 7 and 12, besides what its own two tell
+pub checks-number : (t : ℕ → Bool) (d : Dag) (ws : List ℕ) (sharing walked : ℕ) → T (every t (0 ∷ 1 ∷ 2 ∷ 4 ∷ 7 ∷ 12 ∷ [])) → T (t sharing) → T (t walked) → T (t (checks d ws sharing walked))
 checks-number t d ws sharing walked h s w =
-    let (t₀, (t₁, (t₂, (t₄, (t₇, end))))) = by-test t (0 ∷ 1 ∷ 2 ∷ 4 ∷ 7 ∷ []) h in
-    in-orElse t (unless (eqb (length ws) (length (d .nodes))) 1) _ (in-unless t (eqb (length ws) (length (d .nodes))) 1 t₀ t₁)
-    (in-orElse t (unless (columnsOk d) 1) _ (in-unless t (columnsOk d) 1 t₀ t₁)
+    let (t₀, (t₁, (t₂, (t₄, (t₇, (t₁₂, end)))))) = by-test t (0 ∷ 1 ∷ 2 ∷ 4 ∷ 7 ∷ 12 ∷ []) h in
+    in-orElse t (unless (columnsOk d) 1) _ (in-unless t (columnsOk d) 1 t₀ t₁)
+    (in-orElse t (unless (arrayWidthsOk (d .array-widths)) 12) _ (in-unless t (arrayWidthsOk (d .array-widths)) 12 t₀ t₁₂)
+    (in-orElse t (unless (eqb (length ws) (length (d .nodes))) 1) _ (in-unless t (eqb (length ws) (length (d .nodes))) 1 t₀ t₁)
     (in-orElse t (unless (namesOk d) 2) _ (in-unless t (namesOk d) 2 t₀ t₂)
     (in-orElse t sharing _ s
     (in-orElse t (unless (decl-vars-ok d) 4) _ (in-unless t (decl-vars-ok d) 4 t₀ t₄)
-    (in-orElse t (unless (decl-funcs-ok d ws) 7) walked (in-unless t (decl-funcs-ok d ws) 7 t₀ t₇) w)))))
+    (in-orElse t (unless (decl-funcs-ok d ws) 7) walked (in-unless t (decl-funcs-ok d ws) 7 t₀ t₇) w))))))
 
--- a query's refusals are 1 to 7
-pub refusal-bound : (d : Dag) (ws roots : List ℕ) → refusalWith d ws roots ≤ 7
-unfolding refusalWith walkRoots walkNumber
-refusal-bound d ws roots =
-    let small : (ℕ → Bool) = λ n. leb n 7 in
-    leb→le (refusalWith d ws roots) 7
-    (checks-number small d ws (unless (unshared (d .nodes) (d .side) roots) 6) (walkRoots d ws roots) tt (in-unless small (unshared (d .nodes) (d .side) roots) 6 tt tt)
-    (among-every small (0 ∷ 1 ∷ 3 ∷ 4 ∷ 5 ∷ 7 ∷ []) tt (walkRoots d ws roots) (all-number (walk d ws) (walk-number d ws) (map formula roots))))
+-- a query's refusals are 1 to 7 and 12
+unfoldable pub queryNumber : ℕ → Bool
+queryNumber n = among (0 ∷ 1 ∷ 2 ∷ 3 ∷ 4 ∷ 5 ∷ 6 ∷ 7 ∷ 12 ∷ []) n
 
--- with endless room a problem is accepted or refused with 1 to 9
-pub endless-bound : (p : Problem) → endlessRefusal p ≤ 9
-unfolding endlessRefusal endlessWith
-endless-bound p =
-    orElse-either (unless (withinLimits p) 9) (unless (encoded (p .nodes) (p .bits)) 8 orElse refusal (dagOf p) (length (p .bits)) (p .roots)) 9
-    (unless-bound (withinLimits p) 9 9 (omega arith))
-    (orElse-either (unless (encoded (p .nodes) (p .bits)) 8) (refusal (dagOf p) (length (p .bits)) (p .roots)) 9
-    (unless-bound (encoded (p .nodes) (p .bits)) 8 9 (omega arith))
-    (omega (arith, refusal-bound (dagOf p) (ext-wf (length (p .bits)) (dagOf p .side) (dagOf p .nodes)) (p .roots))))
+pub refusal-number : (d : Dag) (ws roots : List ℕ) → T (queryNumber (refusalWith d ws roots))
+unfolding refusalWith walkRoots walkNumber queryNumber
+refusal-number d ws roots =
+    checks-number queryNumber d ws (unless (unshared (d .nodes) (d .side) roots) 6) (walkRoots d ws roots) tt (in-unless queryNumber (unshared (d .nodes) (d .side) roots) 6 tt tt)
+    (among-every queryNumber (0 ∷ 1 ∷ 3 ∷ 4 ∷ 5 ∷ 7 ∷ []) tt (walkRoots d ws roots) (all-number (walk d ws) (walk-number d ws) (map formula roots)))
+
+-- with endless room a problem is accepted or refused with 1 to 9 or 12
+unfoldable pub endlessNumber : ℕ → Bool
+endlessNumber n = among (0 ∷ 1 ∷ 2 ∷ 3 ∷ 4 ∷ 5 ∷ 6 ∷ 7 ∷ 8 ∷ 9 ∷ 12 ∷ []) n
+
+pub endless-number : (p : Problem) → T (endlessNumber (endlessRefusal p))
+unfolding endlessRefusal endlessWith endlessNumber queryNumber
+endless-number p =
+    let d : Dag = dagOf p in
+    let asked : ℕ = refusal d (length (p .bits)) (p .roots) in
+    in-orElse endlessNumber (unless (withinLimits p) 9) _ (in-unless endlessNumber (withinLimits p) 9 tt tt)
+    (in-orElse endlessNumber (unless (encoded (p .nodes) (p .bits)) 8) asked (in-unless endlessNumber (encoded (p .nodes) (p .bits)) 8 tt tt)
+    (among-every endlessNumber (0 ∷ 1 ∷ 2 ∷ 3 ∷ 4 ∷ 5 ∷ 6 ∷ 7 ∷ 12 ∷ []) tt asked
+    (refusal-number d (ext-wf (length (p .bits)) (d .array-widths) (d .side) (d .nodes)) (p .roots))))

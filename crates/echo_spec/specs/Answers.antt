@@ -1,13 +1,14 @@
 -- What the two entry points answer to every input: a number, a length or count, and the whole output.
 use Prim.Native.Nat.{ℕ, zero, suc}
 use mathlib.Core.List.{List, [], _∷_, _++_}
-use mathlib.Core.Bool.{Bool, true, false}
+use mathlib.Core.Bool.{Bool, true, false, cond}
 use lib.Dec.{leb, eqb}
 use lib.ListN.{length, drop, replicate}
 use Rattle.echo_spec.specs.Refusals.{unless, _orElse_}
 use Rattle.reading.specs.Trees.{Reading}
-use Rattle.echo_spec.specs.Input.{Problem, nodesWithin, withinLimits, nodesOf, encoded, dagOf, Query, queryOf}
-use Rattle.echo_spec.specs.Widths.{ext-wf}
+use Rattle.echo_spec.specs.Input.{Problem, ArrayWidths, passWithin, withinLimits, nodesOf, encoded, dagOf, Query, queryOf}
+use Rattle.echo_spec.specs.Widths.{arrayWidthsOk, ext-wf}
+use Rattle.echo_spec.specs.Tables.{oneLength}
 use Rattle.echo_spec.specs.Trees.{readingOf}
 use Rattle.echo_spec.specs.Walk.{refusal}
 use Rattle.echo_spec.specs.Render.{render}
@@ -28,23 +29,29 @@ zeroed lent = replicate (length lent) 0
 -- ---------------------------------------------------------------- the width pass
 
 -- ws are the widths of the nodes before the first that is not well formed; `room` is the length of the lent slice
-unfoldable pub widthRefusal : List ℕ → List ℕ → List ℕ → List ℕ → ℕ → ℕ
-widthRefusal nodes bits side ws room =
-    unless (nodesWithin nodes bits side) 9
+unfoldable pub widthRefusal : List ℕ → List ℕ → List ℕ → ArrayWidths → List ℕ → ℕ → ℕ
+widthRefusal nodes bits side arrays ws room =
+    unless (passWithin nodes bits side arrays) 9
     orElse unless (encoded nodes bits) 8
+    orElse unless (oneLength (arrays .index ∷ arrays .value ∷ [])) 1
+    orElse unless (arrayWidthsOk arrays) 12
     orElse unless (eqb (length ws) (length (nodesOf nodes))) 1
     orElse unless (leb (length ws) room) 10
 
--- with 1 goes the number of the node refused
-unfoldable pub widthAnswer : ℕ → List ℕ → List ℕ → Answer
-widthAnswer zero ws lent = record { number = 0; count = length ws; output = atFront ws lent }
-widthAnswer (suc zero) ws lent = record { number = 1; count = length ws; output = zeroed lent }
-widthAnswer (suc (suc n)) ws lent = record { number = suc (suc n); count = 0; output = zeroed lent }
+-- what goes with 1: the number of the node refused, or the node count where the two columns of the array table differ in length
+unfoldable pub refusedNode : List ℕ → ArrayWidths → List ℕ → ℕ
+refusedNode nodes arrays ws = cond (oneLength (arrays .index ∷ arrays .value ∷ [])) (length ws) (length (nodesOf nodes))
 
-unfoldable pub ext-wf-answer : List ℕ → List ℕ → List ℕ → List ℕ → Answer
-ext-wf-answer nodes bits side lent =
-    let ws : List ℕ = ext-wf (length bits) side (nodesOf nodes) in
-    widthAnswer (widthRefusal nodes bits side ws (length lent)) ws lent
+unfoldable pub widthAnswer : ℕ → ℕ → List ℕ → List ℕ → Answer
+widthAnswer zero at ws lent = record { number = 0; count = length ws; output = atFront ws lent }
+widthAnswer (suc zero) at ws lent = record { number = 1; count = at; output = zeroed lent }
+widthAnswer (suc (suc n)) at ws lent = record { number = suc (suc n); count = 0; output = zeroed lent }
+
+-- nodes, bits, side entries, the widths of the arrays
+unfoldable pub ext-wf-answer : List ℕ → List ℕ → List ℕ → ArrayWidths → List ℕ → Answer
+ext-wf-answer nodes bits side arrays lent =
+    let ws : List ℕ = ext-wf (length bits) arrays side (nodesOf nodes) in
+    widthAnswer (widthRefusal nodes bits side arrays ws (length lent)) (refusedNode nodes arrays ws) ws lent
 
 -- ---------------------------------------------------------------- a printer
 

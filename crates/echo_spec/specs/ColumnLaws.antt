@@ -16,6 +16,8 @@ pub record Aligned (d : Dag) : Type 0 where
   pub var-node : length (d .var-node) ≡ length (d .name-start)
   pub var-width : length (d .var-width) ≡ length (d .name-start)
   pub aname-len : length (d .aname-len) ≡ length (d .aname-start)
+  pub index-width : length (d .array-widths .index) ≡ length (d .aname-start)
+  pub value-width : length (d .array-widths .value) ≡ length (d .aname-start)
   pub fname-len : length (d .fname-len) ≡ length (d .fname-start)
   pub func-width : length (d .func-width) ≡ length (d .fname-start)
 
@@ -27,16 +29,20 @@ unfolding columnsOk oneLength
 columns-aligned d t =
     let v = and-0 (oneLength (d .name-start ∷ d .name-len ∷ d .var-node ∷ d .var-width ∷ [])) _ t in
     let t₁ = and-1 (oneLength (d .name-start ∷ d .name-len ∷ d .var-node ∷ d .var-width ∷ [])) _ t in
-    let a = and-0 (oneLength (d .aname-start ∷ d .aname-len ∷ [])) _ t₁ in
-    let f = and-1 (oneLength (d .aname-start ∷ d .aname-len ∷ [])) _ t₁ in
+    let a = and-0 (oneLength (d .aname-start ∷ d .aname-len ∷ d .array-widths .index ∷ d .array-widths .value ∷ [])) _ t₁ in
+    let f = and-1 (oneLength (d .aname-start ∷ d .aname-len ∷ d .array-widths .index ∷ d .array-widths .value ∷ [])) _ t₁ in
     let v₁ = and-1 (eqb (length (d .name-start)) (length (d .name-start))) _ v in
     let v₂ = and-1 (eqb (length (d .name-len)) (length (d .name-start))) _ v₁ in
+    let a₁ = and-1 (eqb (length (d .aname-start)) (length (d .aname-start))) _ a in
+    let a₂ = and-1 (eqb (length (d .aname-len)) (length (d .aname-start))) _ a₁ in
     let f₁ = and-1 (eqb (length (d .fname-start)) (length (d .fname-start))) _ f in
     record {
       name-len = as-long (d .name-len) (d .name-start) _ v₁;
       var-node = as-long (d .var-node) (d .name-start) _ v₂;
       var-width = as-long (d .var-width) (d .name-start) _ (and-1 (eqb (length (d .var-node)) (length (d .name-start))) _ v₂);
-      aname-len = as-long (d .aname-len) (d .aname-start) _ (and-1 (eqb (length (d .aname-start)) (length (d .aname-start))) _ a);
+      aname-len = as-long (d .aname-len) (d .aname-start) _ a₁;
+      index-width = as-long (d .array-widths .index) (d .aname-start) _ a₂;
+      value-width = as-long (d .array-widths .value) (d .aname-start) _ (and-1 (eqb (length (d .array-widths .index)) (length (d .aname-start))) _ a₂);
       fname-len = as-long (d .fname-len) (d .fname-start) _ f₁;
       func-width = as-long (d .func-width) (d .fname-start) _ (and-1 (eqb (length (d .fname-len)) (length (d .fname-start))) _ f₁);
     }

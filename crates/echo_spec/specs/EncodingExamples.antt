@@ -8,7 +8,7 @@ use lib.ListN.{replicate}
 use Rattle.lists.specs.Build.{tabulate}
 use Rattle.reading.specs.Kinds.{Var, Const, Add, Not, Call}
 use Rattle.echo_spec.specs.Answers.{Answer, ext-wf-answer}
-use Rattle.echo_spec.specs.Examples.{node, problem, Example, given, wanted, refuses, passes, widens, allMeet}
+use Rattle.echo_spec.specs.Examples.{noArrays, node, problem, Example, given, wanted, refuses, passes, widens, allMeet}
 
 -- ---------------------------------------------------------------- operands that a kind does not have
 
@@ -18,7 +18,7 @@ oneOperand k =
     map
     (λ j.
     let at : ℕ → ℕ = λ i. cond (eqb i j) 1 0 in
-    ext-wf-answer (node k (at 0) (at 1) (at 2) (at 3)) [] [] [] .number)
+    ext-wf-answer (node k (at 0) (at 1) (at 2) (at 3)) [] [] noArrays [] .number)
     (0 ∷ 1 ∷ 2 ∷ 3 ∷ [])
 
 -- kinds with one, two, three and four operands: an operand that the kind has breaks a rule of widths

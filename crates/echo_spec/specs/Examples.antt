@@ -52,10 +52,14 @@ use Rattle.reading.specs.Kinds.{
 use Rattle.echo_spec.specs.Shapes.{shapes, operandCount, isBool, isLeaf}
 use Rattle.echo_spec.specs.Input.{
   Problem,
+  ArrayWidths,
+  arrayColumns,
+  arrayWidths,
   Node,
   Query,
   nodesWithin,
   columnWithin,
+  passWithin,
   arenaWithin,
   withinLimits,
   word32,
@@ -70,6 +74,7 @@ use Rattle.echo_spec.specs.Input.{
 use Rattle.echo_spec.specs.Widths.{
   indexWidth,
   valueWidth,
+  arrayWidthsOk,
   un-wf,
   bin-wf,
   bool-bin-wf,
@@ -137,7 +142,7 @@ use Rattle.echo_spec.specs.Render.{
   declarationsText,
   render,
 }
-use Rattle.echo_spec.specs.Answers.{Answer, widthRefusal, widthAnswer, ext-wf-answer, script, endlessWith, endlessRefusal, textRefusal, echoAnswer, textAnswer, echo-ext-answer}
+use Rattle.echo_spec.specs.Answers.{Answer, widthRefusal, refusedNode, widthAnswer, ext-wf-answer, script, endlessWith, endlessRefusal, textRefusal, echoAnswer, textAnswer, echo-ext-answer}
 
 -- ---------------------------------------------------------------- problems, written shortly
 
@@ -169,9 +174,13 @@ var n i w = record { name = n; node = i; width = w }
 abbrev pub fun : String → ℕ → Named
 fun n w = record { name = n; node = 0; width = w }
 
--- nodes, bits, side entries, roots, variables, arrays, functions
-abbrev pub problem : List (List ℕ) → List ℕ → List ℕ → List ℕ → List Named → List String → List Named → Problem
-problem nodes bits side roots vars arrays funs = record {
+-- a table without arrays
+abbrev pub noArrays : ArrayWidths
+noArrays = arrayColumns [] []
+
+-- nodes, bits, side entries, roots, variables, arrays, the two columns of their widths, functions
+abbrev pub problemWith : List (List ℕ) → List ℕ → List ℕ → List ℕ → List Named → List String → ArrayWidths → List Named → Problem
+problemWith nodes bits side roots vars arrays widths funs = record {
   nodes = joined nodes;
   bits = bits;
   side = side;
@@ -184,20 +193,29 @@ problem nodes bits side roots vars arrays funs = record {
   anames = joined (map bytes arrays);
   aname-start = startsFrom 0 arrays;
   aname-len = map (λ (a : String). length (bytes a)) arrays;
+  index-width = widths .index;
+  value-width = widths .value;
   fnames = joined (map (λ (f : Named). bytes (f .name)) funs);
   fname-start = startsFrom 0 (map (λ (f : Named). f .name) funs);
   fname-len = map (λ (f : Named). length (bytes (f .name))) funs;
   func-width = map (λ (f : Named). f .width) funs;
 }
 
+-- arrays of the Rust's widths
+abbrev pub rustWidths : List String → ArrayWidths
+rustWidths arrays = arrayColumns (map (λ (a : String). 32) arrays) (map (λ (a : String). 8) arrays)
+
+abbrev pub problem : List (List ℕ) → List ℕ → List ℕ → List ℕ → List Named → List String → List Named → Problem
+problem nodes bits side roots vars arrays funs = problemWith nodes bits side roots vars arrays (rustWidths arrays) funs
+
 -- a node as it is decoded
 abbrev pub decoded : ℕ → ℕ → ℕ → ℕ → ℕ → Node
 decoded k a b c d = record { kind = k; a = a; b = b; c = c; d = d }
 
 -- the query of such a problem, its nodes given decoded
-abbrev pub query : List Node → List ℕ → List ℕ → List ℕ → List Named → List String → List Named → Query
-query nodes bits side roots vars arrays funs =
-    let p : Problem = problem [] bits side roots vars arrays funs in
+abbrev pub queryWith : List Node → List ℕ → List ℕ → List ℕ → List Named → List String → ArrayWidths → List Named → Query
+queryWith nodes bits side roots vars arrays widths funs =
+    let p : Problem = problemWith [] bits side roots vars arrays widths funs in
     record {
       dag = record {
         nodes = nodes;
@@ -210,6 +228,7 @@ query nodes bits side roots vars arrays funs =
         anames = p .anames;
         aname-start = p .aname-start;
         aname-len = p .aname-len;
+        array-widths = arrayWidths p;
         fnames = p .fnames;
         fname-start = p .fname-start;
         fname-len = p .fname-len;
@@ -218,6 +237,9 @@ query nodes bits side roots vars arrays funs =
       bits = bits;
       roots = roots;
     }
+
+abbrev pub query : List Node → List ℕ → List ℕ → List ℕ → List Named → List String → List Named → Query
+query nodes bits side roots vars arrays funs = queryWith nodes bits side roots vars arrays (rustWidths arrays) funs
 
 -- ---------------------------------------------------------------- examples: what a definition gives, and what is wanted
 
@@ -255,11 +277,15 @@ refuses label n p = prints label p 3 (refused n)
 abbrev pub passes : String → Problem → Example Answer
 passes label p = refuses label 10 p
 
--- the width pass, into a slice of so many numbers
-abbrev pub widens : String → List (List ℕ) → List ℕ → List ℕ → ℕ → Answer → Example Answer
-widens label nodes bits side room wanted = record { label = label; given = ext-wf-answer (joined nodes) bits side (lent room); wanted = wanted }
+-- the width pass over arrays of these widths, into a slice of so many numbers
+abbrev pub widensWith : String → List (List ℕ) → List ℕ → List ℕ → ArrayWidths → ℕ → Answer → Example Answer
+widensWith label nodes bits side widths room wanted = record { label = label; given = ext-wf-answer (joined nodes) bits side widths (lent room); wanted = wanted }
 
--- the refusal of a query, 1 to 7, or 0: what the printer answers too, computed without the bytes of records
+-- without arrays
+abbrev pub widens : String → List (List ℕ) → List ℕ → List ℕ → ℕ → Answer → Example Answer
+widens label nodes bits side room wanted = widensWith label nodes bits side noArrays room wanted
+
+-- the refusal of a query, 1 to 7 or 12, or 0: what the printer answers too, computed without the bytes of records
 abbrev pub asks : String → ℕ → Query → Example ℕ
 asks label n q = record { label = label; given = refusal (q .dag) (length (q .bits)) (q .roots); wanted = n }
 
@@ -390,13 +416,13 @@ furtherCases =
 -- (whoever unfolds this unfolds the definitions named under it)
 unfoldable pub allMeet : List (Example Answer) → Type 0
 unfolding
-    bytes same findFrom upto shapes operandCount isBool isLeaf nodesWithin columnWithin arenaWithin withinLimits word32 nodeAt nodesOf nodeEncoded
-    encoded part namesOf dagOf indexWidth valueWidth un-wf bin-wf bool-bin-wf extend-wf chain-wf args-wf wfAs node-wf widthAs node-width ext-wf-from
+    bytes same findFrom upto shapes operandCount isBool isLeaf nodesWithin columnWithin passWithin arenaWithin withinLimits word32 nodeAt nodesOf nodeEncoded
+    encoded part namesOf dagOf indexWidth valueWidth arrayWidthsOk un-wf bin-wf bool-bin-wf extend-wf chain-wf args-wf wfAs node-wf widthAs node-width ext-wf-from
     ext-wf byteOk firstOk rustWords smtlib27Words reserved entry-ok table-ok namesOk usesAs usesOfAll count usedOnce unshared oneLength columnsOk find-node find-call
     argumentWidths decl-vars-ok signature decl-func-ok decl-funcs-ok declarationsOf constantBits bitsValue amountOf variableName treesOver storesOver treeAs
     treeStep treeOf readingOf variableOk rotationOk args-match callOk askedAs asked levels operandsAs walkAll walkStep walk walkRoots refusalWith symbols
     symbolOf decimalDigits decimal binaryDigits quoted numeralsText operatorText callText term sortText sortsText variableText arrayText functionText
-    texts assertionsText logicOf logicText declarationsText render widthRefusal widthAnswer ext-wf-answer script endlessWith endlessRefusal textRefusal echoAnswer textAnswer echo-ext-answer
+    texts assertionsText logicOf logicText declarationsText render widthRefusal refusedNode widthAnswer ext-wf-answer script endlessWith endlessRefusal textRefusal echoAnswer textAnswer echo-ext-answer
 allMeet es = given es ≡ wanted es
 
 -- document 01's M1 to M10: number, length and every byte

@@ -11,7 +11,7 @@ use Rattle.echo_spec.specs.Shapes.{Shape, unknown, shapes, shapeOf, oper
 
 -- ---------------------------------------------------------------- what is lent
 
--- the sixteen inputs of `echo_ext`, in the Rust's order
+-- the eighteen inputs of `echo_ext`: the Rust's in its order, and after the columns of the array table's names its two columns of widths
 pub record Problem : Type 0 where
   pub nodes : List ℕ
   pub bits : List ℕ
@@ -25,10 +25,23 @@ pub record Problem : Type 0 where
   pub anames : List ℕ
   pub aname-start : List ℕ
   pub aname-len : List ℕ
+  pub index-width : List ℕ
+  pub value-width : List ℕ
   pub fnames : List ℕ
   pub fname-start : List ℕ
   pub fname-len : List ℕ
   pub func-width : List ℕ
+
+-- the two columns of widths in the array table: of the index and of the value, by the array's number
+pub record ArrayWidths : Type 0 where
+  pub index : List ℕ
+  pub value : List ℕ
+
+abbrev pub arrayColumns : List ℕ → List ℕ → ArrayWidths
+arrayColumns index value = record { index = index; value = value }
+
+abbrev pub arrayWidths : Problem → ArrayWidths
+arrayWidths p = arrayColumns (p .index-width) (p .value-width)
 
 -- ---------------------------------------------------------------- 9: limits
 
@@ -64,6 +77,10 @@ nodesWithin nodes bits side = leb (length nodes) nodeBytesLimit && (leb (length 
 unfoldable pub columnWithin : List ℕ → Bool
 columnWithin c = leb (length c) columnLimit
 
+-- what is lent to the width pass
+unfoldable pub passWithin : List ℕ → List ℕ → List ℕ → ArrayWidths → Bool
+passWithin nodes bits side arrays = nodesWithin nodes bits side && (columnWithin (arrays .index) && columnWithin (arrays .value))
+
 unfoldable pub arenaWithin : List ℕ → Bool
 arenaWithin a = leb (length a) arenaLimit
 
@@ -71,7 +88,7 @@ unfoldable pub withinLimits : Problem → Bool
 withinLimits p =
     nodesWithin (p .nodes) (p .bits) (p .side)
     && (leb (length (p .roots)) rootLimit
-    && (every columnWithin (p .name-start ∷ p .name-len ∷ p .var-node ∷ p .var-width ∷ p .aname-start ∷ p .aname-len ∷ p .fname-start ∷ p .fname-len ∷ p .func-width ∷ [])
+    && (every columnWithin (p .name-start ∷ p .name-len ∷ p .var-node ∷ p .var-width ∷ p .aname-start ∷ p .aname-len ∷ p .index-width ∷ p .value-width ∷ p .fname-start ∷ p .fname-len ∷ p .func-width ∷ [])
     && every arenaWithin (p .names ∷ p .anames ∷ p .fnames ∷ [])))
 
 -- ---------------------------------------------------------------- node records
@@ -138,6 +155,7 @@ pub record Dag : Type 0 where
   pub anames : List ℕ
   pub aname-start : List ℕ
   pub aname-len : List ℕ
+  pub array-widths : ArrayWidths
   pub fnames : List ℕ
   pub fname-start : List ℕ
   pub fname-len : List ℕ
@@ -161,6 +179,7 @@ dagOf p = record {
   anames = p .anames;
   aname-start = p .aname-start;
   aname-len = p .aname-len;
+  array-widths = arrayWidths p;
   fnames = p .fnames;
   fname-start = p .fname-start;
   fname-len = p .fname-len;
@@ -193,4 +212,8 @@ fits64 w = leb w largest
 -- 64 bits. (Those of the nodes are bounded where they are worked out, in `wfAs`.)
 unfoldable pub encodable : Query → Bool
 encodable q =
-    every nodeEncoded (q .dag .nodes) && (every (λ b. leb b 1) (q .bits) && (every fits64 (q .dag .var-width) && every fits64 (q .dag .func-width)))
+    every nodeEncoded (q .dag .nodes)
+    && (every (λ b. leb b 1) (q .bits)
+    && (every fits64 (q .dag .var-width)
+    && (every fits64 (q .dag .func-width)
+    && (every fits64 (q .dag .array-widths .index) && every fits64 (q .dag .array-widths .value)))))

@@ -156,7 +156,7 @@ letScript q =
     renderLet (declarationsOf (q .dag) ws) (assertionsOf (q .dag) ws (q .bits) (usesIn (q .dag) (q .roots)) (q .roots))
 
 abbrev pub letRefusal : Dag → ℕ → List ℕ → ℕ
-letRefusal d nbits roots = letRefusalWith d (ext-wf nbits (d .side) (d .nodes)) roots
+letRefusal d nbits roots = letRefusalWith d (ext-wf nbits (d .array-widths) (d .side) (d .nodes)) roots
 
 unfoldable pub endlessLet : Problem → ℕ
 endlessLet p = endlessWith p (letRefusal (dagOf p) (length (p .bits)) (p .roots))

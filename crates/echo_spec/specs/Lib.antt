@@ -20,6 +20,7 @@ pub mod SharingExamples
 pub mod TableExamples
 pub mod WalkExamples
 pub mod TextExamples
+pub mod ArrayExamples
 pub mod LetExamples
 pub mod TreeSortExamples
 pub mod TreeSortLaws

@@ -6,7 +6,7 @@ use mathlib.Core.Bool.{Bool, true, false, cond}
 use lib.Dec.{leb, eqb}
 use lib.ListN.{length, getD, replicate, length-replicate}
 use Rattle.lists.specs.Tests.{and-true}
-use Rattle.echo_spec.specs.Input.{Problem, nodesWithin, columnWithin, arenaWithin, withinLimits}
+use Rattle.echo_spec.specs.Input.{Problem, ArrayWidths, arrayColumns, nodesWithin, columnWithin, passWithin, arenaWithin, withinLimits}
 use Rattle.echo_spec.specs.Answers.{Answer, widthRefusal, widthAnswer, ext-wf-answer, endlessWith, endlessRefusal, textRefusal, echoAnswer, textAnswer, echo-ext-answer}
 
 -- input k, counted from 0 in the Rust's order, is this list, and the others are empty
@@ -26,28 +26,35 @@ only k xs =
       anames = at 9;
       aname-start = at 10;
       aname-len = at 11;
-      fnames = at 12;
-      fname-start = at 13;
-      fname-len = at 14;
-      func-width = at 15;
+      index-width = at 12;
+      value-width = at 13;
+      fnames = at 14;
+      fname-start = at 15;
+      fname-len = at 16;
+      func-width = at 17;
     }
 
--- is a problem within the limits whose one input that is not empty has this length: for each of the sixteen
+-- is a problem within the limits whose one input that is not empty has this length: for each of the eighteen
 abbrev within : ℕ → List Bool
-within n = map (λ k. withinLimits (only k (replicate n 0))) (0 ∷ 1 ∷ 2 ∷ 3 ∷ 4 ∷ 5 ∷ 6 ∷ 7 ∷ 8 ∷ 9 ∷ 10 ∷ 11 ∷ 12 ∷ 13 ∷ 14 ∷ 15 ∷ [])
+within n = map (λ k. withinLimits (only k (replicate n 0))) (0 ∷ 1 ∷ 2 ∷ 3 ∷ 4 ∷ 5 ∷ 6 ∷ 7 ∷ 8 ∷ 9 ∷ 10 ∷ 11 ∷ 12 ∷ 13 ∷ 14 ∷ 15 ∷ 16 ∷ 17 ∷ [])
 
--- nodes, bits, side entries, roots; the variables' arena and four columns; the arrays' arena and two; the functions' arena and three
+-- nodes, bits, side entries, roots; the variables' arena and four columns; the arrays' arena and four; the functions' arena and three
 printer-limits : (n : ℕ)
     → within n
-    ≡ map (leb n) (34816 ∷ 131072 ∷ 8192 ∷ 256 ∷ 16384 ∷ 512 ∷ 512 ∷ 512 ∷ 512 ∷ 16384 ∷ 512 ∷ 512 ∷ 16384 ∷ 512 ∷ 512 ∷ 512 ∷ [])
+    ≡ map (leb n) (34816 ∷ 131072 ∷ 8192 ∷ 256 ∷ 16384 ∷ 512 ∷ 512 ∷ 512 ∷ 512 ∷ 16384 ∷ 512 ∷ 512 ∷ 512 ∷ 512 ∷ 16384 ∷ 512 ∷ 512 ∷ 512 ∷ [])
 unfolding nodesWithin columnWithin arenaWithin withinLimits
 printer-limits n = simp (length-replicate, and-true)
 
--- nodes, bits, side entries
+-- nodes, bits, side entries, the two columns of the array table
 width-pass-limits : (n : ℕ)
-    → nodesWithin (replicate n 0) [] [] ∷ nodesWithin [] (replicate n 0) [] ∷ nodesWithin [] [] (replicate n 0) ∷ []
-    ≡ map (leb n) (34816 ∷ 131072 ∷ 8192 ∷ [])
-unfolding nodesWithin
+    → passWithin (replicate n 0) [] [] (arrayColumns [] [])
+    ∷ passWithin [] (replicate n 0) [] (arrayColumns [] [])
+    ∷ passWithin [] [] (replicate n 0) (arrayColumns [] [])
+    ∷ passWithin [] [] [] (arrayColumns (replicate n 0) [])
+    ∷ passWithin [] [] [] (arrayColumns [] (replicate n 0))
+    ∷ []
+    ≡ map (leb n) (34816 ∷ 131072 ∷ 8192 ∷ 512 ∷ 512 ∷ [])
+unfolding nodesWithin columnWithin passWithin
 width-pass-limits n = simp (length-replicate, and-true)
 
 -- 9 before all else
@@ -58,9 +65,9 @@ printer-over : (p : Problem) (lent : List ℕ) → withinLimits p ≡ false → 
 unfolding endlessWith endlessRefusal textRefusal echoAnswer textAnswer echo-ext-answer
 printer-over p lent h = rw h
 
-width-pass-over : (nodes bits side lent : List ℕ) → nodesWithin nodes bits side ≡ false → ext-wf-answer nodes bits side lent ≡ nine lent
+width-pass-over : (nodes bits side : List ℕ) (arrays : ArrayWidths) (lent : List ℕ) → passWithin nodes bits side arrays ≡ false → ext-wf-answer nodes bits side arrays lent ≡ nine lent
 unfolding widthRefusal widthAnswer ext-wf-answer
-width-pass-over nodes bits side lent h = rw h
+width-pass-over nodes bits side arrays lent h = rw h
 
 -- one past: node bytes that are no whole number of records (so 9 before 8), and a root past the nodes (so 9 before 1)
 too-many-node-bytes : (lent : List ℕ) → echo-ext-answer (only 0 (replicate 34817 0)) lent ≡ nine lent

@@ -7,7 +7,7 @@ use mathlib.Core.Bool.{Bool, _&&_}
 use native.Mathlib.Omega.{arith}
 use lib.Dec.{T, leb, ltb, leb→le, ltb→lt, lt→ltb}
 use lib.ListN.{length, take, drop, getD}
-use Rattle.lists.specs.Tests.{All, and-0, and-1, all-append}
+use Rattle.lists.specs.Tests.{every, All, and-0, and-1, all-append}
 use Rattle.echo_spec.specs.Shapes.{
   Shape,
   var,
@@ -26,10 +26,13 @@ use Rattle.echo_spec.specs.Shapes.{
   call,
   unknown,
 }
-use Rattle.echo_spec.specs.Input.{Node, shape, no-node, largest, fits64}
+use Rattle.echo_spec.specs.Input.{ArrayWidths, Node, shape, no-node, largest, fits64}
 use Rattle.echo_spec.specs.Widths.{
   indexWidth,
   valueWidth,
+  arrayWidthLimit,
+  arrayWidthOk,
+  arrayWidthsOk,
   widthAt,
   earlier,
   earlierOf,
@@ -63,7 +66,7 @@ module _ (ws : List ℕ) (i : ℕ) where
   Pairs iw vw (suc n) (x ∷ []) = ⊥
   Pairs iw vw (suc n) (x ∷ v ∷ side) = Lower iw x × Lower vw v × Pairs iw vw n side
 
-  module _ (nbits : ℕ) (side : List ℕ) (n : Node) where
+  module _ (nbits : ℕ) (arrays : ArrayWidths) (side : List ℕ) (n : Node) where
     -- a node of this shape
     abbrev pub Formed : Shape → Type 0
     Formed var = (0 < n .a) × T (fits64 (n .a)) × (widthAt ws i ≡ n .a)
@@ -78,7 +81,7 @@ module _ (ws : List ℕ) (i : ℕ) where
     Formed negation = Lower 1 (n .a) × (widthAt ws i ≡ 1)
     Formed connective = Lower 1 (n .a) × Lower 1 (n .b) × (widthAt ws i ≡ 1)
     Formed unary = (n .a < i) × (0 < widthAt ws (n .a)) × (widthAt ws i ≡ widthAt ws (n .a))
-    Formed select = Lower (indexWidth (n .a)) (n .b) × Pairs (indexWidth (n .a)) (valueWidth (n .a)) (n .d) (drop (n .c) side) × (widthAt ws i ≡ valueWidth (n .a))
+    Formed select = Lower (indexWidth (arrays .index) (n .a)) (n .b) × Pairs (indexWidth (arrays .index) (n .a)) (valueWidth (arrays .value) (n .a)) (n .d) (drop (n .c) side) × (widthAt ws i ≡ valueWidth (arrays .value) (n .a))
     Formed call = (0 < n .b) × T (fits64 (n .b)) × All (λ x. ltb x i) (take (n .d) (drop (n .c) side)) × (n .d ≤ length (drop (n .c) side)) × (widthAt ws i ≡ n .b)
     Formed unknown = ⊥
 
@@ -97,8 +100,8 @@ module _ (ws : List ℕ) (i : ℕ) (here : i < length ws) where
         pairs iw vw n side (and-1 (earlierOf (take i ws) vw v) _ t₁),
       )
 
-  module _ (nbits : ℕ) (side : List ℕ) (n : Node) where
-    pub formed : (s : Shape) → T (wfAs nbits side (take i ws) n s) → widthAt ws i ≡ widthAs (take i ws) n s → Formed ws i nbits side n s
+  module _ (nbits : ℕ) (arrays : ArrayWidths) (side : List ℕ) (n : Node) where
+    pub formed : (s : Shape) → T (wfAs nbits arrays side (take i ws) n s) → widthAt ws i ≡ widthAs arrays (take i ws) n s → Formed ws i nbits arrays side n s
     unfolding wfAs widthAs
     formed var t w = (ltb→lt 0 (n .a) (and-0 (ltb 0 (n .a)) _ t), and-1 (ltb 0 (n .a)) _ t, w)
     formed const t w =
@@ -131,13 +134,33 @@ module _ (ws : List ℕ) (i : ℕ) (here : i < length ws) where
         (earlier-width ws i here 1 (n .a) (and-0 (earlierOf (take i ws) 1 (n .a)) _ t′), earlier-width ws i here 1 (n .b) (and-1 (earlierOf (take i ws) 1 (n .a)) _ t′), w)
     formed unary t w = let (la, p) = un-operand ws i here (n .a) t in (la, p, w ∙ width-before ws i here (n .a) la)
     formed select t w =
-        let first : Bool = earlierOf (take i ws) (indexWidth (n .a)) (n .b) in
-        (earlier-width ws i here (indexWidth (n .a)) (n .b) (and-0 first _ t), pairs (indexWidth (n .a)) (valueWidth (n .a)) (n .d) (drop (n .c) side) (and-1 first _ t), w)
+        let first : Bool = earlierOf (take i ws) (indexWidth (arrays .index) (n .a)) (n .b) in
+        (earlier-width ws i here (indexWidth (arrays .index) (n .a)) (n .b) (and-0 first _ t), pairs (indexWidth (arrays .index) (n .a)) (valueWidth (arrays .value) (n .a)) (n .d) (drop (n .c) side) (and-1 first _ t), w)
     formed call t w =
         let t₁ = and-1 (ltb 0 (n .b)) _ t in
         let (low, inside) = args-operands ws i here (n .d) (drop (n .c) side) (and-1 (fits64 (n .b)) _ t₁) in
         (ltb→lt 0 (n .b) (and-0 (ltb 0 (n .b)) _ t), and-0 (fits64 (n .b)) _ t₁, low, inside, w)
     formed unknown t w = t
+
+-- ---------------------------------------------------------------- the widths of arrays
+
+-- where those of the table are allowed, every array number's are: past the table too
+allowed : (w : ℕ) → T (arrayWidthOk w) → (0 < w) × (w ≤ arrayWidthLimit)
+allowed w t = (ltb→lt 0 w (and-0 (ltb 0 w) _ t), leb→le w arrayWidthLimit (and-1 (ltb 0 w) _ t))
+
+column-bound : (c : List ℕ) (past : ℕ) → T (arrayWidthOk past) → T (every arrayWidthOk c) → (k : ℕ) → (0 < getD c k past) × (getD c k past ≤ arrayWidthLimit)
+column-bound [] past p t k = allowed past p
+column-bound (w ∷ c) past p t zero = allowed w (and-0 (arrayWidthOk w) _ t)
+column-bound (w ∷ c) past p t (suc k) = column-bound c past p (and-1 (arrayWidthOk w) _ t) k
+
+module _ (arrays : ArrayWidths) (ok : T (arrayWidthsOk arrays)) where
+  pub index-bound : (array : ℕ) → (0 < indexWidth (arrays .index) array) × (indexWidth (arrays .index) array ≤ arrayWidthLimit)
+  unfolding indexWidth arrayWidthsOk
+  index-bound array = column-bound (arrays .index) 32 tt (and-0 (every arrayWidthOk (arrays .index)) _ ok) array
+
+  pub value-bound : (array : ℕ) → (0 < valueWidth (arrays .value) array) × (valueWidth (arrays .value) array ≤ arrayWidthLimit)
+  unfolding valueWidth arrayWidthsOk
+  value-bound array = column-bound (arrays .value) 8 tt (and-1 (every arrayWidthOk (arrays .index)) _ ok) array
 
 -- ---------------------------------------------------------------- what follows for every shape
 
@@ -166,12 +189,8 @@ module _ (ws : List ℕ) (i : ℕ) where
   two : (a b : ℕ) → a < i → b < i → All (λ x. ltb x i) (a ∷ b ∷ [])
   two a b l m = (lt→ltb a i l, one b m)
 
-  value-wide : (a : ℕ) → (0 < valueWidth a) × (valueWidth a ≤ largest)
-  unfolding valueWidth
-  value-wide a = (omega arith, omega arith)
-
-  module _ (nbits : ℕ) (side : List ℕ) (n : Node) where
-    pub formed-low : (s : Shape) → Formed ws i nbits side n s → Low i (operandsAs side n s)
+  module _ (nbits : ℕ) (arrays : ArrayWidths) (side : List ℕ) (n : Node) where
+    pub formed-low : (s : Shape) → Formed ws i nbits arrays side n s → Low i (operandsAs side n s)
     unfolding operandsAs
     formed-low var f = tt
     formed-low const f = tt
@@ -187,55 +206,56 @@ module _ (ws : List ℕ) (i : ℕ) where
     formed-low unary f = one (n .a) (f .0)
     formed-low select (l, p, w) =
         all-append (λ (o : Operand). ltb (o .node) i) (levels (n .d) (drop (n .c) side)) (vector (n .b) ∷ [])
-        (low-pairs (indexWidth (n .a)) (valueWidth (n .a)) (n .d) (drop (n .c) side) p) (one (n .b) (l .0))
+        (low-pairs (indexWidth (arrays .index) (n .a)) (valueWidth (arrays .value) (n .a)) (n .d) (drop (n .c) side) p) (one (n .b) (l .0))
     formed-low call (p, b, low, inside, w) = low-vectors (take (n .d) (drop (n .c) side)) low
     formed-low unknown f = absurd f
 
-    -- a width is above 0 and has 64 bits, if those of lower nodes have
-    pub formed-wide : ((j : ℕ) → j < i → widthAt ws j ≤ largest) → (s : Shape) → Formed ws i nbits side n s → (0 < widthAt ws i) × (widthAt ws i ≤ largest)
-    formed-wide below var (p, b, w) = let l = leb→le (n .a) largest b in (omega arith, omega arith)
-    formed-wide below const (p, b, l, w) = let l = leb→le (n .b) largest b in (omega arith, omega arith)
-    formed-wide below binary (o, w) = let l = below (n .a) (o .0) in let p = o .2 in (omega arith, omega arith)
-    formed-wide below rotation (o, w) = let l = below (n .a) (o .0) in let p = o .2 in (omega arith, omega arith)
-    formed-wide below extraction (lc, low, high, w) = let l = below (n .c) lc in (omega arith, omega arith)
-    formed-wide below concat (la, lb, p, b, w) = let l = leb→le (widthAt ws (n .a) + widthAt ws (n .b)) largest b in (omega arith, omega arith)
-    formed-wide below extension (la, p, b, w) = let l = leb→le (widthAt ws (n .a) + n .b) largest b in (omega arith, omega arith)
-    formed-wide below ite (c, o, w) = let l = below (n .b) (o .0) in let p = o .2 in (omega arith, omega arith)
-    formed-wide below comparison (o, w) = (omega arith, omega arith)
-    formed-wide below negation (l, w) = (omega arith, omega arith)
-    formed-wide below connective (l, m, w) = (omega arith, omega arith)
-    formed-wide below unary (la, p, w) = let l = below (n .a) la in (omega arith, omega arith)
-    formed-wide below select (l, p, w) = let v = value-wide (n .a) in (rw w (v .0), rw w (v .1))
-    formed-wide below call (p, b, low, inside, w) = let l = leb→le (n .b) largest b in (omega arith, omega arith)
-    formed-wide below unknown f = absurd f
+    -- a width is above 0 and has 64 bits, if those of arrays and of lower nodes have
+    pub formed-wide : T (arrayWidthsOk arrays) → ((j : ℕ) → j < i → widthAt ws j ≤ largest) → (s : Shape) → Formed ws i nbits arrays side n s → (0 < widthAt ws i) × (widthAt ws i ≤ largest)
+    formed-wide ok below var (p, b, w) = let l = leb→le (n .a) largest b in (omega arith, omega arith)
+    formed-wide ok below const (p, b, l, w) = let l = leb→le (n .b) largest b in (omega arith, omega arith)
+    formed-wide ok below binary (o, w) = let l = below (n .a) (o .0) in let p = o .2 in (omega arith, omega arith)
+    formed-wide ok below rotation (o, w) = let l = below (n .a) (o .0) in let p = o .2 in (omega arith, omega arith)
+    formed-wide ok below extraction (lc, low, high, w) = let l = below (n .c) lc in (omega arith, omega arith)
+    formed-wide ok below concat (la, lb, p, b, w) = let l = leb→le (widthAt ws (n .a) + widthAt ws (n .b)) largest b in (omega arith, omega arith)
+    formed-wide ok below extension (la, p, b, w) = let l = leb→le (widthAt ws (n .a) + n .b) largest b in (omega arith, omega arith)
+    formed-wide ok below ite (c, o, w) = let l = below (n .b) (o .0) in let p = o .2 in (omega arith, omega arith)
+    formed-wide ok below comparison (o, w) = (omega arith, omega arith)
+    formed-wide ok below negation (l, w) = (omega arith, omega arith)
+    formed-wide ok below connective (l, m, w) = (omega arith, omega arith)
+    formed-wide ok below unary (la, p, w) = let l = below (n .a) la in (omega arith, omega arith)
+    formed-wide ok below select (l, p, w) = let (p, b) = value-bound arrays ok (n .a) in (rw w p, rw w (omega arith))
+    formed-wide ok below call (p, b, low, inside, w) = let l = leb→le (n .b) largest b in (omega arith, omega arith)
+    formed-wide ok below unknown f = absurd f
 
 -- ---------------------------------------------------------------- every node of a list that passes
 
 -- node n, number i
-pub record Facts (nbits : ℕ) (side ws : List ℕ) (i : ℕ) (n : Node) : Type 0 where
-  pub form : Formed ws i nbits side n (shape n)
+pub record Facts (nbits : ℕ) (arrays : ArrayWidths) (side ws : List ℕ) (i : ℕ) (n : Node) : Type 0 where
+  pub form : Formed ws i nbits arrays side n (shape n)
   pub low : Low i (operandsAs side n (shape n))
-  pub positive : 0 < widthAt ws i
-  pub bounded : widthAt ws i ≤ largest
 
-module _ (nbits : ℕ) (side : List ℕ) (ns : List Node) where
+module _ (nbits : ℕ) (arrays : ArrayWidths) (side : List ℕ) (ns : List Node) where
   abbrev ws : List ℕ
-  ws = ext-wf nbits side ns
+  ws = ext-wf nbits arrays side ns
 
-  node-formed : (i : ℕ) → i < length ws → Formed ws i nbits side (getD ns i no-node) (shape (getD ns i no-node))
+  node-formed : (i : ℕ) → i < length ws → Formed ws i nbits arrays side (getD ns i no-node) (shape (getD ns i no-node))
   unfolding node-wf node-width
   node-formed i here =
-      let z = sized nbits side ns i here in
-      formed ws i here nbits side (getD ns i no-node) (shape (getD ns i no-node)) (z .wf) (z .width)
+      let z = sized nbits arrays side ns i here in
+      formed ws i here nbits arrays side (getD ns i no-node) (shape (getD ns i no-node)) (z .wf) (z .width)
 
-  wide-below : (k i : ℕ) → i < k → i < length ws → (0 < widthAt ws i) × (widthAt ws i ≤ largest)
-  wide-below zero i l here = absurd (omega arith)
-  wide-below (suc k) i l here =
-      formed-wide ws i nbits side (getD ns i no-node) (λ j m. wide-below k j (omega arith) (omega arith) .1) (shape (getD ns i no-node)) (node-formed i here)
+  wide-below : T (arrayWidthsOk arrays) → (k i : ℕ) → i < k → i < length ws → (0 < widthAt ws i) × (widthAt ws i ≤ largest)
+  wide-below ok zero i l here = absurd (omega arith)
+  wide-below ok (suc k) i l here =
+      formed-wide ws i nbits arrays side (getD ns i no-node) ok (λ j m. wide-below ok k j (omega arith) (omega arith) .1) (shape (getD ns i no-node)) (node-formed i here)
 
-  pub facts : (i : ℕ) → i < length ws → Facts nbits side ws i (getD ns i no-node)
+  pub facts : (i : ℕ) → i < length ws → Facts nbits arrays side ws i (getD ns i no-node)
   facts i here =
       let n : Node = getD ns i no-node in
       let f = node-formed i here in
-      let (p, b) = wide-below (suc i) i (omega arith) here in
-      record { form = f; low = formed-low ws i nbits side n (shape n) f; positive = p; bounded = b }
+      record { form = f; low = formed-low ws i nbits arrays side n (shape n) f }
+
+  -- and its width is above 0 and has 64 bits, where those of the arrays are allowed
+  pub node-wide : T (arrayWidthsOk arrays) → (i : ℕ) → i < length ws → (0 < widthAt ws i) × (widthAt ws i ≤ largest)
+  node-wide ok i here = wide-below ok (suc i) i (omega arith) here

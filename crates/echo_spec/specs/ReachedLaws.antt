@@ -105,12 +105,12 @@ low-among i (o ∷ os) h j t =
     (λ e. subst (λ (x : ℕ). x < i) (sym (eqb→eq j (o .node) e)) (ltb→lt (o .node) i (h .0))) (low-among i os (h .1) j)
 
 -- in a query whose nodes are all well formed, `reached` is what the root reaches
-pub reached-is : (d : Dag) (nbits : ℕ) → length (ext-wf nbits (d .side) (d .nodes)) ≡ length (d .nodes) → (root j : ℕ)
+pub reached-is : (d : Dag) (nbits : ℕ) → length (ext-wf nbits (d .array-widths) (d .side) (d .nodes)) ≡ length (d .nodes) → (root j : ℕ)
     → T (among (reached d root) j) ↔ Reaches d root j
 unfolding operandsOf
 reached-is d nbits e root j =
     reached-exactly d
     (λ i l k t.
     let n : Node = getD (d .nodes) i no-node in
-    low-among i (operandsAs (d .side) n (shape n)) (facts nbits (d .side) (d .nodes) i (rw e l) .low) k t)
+    low-among i (operandsAs (d .side) n (shape n)) (facts nbits (d .array-widths) (d .side) (d .nodes) i (rw e l) .low) k t)
     root j

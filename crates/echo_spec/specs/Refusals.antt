@@ -2,6 +2,7 @@
 --
 --   1  Malformed   2  Name   3  Sort   4  Var   5  Rotate   6  Shared   7  Signature
 --   8  the encoding of the nodes or bits   9  an input over a limit   10  a result longer than its buffer
+--   11  a declared name that a `let` would bind   12  a width in the array table that is 0 or too large
 use Prim.Native.Nat.{ℕ, zero, suc}
 use mathlib.Core.Bool.{Bool, true, false}
 

@@ -31,7 +31,7 @@ use Rattle.echo_spec.specs.Shapes.{
   isBool,
 }
 use Rattle.echo_spec.specs.Input.{Node, shape, no-node, largest, fits64, Dag, Query, nameTable, anameTable, fnameTable}
-use Rattle.echo_spec.specs.Widths.{indexWidth, valueWidth, widthAt, widthsOf}
+use Rattle.echo_spec.specs.Widths.{indexWidth, valueWidth, arrayWidthsOk, widthAt, widthsOf}
 use Rattle.echo_spec.specs.Tables.{find-node, find-call, argumentsInside, argumentWidths, signature, declarationsOf}
 use Rattle.echo_spec.specs.Trees.{constantBits, bitsValue, amountOf, variableName, treesOver, storesOver, treeAs, treeStep, treesBelow, treeOf}
 use Rattle.echo_spec.specs.Walk.{
@@ -74,7 +74,7 @@ use Rattle.echo_spec.specs.TreeSorts.{
 }
 use Rattle.echo_spec.specs.TreeSortLaws.{if-proper, has-own, have-own, operator-sort}
 use Rattle.echo_spec.specs.Accepted.{unless-passed, orElse-passed, walk-passed, Checked}
-use Rattle.echo_spec.specs.NodeLaws.{Lower, Pairs, Formed, Low, facts}
+use Rattle.echo_spec.specs.NodeLaws.{Lower, Pairs, Formed, Low, facts, node-wide}
 use Rattle.echo_spec.specs.NameLaws.{names-distinct}
 use Rattle.echo_spec.specs.ColumnLaws.{columns-aligned, names-counted}
 
@@ -135,7 +135,7 @@ module _ (q : Query) (ok : Checked (q .dag) (widthsOf q)) where
 
   pub array-found : (k : ℕ) → k < length (anameTable (q .dag))
       → find (λ (a : Array). same (getD (anameTable (q .dag)) k []) (a .name)) (declarationsIn q .arrays)
-      ≡ some (record { name = getD (anameTable (q .dag)) k []; index = indexWidth k; value = valueWidth k })
+      ≡ some (record { name = getD (anameTable (q .dag)) k []; index = indexWidth (q .dag .array-widths .index) k; value = valueWidth (q .dag .array-widths .value) k })
   unfolding declarationsOf
   array-found k l =
       found-at (λ (a : Array). a .name) (length (anameTable (q .dag))) _ (anameTable (q .dag)) refl (λ k. refl)
@@ -279,7 +279,7 @@ module _ (q : Query) (ok : Checked (q .dag) (widthsOf q)) (binaryIn : All (λ b.
       operator-sorted s ks os e l o m f c r =
           rw (e, operands-sorted os l o) (operator-sort s ks (map sortOf os) (sortAs (isBool s) (widthAt ws i)) m f c r (proper-here (isBool s)))
 
-      node-sorted : (s : Shape) → shape n ≡ s → Formed ws i (length (q .bits)) (q .dag .side) n s → Low i (operandsAs (q .dag .side) n s)
+      node-sorted : (s : Shape) → shape n ≡ s → Formed ws i (length (q .bits)) (q .dag .array-widths) (q .dag .side) n s → Low i (operandsAs (q .dag .side) n s)
           → askedAs (q .dag) ws i n s ≡ 0 → walkAll below (operandsAs (q .dag .side) n s) ≡ 0
           → sortUnder D bound (treeAs (q .dag) ws (q .bits) trees i n s) ≡ some (sortAs (isBool s) (widthAt ws i))
       unfolding askedAs operandsAs treeAs isBool ruleOf
@@ -308,8 +308,8 @@ module _ (q : Query) (ok : Checked (q .dag) (widthsOf q)) (binaryIn : All (λ b.
           let here = ltb→lt (n .a) (length (anameTable (q .dag))) (unless-passed (ltb (n .a) (length (anameTable (q .dag)))) 0 a) in
           let (ol, oi) = walk-append below (levels (n .d) (drop (n .c) (q .dag .side))) (vector (n .b) ∷ []) o in
           select-sorted (getD (anameTable (q .dag)) (n .a) []) (n .b) (storesOver trees (n .d) (drop (n .c) (q .dag .side))) _ (array-found q ok (n .a) here)
-          (lower-sorted (indexWidth (n .a)) (n .b) l (walk-cons below (vector (n .b)) [] oi .0))
-          (stores-sorted (indexWidth (n .a)) (valueWidth (n .a)) (n .d) (drop (n .c) (q .dag .side)) pairs ol)
+          (lower-sorted (indexWidth (q .dag .array-widths .index) (n .a)) (n .b) l (walk-cons below (vector (n .b)) [] oi .0))
+          (stores-sorted (indexWidth (q .dag .array-widths .index) (n .a)) (valueWidth (q .dag .array-widths .value) (n .a)) (n .d) (drop (n .c) (q .dag .side)) pairs ol)
           (rw w at (proper-here false)) ∙ ap (λ (w : ℕ). some (bits w)) (sym w)
       node-sorted Shape.call e (p, b, args, inside, w) low a o =
           let (a₁, a₇) = orElse-passed (unless (ltb (n .a) (length (fnameTable (q .dag)))) 1) (unless (callOk (q .dag) ws n) 7) a in
@@ -323,12 +323,12 @@ module _ (q : Query) (ok : Checked (q .dag) (widthsOf q)) (binaryIn : All (λ b.
 -- ---------------------------------------------------------------- every node
 
 -- a node's width makes a proper sort
-pub node-proper : (q : Query) (i : ℕ) → i < length (widthsOf q) → (b : Bool) → T (proper (sortAs b (widthAt (widthsOf q) i)))
-node-proper q i here true = tt
-node-proper q i here false =
+pub node-proper : (q : Query) → T (arrayWidthsOk (q .dag .array-widths)) → (i : ℕ) → i < length (widthsOf q) → (b : Bool) → T (proper (sortAs b (widthAt (widthsOf q) i)))
+node-proper q ok i here true = tt
+node-proper q ok i here false =
     let w : ℕ = widthAt (widthsOf q) i in
-    let f = facts (length (q .bits)) (q .dag .side) (q .dag .nodes) i here in
-    and-T (ltb 0 w) (fits64 w) (lt→ltb 0 w (f .positive)) (le→leb w largest (f .bounded))
+    let (p, b) = node-wide (length (q .bits)) (q .dag .array-widths) (q .dag .side) (q .dag .nodes) ok i here in
+    and-T (ltb 0 w) (fits64 w) (lt→ltb 0 w p) (le→leb w largest b)
 
 module _ (q : Query) (ok : Checked (q .dag) (widthsOf q)) (binaryIn : All (λ b. leb b 1) (q .bits)) where
   -- node i over trees that have their sorts, where names are bound that no table declares
@@ -341,8 +341,9 @@ module _ (q : Query) (ok : Checked (q .dag) (widthsOf q)) (binaryIn : All (λ b.
       let n : Node = getD (q .dag .nodes) i no-node in
       let passed = walk-passed (q .dag) (widthsOf q) below i b e in
       let here : i < length (widthsOf q) = rw (ok .widths) (passed .exists) in
-      let f = facts (length (q .bits)) (q .dag .side) (q .dag .nodes) i here in
-      node-sorted q ok binaryIn bound clear below trees i sorted n (f .positive) (node-proper q i here) (shape n) refl (f .form) (f .low) (passed .taken) (passed .operands)
+      let f = facts (length (q .bits)) (q .dag .array-widths) (q .dag .side) (q .dag .nodes) i here in
+      let (positive, bounded) = node-wide (length (q .bits)) (q .dag .array-widths) (q .dag .side) (q .dag .nodes) (ok .arrays) i here in
+      node-sorted q ok binaryIn bound clear below trees i sorted n positive (node-proper q (ok .arrays) i here) (shape n) refl (f .form) (f .low) (passed .taken) (passed .operands)
       ∙ ap (λ (c : Bool). some (sortAs c (widthAt (widthsOf q) i))) (sym (sort-agrees b (isBool (shape n)) (passed .sort)))
 
   pub walk-sorted : (n i : ℕ) → i < n → (b : Bool) → walk (q .dag) (widthsOf q) i b ≡ 0

@@ -15,7 +15,7 @@ use Rattle.echo_spec.specs.Examples.{node, problem, decoded, query, var,
 
 -- ---------------------------------------------------------------- columns
 
--- one entry in each table, but n in column k: the variables' columns are 0 to 3, the arrays' 4 and 5, the functions' 6 to 8
+-- one entry in each table, but n in column k: the variables' columns are 0 to 3, the arrays' 4 to 7, the functions' 8 to 10
 abbrev column : ℕ → ℕ → Problem
 column n k =
     let at : ℕ → ℕ → List ℕ = λ j x. cond (eqb j k) (replicate n x) (x ∷ []) in
@@ -32,14 +32,16 @@ column n k =
       anames = 109 ∷ [];
       aname-start = at 4 0;
       aname-len = at 5 1;
+      index-width = at 6 32;
+      value-width = at 7 8;
       fnames = 102 ∷ [];
-      fname-start = at 6 0;
-      fname-len = at 7 1;
-      func-width = at 8 8;
+      fname-start = at 8 0;
+      fname-len = at 9 1;
+      func-width = at 10 8;
     }
 
 abbrev columns : List ℕ
-columns = 0 ∷ 1 ∷ 2 ∷ 3 ∷ 4 ∷ 5 ∷ 6 ∷ 7 ∷ 8 ∷ []
+columns = 0 ∷ 1 ∷ 2 ∷ 3 ∷ 4 ∷ 5 ∷ 6 ∷ 7 ∷ 8 ∷ 9 ∷ 10 ∷ []
 
 columnCases : List (Example Answer)
 columnCases =

@@ -20,7 +20,7 @@ oneLength columns = every (λ c. eqb (length c) (length (getD columns 0 []))) co
 unfoldable pub columnsOk : Dag → Bool
 columnsOk d =
     oneLength (d .name-start ∷ d .name-len ∷ d .var-node ∷ d .var-width ∷ [])
-    && (oneLength (d .aname-start ∷ d .aname-len ∷ []) && oneLength (d .fname-start ∷ d .fname-len ∷ d .func-width ∷ []))
+    && (oneLength (d .aname-start ∷ d .aname-len ∷ d .array-widths .index ∷ d .array-widths .value ∷ []) && oneLength (d .fname-start ∷ d .fname-len ∷ d .func-width ∷ []))
 
 -- the first entry that has this node
 unfoldable pub find-node : List ℕ → ℕ → Option ℕ
@@ -65,7 +65,7 @@ abbrev pub variablesOf : Dag → List Variable
 variablesOf d = tabulate (length (nameTable d)) (λ k. record { name = getD (nameTable d) k []; width = getD (d .var-width) k 0 })
 
 abbrev pub arraysOf : Dag → List Array
-arraysOf d = tabulate (length (anameTable d)) (λ k. record { name = getD (anameTable d) k []; index = indexWidth k; value = valueWidth k })
+arraysOf d = tabulate (length (anameTable d)) (λ k. record { name = getD (anameTable d) k []; index = indexWidth (d .array-widths .index) k; value = valueWidth (d .array-widths .value) k })
 
 abbrev pub functionsOf : Dag → List ℕ → List Function
 functionsOf d ws =

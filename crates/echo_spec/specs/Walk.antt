@@ -1,4 +1,4 @@
--- Refusals 1 to 7 of a query. They take the number of bits, not the bits, and the roots by themselves.
+-- Refusals 1 to 7 and 12 of a query. They take the number of bits, not the bits, and the roots by themselves.
 use Prim.Native.Nat.{ℕ, zero, suc, _+_}
 use mathlib.Core.List.{List, [], _∷_, _++_, map}
 use mathlib.Core.Bool.{Bool, true, false, _&&_, not}
@@ -29,7 +29,7 @@ use Rattle.echo_spec.specs.Shapes.{
   isBool,
 }
 use Rattle.echo_spec.specs.Input.{Node, shape, no-node, Dag, anameTable, fnameTable}
-use Rattle.echo_spec.specs.Widths.{widthAt, ext-wf}
+use Rattle.echo_spec.specs.Widths.{widthAt, arrayWidthsOk, ext-wf}
 use Rattle.echo_spec.specs.Names.{namesOk}
 use Rattle.echo_spec.specs.Sharing.{unshared}
 use Rattle.echo_spec.specs.Tables.{columnsOk, find-node, find-call, argumentsInside, argumentWidths, decl-vars-ok, decl-funcs-ok}
@@ -145,25 +145,28 @@ walk d ws i = walkStep d ws (walksBelow d ws i) i
 unfoldable pub walkRoots : Dag → List ℕ → List ℕ → ℕ
 walkRoots d ws roots = walkAll (walk d ws) (map formula roots)
 
--- ---------------------------------------------------------------- refusals 1 to 7, in document 01's order
+-- ---------------------------------------------------------------- refusals 1 to 7 and 12, in their order: document 01's, changed by document 02 (L5)
 
 -- The order that every way to print has: `sharing` is its check of sharing, `walked` its walk of the roots; ws are the widths of
 -- the nodes, as far as they are well formed.
 abbrev pub tableChecks : Dag → List ℕ → ℕ → ℕ → ℕ
 tableChecks d ws sharing walked =
-    unless (columnsOk d) 1
-    orElse unless (namesOk d) 2
+    unless (namesOk d) 2
     orElse sharing
     orElse unless (decl-vars-ok d) 4
     orElse unless (decl-funcs-ok d ws) 7
     orElse walked
 
 abbrev pub checks : Dag → List ℕ → ℕ → ℕ → ℕ
-checks d ws sharing walked = unless (eqb (length ws) (length (d .nodes))) 1 orElse tableChecks d ws sharing walked
+checks d ws sharing walked =
+    unless (columnsOk d) 1
+    orElse unless (arrayWidthsOk (d .array-widths)) 12
+    orElse unless (eqb (length ws) (length (d .nodes))) 1
+    orElse tableChecks d ws sharing walked
 
 unfoldable pub refusalWith : Dag → List ℕ → List ℕ → ℕ
 refusalWith d ws roots = checks d ws (unless (unshared (d .nodes) (d .side) roots) 6) (walkRoots d ws roots)
 
 -- with so many bits
 abbrev pub refusal : Dag → ℕ → List ℕ → ℕ
-refusal d nbits roots = refusalWith d (ext-wf nbits (d .side) (d .nodes)) roots
+refusal d nbits roots = refusalWith d (ext-wf nbits (d .array-widths) (d .side) (d .nodes)) roots

@@ -221,7 +221,7 @@ orderCases =
     ∷ refuses "the second root" 3 (rooted4 (2 ∷ 0 ∷ 3 ∷ 4 ∷ []))
     ∷ refuses "the third root" 1 (rooted4 (2 ∷ 4 ∷ 0 ∷ 3 ∷ []))
     ∷ refuses "1: just past the nodes" 1 (rooted4 (4 ∷ []))
-    -- 8, 1 from widths, 1 from columns, 2, 6, 4, 7, the walk
+    -- 8, 1 from columns, 12, 1 from widths, 2, 6, 4, 7, the walk (12 is in `ArrayExamples`)
     ∷ refuses "8 before widths" 8 (problem (node Var 0 0 0 0 ∷ []) (2 ∷ []) [] [] [] [] [])
     ∷ refuses "widths before 2" 1 (problem (node Var 0 0 0 0 ∷ []) [] [] [] (var "let" 0 8 ∷ []) [] [])
     ∷ refuses "columns before 2" 1
@@ -238,6 +238,8 @@ orderCases =
       anames = [];
       aname-start = [];
       aname-len = [];
+      index-width = [];
+      value-width = [];
       fnames = [];
       fname-start = [];
       fname-len = [];

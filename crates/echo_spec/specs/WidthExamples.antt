@@ -46,10 +46,10 @@ use Rattle.reading.specs.Kinds.{
   Select,
   Call,
 }
-use Rattle.echo_spec.specs.Input.{Node, Query, encodable}
+use Rattle.echo_spec.specs.Input.{arrayColumns, Node, Query, encodable}
 use Rattle.echo_spec.specs.Widths.{node-wf, ext-wf}
 use Rattle.echo_spec.specs.Answers.{Answer, ext-wf-answer}
-use Rattle.echo_spec.specs.Examples.{node, joined, problem, decoded, query, var, fun, Example, given, wanted, lent, refused, refuses, widens, allMeet}
+use Rattle.echo_spec.specs.Examples.{noArrays, node, joined, problem, decoded, queryWith, var, fun, Example, given, wanted, lent, refused, refuses, widens, allMeet}
 
 -- ---------------------------------------------------------------- one node after six others
 
@@ -63,7 +63,7 @@ sixPairs = 2 ∷ 0 ∷ 2 ∷ 1 ∷ 2 ∷ 2 ∷ 2 ∷ 6 ∷ 6 ∷ 0 ∷ 2 ∷ 1 �
 
 -- the widths from node 6 on, with four bits and these side entries: none if it is not well formed
 abbrev sixth : List ℕ → Node → List ℕ → Example (List ℕ)
-sixth side n ws = record { label = "node 6"; given = drop 6 (ext-wf 4 side (before ++ (n ∷ []))); wanted = ws }
+sixth side n ws = record { label = "node 6"; given = drop 6 (ext-wf 4 noArrays side (before ++ (n ∷ []))); wanted = ws }
 
 abbrev gets : Node → ℕ → Example (List ℕ)
 gets n w = sixth sixPairs n (w ∷ [])
@@ -202,7 +202,7 @@ doubled = decoded Var 4294967295 0 0 0 ∷ tabulate 32 (λ i. decoded Concat i i
 
 -- the widths from node 32 on, up to the first node that is not well formed
 abbrev from32 : List Node → List ℕ
-from32 ns = drop 32 (ext-wf 0 [] (doubled ++ ns))
+from32 ns = drop 32 (ext-wf 0 noArrays [] (doubled ++ ns))
 
 sums-of-widths : map from32
     ((decoded Concat 32 32 0 0 ∷ [])
@@ -220,7 +220,7 @@ sums-of-widths = refl
 
 -- no record says a width over 32 bits; a decoded node that does has 64 bits at most
 abbrev alone : Node → List ℕ
-alone n = ext-wf 18446744073709551616 [] (n ∷ [])
+alone n = ext-wf 18446744073709551616 noArrays [] (n ∷ [])
 
 widths-of-64-bits : map alone
     (decoded Var 18446744073709551615 0 0 0
@@ -235,7 +235,7 @@ unfolding allMeet
 widths-of-64-bits = refl
 
 -- no node's width is 0; over such widths nothing that needs a bit-vector is well formed
-widths-of-0 : map (node-wf 0 [] (0 ∷ 0 ∷ 1 ∷ []))
+widths-of-0 : map (node-wf 0 noArrays [] (0 ∷ 0 ∷ 1 ∷ []))
     (decoded Add 0 1 0 0 ∷ decoded Rotl 0 1 0 0 ∷ decoded Extract 0 0 0 0 ∷ decoded Concat 0 2 0 0 ∷ decoded Concat 2 0 0 0 ∷ decoded ZeroExt 0 1 0 0
     ∷ decoded Ite 2 0 1 0 ∷ decoded Eq 0 1 0 0 ∷ decoded BvNot 0 0 0 0 ∷ decoded 39 0 0 0 0 ∷ [])
     ≡ replicate 10 false
@@ -243,17 +243,19 @@ unfolding allMeet
 widths-of-0 = refl
 
 -- which queries a problem could encode: records, bits, and widths of 64 bits in the columns
-abbrev columns : List Node → List ℕ → ℕ → ℕ → Query
-columns nodes bits x f = query nodes bits [] [] (var "x" 0 x ∷ []) [] (fun "f" f ∷ [])
+abbrev columns : List Node → List ℕ → ℕ → ℕ → ℕ → ℕ → Query
+columns nodes bits x i v f = queryWith nodes bits [] [] (var "x" 0 x ∷ []) ("m" ∷ []) (arrayColumns (i ∷ []) (v ∷ [])) (fun "f" f ∷ [])
 
 encodable-queries : map encodable
-    (columns (decoded Var 18446744073709551616 0 0 0 ∷ []) (0 ∷ 1 ∷ []) 18446744073709551615 18446744073709551615
-    ∷ columns (decoded Var 8 0 0 0 ∷ decoded Var 8 1 0 0 ∷ []) [] 8 8
-    ∷ columns [] (0 ∷ 2 ∷ []) 8 8
-    ∷ columns [] [] 18446744073709551616 8
-    ∷ columns [] [] 8 18446744073709551616
+    (columns (decoded Var 18446744073709551616 0 0 0 ∷ []) (0 ∷ 1 ∷ []) 18446744073709551615 18446744073709551615 18446744073709551615 18446744073709551615
+    ∷ columns (decoded Var 8 0 0 0 ∷ decoded Var 8 1 0 0 ∷ []) [] 8 8 8 8
+    ∷ columns [] (0 ∷ 2 ∷ []) 8 8 8 8
+    ∷ columns [] [] 18446744073709551616 8 8 8
+    ∷ columns [] [] 8 18446744073709551616 8 8
+    ∷ columns [] [] 8 8 18446744073709551616 8
+    ∷ columns [] [] 8 8 8 18446744073709551616
     ∷ [])
-    ≡ true ∷ false ∷ false ∷ false ∷ false ∷ []
+    ≡ true ∷ false ∷ false ∷ false ∷ false ∷ false ∷ false ∷ []
 unfolding allMeet encodable
 encodable-queries = refl
 
@@ -275,7 +277,7 @@ passCases =
     -- what lies past the widths stays in its place
     ∷ record {
       label = "past the widths";
-      given = ext-wf-answer (joined three) [] [] (21 ∷ 22 ∷ 23 ∷ 24 ∷ 25 ∷ []);
+      given = ext-wf-answer (joined three) [] [] noArrays (21 ∷ 22 ∷ 23 ∷ 24 ∷ 25 ∷ []);
       wanted = record { number = 0; count = 3; output = 8 ∷ 8 ∷ 1 ∷ 24 ∷ 25 ∷ [] };
     }
     ∷ refuses "1: the printer has no count" 1 (problem (three ++ (node Eq 0 2 0 0 ∷ [])) [] [] [] [] [] [])

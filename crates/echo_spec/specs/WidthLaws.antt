@@ -8,66 +8,66 @@ use lib.Dec.{T, ltb, eqb, eqb→eq, ltb→lt}
 use lib.ListN.{length, take, getD, length-append}
 use lib.Seq.{length-take-le, getD-take, take-append-seam, getD-append-seam}
 use Rattle.lists.specs.Tests.{All, and-0, and-1, true→T}
-use Rattle.echo_spec.specs.Input.{Node, no-node}
+use Rattle.echo_spec.specs.Input.{ArrayWidths, Node, no-node}
 use Rattle.echo_spec.specs.Widths.{widthAt, earlier, earlierOf, un-wf, bin-wf, args-wf, node-wf, node-width, ext-wf-from, ext-wf}
 
 -- node n, number i, after the first i of the widths
-pub record Sized (nbits : ℕ) (side ws : List ℕ) (i : ℕ) (n : Node) : Type 0 where
-  pub wf : T (node-wf nbits side (take i ws) n)
-  pub width : getD ws i 0 ≡ node-width (take i ws) n
+pub record Sized (nbits : ℕ) (arrays : ArrayWidths) (side ws : List ℕ) (i : ℕ) (n : Node) : Type 0 where
+  pub wf : T (node-wf nbits arrays side (take i ws) n)
+  pub width : getD ws i 0 ≡ node-width arrays (take i ws) n
 
-module _ (nbits : ℕ) (side : List ℕ) where
+module _ (nbits : ℕ) (arrays : ArrayWidths) (side : List ℕ) where
   -- the pass only adds to the widths that it has
-  from-prefix : (ns : List Node) (ws : List ℕ) → (rest : List ℕ) × (ext-wf-from nbits side ws ns ≡ ws ++ rest)
+  from-prefix : (ns : List Node) (ws : List ℕ) → (rest : List ℕ) × (ext-wf-from nbits arrays side ws ns ≡ ws ++ rest)
   unfolding ext-wf-from
   from-prefix [] ws = ([], sym (append-nil ws))
-  from-prefix (n ∷ ns) ws = by-node (node-wf nbits side ws n) refl (from-prefix ns (ws ++ (node-width ws n ∷ [])))
+  from-prefix (n ∷ ns) ws = by-node (node-wf nbits arrays side ws n) refl (from-prefix ns (ws ++ (node-width arrays ws n ∷ [])))
     where
-      by-node : (b : Bool) → node-wf nbits side ws n ≡ b
-          → (rest : List ℕ) × (ext-wf-from nbits side (ws ++ (node-width ws n ∷ [])) ns ≡ (ws ++ (node-width ws n ∷ [])) ++ rest)
-          → (rest : List ℕ) × (ext-wf-from nbits side ws (n ∷ ns) ≡ ws ++ rest)
-      by-node true e (rest, q) = (node-width ws n ∷ rest, rw (e, ext-wf-from) (q ∙ append-assoc ws (node-width ws n ∷ []) rest))
+      by-node : (b : Bool) → node-wf nbits arrays side ws n ≡ b
+          → (rest : List ℕ) × (ext-wf-from nbits arrays side (ws ++ (node-width arrays ws n ∷ [])) ns ≡ (ws ++ (node-width arrays ws n ∷ [])) ++ rest)
+          → (rest : List ℕ) × (ext-wf-from nbits arrays side ws (n ∷ ns) ≡ ws ++ rest)
+      by-node true e (rest, q) = (node-width arrays ws n ∷ rest, rw (e, ext-wf-from) (q ∙ append-assoc ws (node-width arrays ws n ∷ []) rest))
       by-node false e (rest, q) = ([], rw (e, ext-wf-from) (sym (append-nil ws)))
 
   -- the node that the pass came to with the widths ws
-  first-sized : (ws rest : List ℕ) (n : Node) → T (node-wf nbits side ws n) → Sized nbits side ((ws ++ (node-width ws n ∷ [])) ++ rest) (length ws) n
+  first-sized : (ws rest : List ℕ) (n : Node) → T (node-wf nbits arrays side ws n) → Sized nbits arrays side ((ws ++ (node-width arrays ws n ∷ [])) ++ rest) (length ws) n
   first-sized ws rest n h =
-      let e : (ws ++ (node-width ws n ∷ [])) ++ rest ≡ ws ++ (node-width ws n ∷ rest) = append-assoc ws (node-width ws n ∷ []) rest in
-      let t : take (length ws) ((ws ++ (node-width ws n ∷ [])) ++ rest) ≡ ws = rw e (take-append-seam ws (node-width ws n ∷ rest)) in
-      record { wf = rw t h; width = rw t (rw e (getD-append-seam ws (node-width ws n) rest 0)) }
+      let e : (ws ++ (node-width arrays ws n ∷ [])) ++ rest ≡ ws ++ (node-width arrays ws n ∷ rest) = append-assoc ws (node-width arrays ws n ∷ []) rest in
+      let t : take (length ws) ((ws ++ (node-width arrays ws n ∷ [])) ++ rest) ≡ ws = rw e (take-append-seam ws (node-width arrays ws n ∷ rest)) in
+      record { wf = rw t h; width = rw t (rw e (getD-append-seam ws (node-width arrays ws n) rest 0)) }
 
-  sized-from : (ns : List Node) (ws : List ℕ) (k : ℕ) → length ws + k < length (ext-wf-from nbits side ws ns)
-      → Sized nbits side (ext-wf-from nbits side ws ns) (length ws + k) (getD ns k no-node)
+  sized-from : (ns : List Node) (ws : List ℕ) (k : ℕ) → length ws + k < length (ext-wf-from nbits arrays side ws ns)
+      → Sized nbits arrays side (ext-wf-from nbits arrays side ws ns) (length ws + k) (getD ns k no-node)
   unfolding ext-wf-from
   sized-from [] ws k h = absurd (omega arith)
-  sized-from (n ∷ ns) ws k h = by-node (node-wf nbits side ws n) refl h (λ j. sized-from ns (ws ++ (node-width ws n ∷ [])) j)
+  sized-from (n ∷ ns) ws k h = by-node (node-wf nbits arrays side ws n) refl h (λ j. sized-from ns (ws ++ (node-width arrays ws n ∷ [])) j)
     where
-      by-place : (k : ℕ) → T (node-wf nbits side ws n) → length ws + k < length (ext-wf-from nbits side (ws ++ (node-width ws n ∷ [])) ns)
-          → ((j : ℕ) → length (ws ++ (node-width ws n ∷ [])) + j < length (ext-wf-from nbits side (ws ++ (node-width ws n ∷ [])) ns)
-          → Sized nbits side (ext-wf-from nbits side (ws ++ (node-width ws n ∷ [])) ns) (length (ws ++ (node-width ws n ∷ [])) + j) (getD ns j no-node))
-          → Sized nbits side (ext-wf-from nbits side (ws ++ (node-width ws n ∷ [])) ns) (length ws + k) (getD (n ∷ ns) k no-node)
+      by-place : (k : ℕ) → T (node-wf nbits arrays side ws n) → length ws + k < length (ext-wf-from nbits arrays side (ws ++ (node-width arrays ws n ∷ [])) ns)
+          → ((j : ℕ) → length (ws ++ (node-width arrays ws n ∷ [])) + j < length (ext-wf-from nbits arrays side (ws ++ (node-width arrays ws n ∷ [])) ns)
+          → Sized nbits arrays side (ext-wf-from nbits arrays side (ws ++ (node-width arrays ws n ∷ [])) ns) (length (ws ++ (node-width arrays ws n ∷ [])) + j) (getD ns j no-node))
+          → Sized nbits arrays side (ext-wf-from nbits arrays side (ws ++ (node-width arrays ws n ∷ [])) ns) (length ws + k) (getD (n ∷ ns) k no-node)
       by-place zero t h rest =
-          let p = from-prefix ns (ws ++ (node-width ws n ∷ [])) in
+          let p = from-prefix ns (ws ++ (node-width arrays ws n ∷ [])) in
           let z : length ws + 0 ≡ length ws = omega arith in
           rw (p .1, z) (first-sized ws (p .0) n t)
       by-place (suc k) t h rest =
-          let l : length (ws ++ (node-width ws n ∷ [])) ≡ length ws + 1 = length-append ws (node-width ws n ∷ []) in
-          let z : length ws + suc k ≡ length (ws ++ (node-width ws n ∷ [])) + k = omega arith in
+          let l : length (ws ++ (node-width arrays ws n ∷ [])) ≡ length ws + 1 = length-append ws (node-width arrays ws n ∷ []) in
+          let z : length ws + suc k ≡ length (ws ++ (node-width arrays ws n ∷ [])) + k = omega arith in
           rw z (rest k (rw z at h))
 
-      by-node : (b : Bool) → node-wf nbits side ws n ≡ b → length ws + k < length (ext-wf-from nbits side ws (n ∷ ns))
-          → ((j : ℕ) → length (ws ++ (node-width ws n ∷ [])) + j < length (ext-wf-from nbits side (ws ++ (node-width ws n ∷ [])) ns)
-          → Sized nbits side (ext-wf-from nbits side (ws ++ (node-width ws n ∷ [])) ns) (length (ws ++ (node-width ws n ∷ [])) + j) (getD ns j no-node))
-          → Sized nbits side (ext-wf-from nbits side ws (n ∷ ns)) (length ws + k) (getD (n ∷ ns) k no-node)
+      by-node : (b : Bool) → node-wf nbits arrays side ws n ≡ b → length ws + k < length (ext-wf-from nbits arrays side ws (n ∷ ns))
+          → ((j : ℕ) → length (ws ++ (node-width arrays ws n ∷ [])) + j < length (ext-wf-from nbits arrays side (ws ++ (node-width arrays ws n ∷ [])) ns)
+          → Sized nbits arrays side (ext-wf-from nbits arrays side (ws ++ (node-width arrays ws n ∷ [])) ns) (length (ws ++ (node-width arrays ws n ∷ [])) + j) (getD ns j no-node))
+          → Sized nbits arrays side (ext-wf-from nbits arrays side ws (n ∷ ns)) (length ws + k) (getD (n ∷ ns) k no-node)
       by-node true e h rest = rw (e, ext-wf-from) (by-place k (true→T e) (rw (e, ext-wf-from) at h) rest)
       by-node false e h rest = absurd (let h′ : length ws + k < length ws = rw (e, ext-wf-from) at h in omega arith)
 
-pub sized : (nbits : ℕ) (side : List ℕ) (ns : List Node) (i : ℕ) → i < length (ext-wf nbits side ns)
-    → Sized nbits side (ext-wf nbits side ns) i (getD ns i no-node)
+pub sized : (nbits : ℕ) (arrays : ArrayWidths) (side : List ℕ) (ns : List Node) (i : ℕ) → i < length (ext-wf nbits arrays side ns)
+    → Sized nbits arrays side (ext-wf nbits arrays side ns) i (getD ns i no-node)
 unfolding ext-wf
-sized nbits side ns i h =
+sized nbits arrays side ns i h =
     let z : 0 + i ≡ i = omega arith in
-    rw z at (sized-from nbits side ns [] i (rw z h))
+    rw z at (sized-from nbits arrays side ns [] i (rw z h))
 
 -- ---------------------------------------------------------------- operands of a well-formed node
 

@@ -22,14 +22,30 @@ use Rattle.echo_spec.specs.Shapes.{
   call,
   unknown,
 }
-use Rattle.echo_spec.specs.Input.{Node, shape, largest, fits64, Query}
+use Rattle.lists.specs.Tests.{every}
+use Rattle.echo_spec.specs.Input.{ArrayWidths, Node, shape, largest, fits64, Query}
 
--- the widths of an array's index and value, by its number
-unfoldable pub indexWidth : ℕ → ℕ
-indexWidth array = 32
+-- ---------------------------------------------------------------- arrays
 
-unfoldable pub valueWidth : ℕ → ℕ
-valueWidth array = 8
+-- the widths of an array's index and value, by its number: what the table's column has, and past its end the Rust's
+unfoldable pub indexWidth : List ℕ → ℕ → ℕ
+indexWidth column array = getD column array 32
+
+unfoldable pub valueWidth : List ℕ → ℕ → ℕ
+valueWidth column array = getD column array 8
+
+-- the widest index or value
+abbrev pub arrayWidthLimit : ℕ
+arrayWidthLimit = 65536
+
+abbrev pub arrayWidthOk : ℕ → Bool
+arrayWidthOk w = ltb 0 w && leb w arrayWidthLimit
+
+-- 12: each width of the table is from 1 to that, whether the array is used or not
+unfoldable pub arrayWidthsOk : ArrayWidths → Bool
+arrayWidthsOk arrays = every arrayWidthOk (arrays .index) && every arrayWidthOk (arrays .value)
+
+-- ---------------------------------------------------------------- nodes
 
 -- `width_at`: 0 past the list, and no node's width is 0
 abbrev pub widthAt : List ℕ → ℕ → ℕ
@@ -68,61 +84,62 @@ args-wf ws zero side = true
 args-wf ws (suc n) [] = false
 args-wf ws (suc n) (x ∷ side) = earlier ws x && args-wf ws n side
 
--- a node of this shape is well formed after nodes of the widths ws, with so many bits; every width has 64 bits
-unfoldable pub wfAs : ℕ → List ℕ → List ℕ → Node → Shape → Bool
-wfAs nbits side ws n var = ltb 0 (n .a) && fits64 (n .a)
-wfAs nbits side ws n const = ltb 0 (n .b) && (fits64 (n .b) && leb (n .a + n .b) nbits)
-wfAs nbits side ws n binary = bin-wf ws (n .a) (n .b)
-wfAs nbits side ws n rotation = bin-wf ws (n .a) (n .b)
-wfAs nbits side ws n extraction = earlier ws (n .c) && (leb (n .b) (n .a) && ltb (n .a) (widthAt ws (n .c)))
-wfAs nbits side ws n concat = un-wf ws (n .a) && (un-wf ws (n .b) && leb (widthAt ws (n .a) + widthAt ws (n .b)) largest)
-wfAs nbits side ws n extension = extend-wf ws (n .a) (n .b)
-wfAs nbits side ws n ite = earlierOf ws 1 (n .a) && bin-wf ws (n .b) (n .c)
-wfAs nbits side ws n comparison = bin-wf ws (n .a) (n .b)
-wfAs nbits side ws n negation = earlierOf ws 1 (n .a)
-wfAs nbits side ws n connective = bool-bin-wf ws (n .a) (n .b)
-wfAs nbits side ws n unary = un-wf ws (n .a)
-wfAs nbits side ws n select =
-    earlierOf ws (indexWidth (n .a)) (n .b) && chain-wf (indexWidth (n .a)) (valueWidth (n .a)) ws (n .d) (drop (n .c) side)
-wfAs nbits side ws n call = ltb 0 (n .b) && (fits64 (n .b) && args-wf ws (n .d) (drop (n .c) side))
-wfAs nbits side ws n unknown = false
+-- a node of this shape is well formed after nodes of the widths ws, with so many bits, arrays of these widths and these side entries;
+-- every width has 64 bits (an array's by 12)
+unfoldable pub wfAs : ℕ → ArrayWidths → List ℕ → List ℕ → Node → Shape → Bool
+wfAs nbits arrays side ws n var = ltb 0 (n .a) && fits64 (n .a)
+wfAs nbits arrays side ws n const = ltb 0 (n .b) && (fits64 (n .b) && leb (n .a + n .b) nbits)
+wfAs nbits arrays side ws n binary = bin-wf ws (n .a) (n .b)
+wfAs nbits arrays side ws n rotation = bin-wf ws (n .a) (n .b)
+wfAs nbits arrays side ws n extraction = earlier ws (n .c) && (leb (n .b) (n .a) && ltb (n .a) (widthAt ws (n .c)))
+wfAs nbits arrays side ws n concat = un-wf ws (n .a) && (un-wf ws (n .b) && leb (widthAt ws (n .a) + widthAt ws (n .b)) largest)
+wfAs nbits arrays side ws n extension = extend-wf ws (n .a) (n .b)
+wfAs nbits arrays side ws n ite = earlierOf ws 1 (n .a) && bin-wf ws (n .b) (n .c)
+wfAs nbits arrays side ws n comparison = bin-wf ws (n .a) (n .b)
+wfAs nbits arrays side ws n negation = earlierOf ws 1 (n .a)
+wfAs nbits arrays side ws n connective = bool-bin-wf ws (n .a) (n .b)
+wfAs nbits arrays side ws n unary = un-wf ws (n .a)
+wfAs nbits arrays side ws n select =
+    earlierOf ws (indexWidth (arrays .index) (n .a)) (n .b) && chain-wf (indexWidth (arrays .index) (n .a)) (valueWidth (arrays .value) (n .a)) ws (n .d) (drop (n .c) side)
+wfAs nbits arrays side ws n call = ltb 0 (n .b) && (fits64 (n .b) && args-wf ws (n .d) (drop (n .c) side))
+wfAs nbits arrays side ws n unknown = false
 
 -- `node_wf` and `ext_node_wf`
-unfoldable pub node-wf : ℕ → List ℕ → List ℕ → Node → Bool
-node-wf nbits side ws n = wfAs nbits side ws n (shape n)
+unfoldable pub node-wf : ℕ → ArrayWidths → List ℕ → List ℕ → Node → Bool
+node-wf nbits arrays side ws n = wfAs nbits arrays side ws n (shape n)
 
 -- the width of a node of this shape that is well formed
-unfoldable pub widthAs : List ℕ → Node → Shape → ℕ
-widthAs ws n var = n .a
-widthAs ws n const = n .b
-widthAs ws n binary = widthAt ws (n .a)
-widthAs ws n rotation = widthAt ws (n .a)
-widthAs ws n extraction = n .a - n .b + 1
-widthAs ws n concat = widthAt ws (n .a) + widthAt ws (n .b)
-widthAs ws n extension = widthAt ws (n .a) + n .b
-widthAs ws n ite = widthAt ws (n .b)
-widthAs ws n comparison = 1
-widthAs ws n negation = 1
-widthAs ws n connective = 1
-widthAs ws n unary = widthAt ws (n .a)
-widthAs ws n select = valueWidth (n .a)
-widthAs ws n call = n .b
-widthAs ws n unknown = 0
+unfoldable pub widthAs : ArrayWidths → List ℕ → Node → Shape → ℕ
+widthAs arrays ws n var = n .a
+widthAs arrays ws n const = n .b
+widthAs arrays ws n binary = widthAt ws (n .a)
+widthAs arrays ws n rotation = widthAt ws (n .a)
+widthAs arrays ws n extraction = n .a - n .b + 1
+widthAs arrays ws n concat = widthAt ws (n .a) + widthAt ws (n .b)
+widthAs arrays ws n extension = widthAt ws (n .a) + n .b
+widthAs arrays ws n ite = widthAt ws (n .b)
+widthAs arrays ws n comparison = 1
+widthAs arrays ws n negation = 1
+widthAs arrays ws n connective = 1
+widthAs arrays ws n unary = widthAt ws (n .a)
+widthAs arrays ws n select = valueWidth (arrays .value) (n .a)
+widthAs arrays ws n call = n .b
+widthAs arrays ws n unknown = 0
 
 -- `node_width` and `ext_node_width`
-unfoldable pub node-width : List ℕ → Node → ℕ
-node-width ws n = widthAs ws n (shape n)
+unfoldable pub node-width : ArrayWidths → List ℕ → Node → ℕ
+node-width arrays ws n = widthAs arrays ws n (shape n)
 
 -- The widths of the nodes before the first that is not well formed: its length is the node count, or the number of the
 -- node refused.
-unfoldable pub ext-wf-from : ℕ → List ℕ → List ℕ → List Node → List ℕ
-ext-wf-from nbits side ws [] = ws
-ext-wf-from nbits side ws (n ∷ ns) =
-    elim (node-wf nbits side ws n) [ true ↦ ext-wf-from nbits side (ws ++ (node-width ws n ∷ [])) ns | false ↦ ws ]
+unfoldable pub ext-wf-from : ℕ → ArrayWidths → List ℕ → List ℕ → List Node → List ℕ
+ext-wf-from nbits arrays side ws [] = ws
+ext-wf-from nbits arrays side ws (n ∷ ns) =
+    elim (node-wf nbits arrays side ws n) [ true ↦ ext-wf-from nbits arrays side (ws ++ (node-width arrays ws n ∷ [])) ns | false ↦ ws ]
 
-unfoldable pub ext-wf : ℕ → List ℕ → List Node → List ℕ
-ext-wf nbits side ns = ext-wf-from nbits side [] ns
+unfoldable pub ext-wf : ℕ → ArrayWidths → List ℕ → List Node → List ℕ
+ext-wf nbits arrays side ns = ext-wf-from nbits arrays side [] ns
 
 -- the widths of a query's nodes
 abbrev pub widthsOf : Query → List ℕ
-widthsOf q = ext-wf (length (q .bits)) (q .dag .side) (q .dag .nodes)
+widthsOf q = ext-wf (length (q .bits)) (q .dag .array-widths) (q .dag .side) (q .dag .nodes)

@@ -62,7 +62,7 @@ Marked d ws t = MarkedTo d ws (length (d .nodes)) t
 
 -- ws are the widths of all nodes, each well formed after those before it
 pub record Measured (b n : List Slice) (ws : List ℕ) : Type 0 where
-  pub widths : ws ≡ ext-wf (length (problemAt b n .bits)) (dagAt b n .side) (dagAt b n .nodes)
+  pub widths : ws ≡ ext-wf (length (problemAt b n .bits)) (dagAt b n .array-widths) (dagAt b n .side) (dagAt b n .nodes)
   pub counted : length ws ≡ length (dagAt b n .nodes)
 
 -- before the table is filled

@@ -75,9 +75,9 @@ module _ (d : Dag) (ws : List ℕ) where
   unfolding walk walkStep
   walk-past i h w = rw (le-ltb i (length (d .nodes)) h)
 
-module _ (d : Dag) (ws : List ℕ) (nbits : ℕ) (widths : ws ≡ ext-wf nbits (d .side) (d .nodes)) (counted : length ws ≡ length (d .nodes)) where
+module _ (d : Dag) (ws : List ℕ) (nbits : ℕ) (widths : ws ≡ ext-wf nbits (d .array-widths) (d .side) (d .nodes)) (counted : length ws ≡ length (d .nodes)) where
   pub operands-low : (i : ℕ) → i < length (d .nodes) → Low i (operandsOf d i)
-  operands-low i h = facts nbits (d .side) (d .nodes) i (rw (← widths, counted) h) .low
+  operands-low i h = facts nbits (d .array-widths) (d .side) (d .nodes) i (rw (← widths, counted) h) .low
 
   pub walk-is : (i : ℕ) → i < length (d .nodes) → (w : Bool)
       → walk d ws i w ≡ (unless (sortOk w (isBool (shape (getD (d .nodes) i no-node)))) 3 orElse refusedAt d ws i)

@@ -29,7 +29,7 @@ use Rattle.echo_spec.specs.Shapes.{
   unknown,
   isBool,
 }
-use Rattle.echo_spec.specs.Input.{Node, shape, no-node, Dag}
+use Rattle.echo_spec.specs.Input.{ArrayWidths, Node, shape, no-node, Dag}
 use Rattle.echo_spec.specs.Widths.{indexWidth, valueWidth, ext-wf}
 use Rattle.echo_spec.specs.NodeLaws.{Pairs, Formed, facts}
 use Rattle.echo_spec.specs.Walk.{askedAs, asked, Operand, vector, levels, walkAll, sortOk, walk}
@@ -120,7 +120,7 @@ bool-coded call = refl
 bool-coded unknown = refl
 
 -- a node whose number is in the table is refused as the walk refuses it
-module _ (d : Dag) (ws : List ℕ) (nbits : ℕ) (widths : ws ≡ ext-wf nbits (d .side) (d .nodes)) (counted : length ws ≡ length (d .nodes)) where
+module _ (d : Dag) (ws : List ℕ) (nbits : ℕ) (widths : ws ≡ ext-wf nbits (d .array-widths) (d .side) (d .nodes)) (counted : length ws ≡ length (d .nodes)) where
   pub use-walks : (t : List ℕ) (i : ℕ) → MarkedTo d ws i t → i ≤ length (d .nodes) → (j : ℕ) (w : Bool) → j < i → useOf t j w ≡ walk d ws j w
   unfolding useOf
   use-walks t i m l j w h =
@@ -244,27 +244,27 @@ unfolding callForm
 call-inside side s zero h = tt
 call-inside side s (suc n) h = omega (arith, length-drop s side)
 
-pub form-inside : (ws : List ℕ) (i nbits : ℕ) (side : List ℕ) (n : Node) (s : Shape) → Formed ws i nbits side n s → FormInside side (formAs n s)
+pub form-inside : (ws : List ℕ) (i nbits : ℕ) (arrays : ArrayWidths) (side : List ℕ) (n : Node) (s : Shape) → Formed ws i nbits arrays side n s → FormInside side (formAs n s)
 unfolding formAs
-form-inside ws i nbits side n var f = tt
-form-inside ws i nbits side n const f = tt
-form-inside ws i nbits side n binary f = tt
-form-inside ws i nbits side n rotation f = tt
-form-inside ws i nbits side n extraction f = tt
-form-inside ws i nbits side n concat f = tt
-form-inside ws i nbits side n extension f = tt
-form-inside ws i nbits side n ite f = tt
-form-inside ws i nbits side n comparison f = tt
-form-inside ws i nbits side n negation f = tt
-form-inside ws i nbits side n connective f = tt
-form-inside ws i nbits side n unary f = tt
-form-inside ws i nbits side n select f = pairs-inside ws i (indexWidth (n .a)) (valueWidth (n .a)) (n .d) (drop (n .c) side) (f .1)
-form-inside ws i nbits side n call f = call-inside side (n .c) (n .d) (f .3)
-form-inside ws i nbits side n unknown f = absurd f
+form-inside ws i nbits arrays side n var f = tt
+form-inside ws i nbits arrays side n const f = tt
+form-inside ws i nbits arrays side n binary f = tt
+form-inside ws i nbits arrays side n rotation f = tt
+form-inside ws i nbits arrays side n extraction f = tt
+form-inside ws i nbits arrays side n concat f = tt
+form-inside ws i nbits arrays side n extension f = tt
+form-inside ws i nbits arrays side n ite f = tt
+form-inside ws i nbits arrays side n comparison f = tt
+form-inside ws i nbits arrays side n negation f = tt
+form-inside ws i nbits arrays side n connective f = tt
+form-inside ws i nbits arrays side n unary f = tt
+form-inside ws i nbits arrays side n select f = pairs-inside ws i (indexWidth (arrays .index) (n .a)) (valueWidth (arrays .value) (n .a)) (n .d) (drop (n .c) side) (f .1)
+form-inside ws i nbits arrays side n call f = call-inside side (n .c) (n .d) (f .3)
+form-inside ws i nbits arrays side n unknown f = absurd f
 
-pub node-inside : (nbits : ℕ) (side : List ℕ) (ns : List Node) (i : ℕ) → i < length (ext-wf nbits side ns)
+pub node-inside : (nbits : ℕ) (arrays : ArrayWidths) (side : List ℕ) (ns : List Node) (i : ℕ) → i < length (ext-wf nbits arrays side ns)
     → FormInside side (formAs (getD ns i no-node) (shape (getD ns i no-node)))
-node-inside nbits side ns i h = form-inside (ext-wf nbits side ns) i nbits side (getD ns i no-node) (shape (getD ns i no-node)) (facts nbits side ns i h .form)
+node-inside nbits arrays side ns i h = form-inside (ext-wf nbits arrays side ns) i nbits arrays side (getD ns i no-node) (shape (getD ns i no-node)) (facts nbits arrays side ns i h .form)
 
 -- ---------------------------------------------------------------- node i, where the table is filled up to it
 
@@ -279,7 +279,7 @@ module _ (b n : List Slice) {ws entry first codes : List ℕ} {i : ℕ} {m : Nod
   form-is = is ∙ ap (λ (x : Node). formAs x (shape x)) (h .node)
 
   pub marking-inside : FormInside (d .side) f
-  marking-inside = rw form-is (node-inside nbits (d .side) (d .nodes) i (rw (← h .measured .widths, h .measured .counted) (h .here)))
+  marking-inside = rw form-is (node-inside nbits (d .array-widths) (d .side) (d .nodes) i (rw (← h .measured .widths, h .measured .counted) (h .here)))
 
   module _ {a : ℕ} (asks : a ≡ askedAs d ws i m (shape m)) where
     asks-own : a ≡ asked d ws i

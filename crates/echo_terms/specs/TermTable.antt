@@ -11,7 +11,7 @@ use lib.ListN.{length, take, drop, getD, set, replicate, drop-of-length-le, leng
 use lib.Seq.{drop-cons, getD-set-same, getD-set-other}
 use Rattle.lists.specs.Tests.{true→T}
 use Rattle.lists.specs.Build.{upto}
-use Rattle.echo_spec.specs.Input.{Node, shape, no-node, largest, nodeAt, nodesOf}
+use Rattle.echo_spec.specs.Input.{ArrayWidths, Node, shape, no-node, largest, nodeAt, nodesOf}
 use Rattle.echo_spec.specs.Widths.{ext-wf}
 use Rattle.echo_spec.specs.Walk.{Operand, vector, levels, operandsAs}
 use Rattle.lent.specs.Records.{nodes-length, nodes-at}
@@ -38,11 +38,12 @@ counted t c xs = held (c + sumOver (entry t) xs)
 unfoldable pub formTerms : List ℕ → List ℕ → Form → ℕ
 formTerms t side f = held (1 + sumOver (λ (o : Operand). entry t (o .node)) (formOperands side f))
 
--- nodes within the limit, and well formed with these side entries
+-- nodes within the limit, and well formed with these side entries, and with some bits and arrays
 pub record Countable (nodes side : List ℕ) : Type 0 where
   pub within : length nodes ≤ 34816
   pub bits : ℕ
-  pub formed : length (ext-wf bits side (nodesOf nodes)) ≡ length (nodesOf nodes)
+  pub arrays : ArrayWidths
+  pub formed : length (ext-wf bits arrays side (nodesOf nodes)) ≡ length (nodesOf nodes)
 
 -- ---------------------------------------------------------------- a list of nodes
 
@@ -155,7 +156,7 @@ module _ {t side nodes : List ℕ} {i : ℕ} (c : Countable nodes side) (f : Fil
 
   module _ {m : Node} (e : m ≡ nodeAt nodes i) where
     pub node-within : FormInside side (formAs m (shape m))
-    node-within = rw (e ∙ sym here) (node-inside (c .bits) side (nodesOf nodes) i (omega (arith, c .formed)))
+    node-within = rw (e ∙ sym here) (node-inside (c .bits) (c .arrays) side (nodesOf nodes) i (omega (arith, c .formed)))
 
     step-held : {x : ℕ} → x ≡ formTerms t side (formAs m (shape m)) → x ≡ held (countStep side (nodesOf nodes) (countsBelow side (nodesOf nodes) i) i)
     unfolding formTerms countStep

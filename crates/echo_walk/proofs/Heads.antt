@@ -30,7 +30,7 @@ use Rattle.echo_spec.specs.Shapes.{
   shapes,
   shapeOf,
 }
-use Rattle.echo_spec.specs.Input.{Node, shape, nodesOf, part, namesOf, Dag, dagOf, fits64, nameTable, anameTable, fnameTable}
+use Rattle.echo_spec.specs.Input.{arrayWidths, Node, shape, nodesOf, part, namesOf, Dag, dagOf, fits64, nameTable, anameTable, fnameTable}
 use Rattle.echo_spec.specs.Refusals.{unless, _orElse_}
 use Rattle.echo_spec.specs.Widths.{widthAt, wfAs, node-wf}
 use Rattle.echo_spec.specs.WidthLaws.{Sized, sized, bin-operands}
@@ -140,14 +140,14 @@ module _ (B N F : List Slice) (Y : List ℕ) (ready : Ready B N F Y) (i : ℕ) w
   pub amount-inside : Taken B N F i rotation → {m : Node} → m ≡ nodeIn B N i → m .b < length (nodesOf (problemAt B N .nodes))
   amount-inside p e = rw e (omega (arith, amount-below p, node-inside p))
 
-  amount-sized : Taken B N F i rotation → T (wfAs (length (problemAt B N .bits)) (problemAt B N .side) (take (nodeIn B N i .b) (widthsIn F)) (nodeIn B N (nodeIn B N i .b)) (shape (nodeIn B N (nodeIn B N i .b))))
+  amount-sized : Taken B N F i rotation → T (wfAs (length (problemAt B N .bits)) (arrayWidths (problemAt B N)) (problemAt B N .side) (take (nodeIn B N i .b) (widthsIn F)) (nodeIn B N (nodeIn B N i .b)) (shape (nodeIn B N (nodeIn B N i .b))))
   unfolding dagOf node-wf
   amount-sized p =
       let b : ℕ = nodeIn B N i .b in
       let l : b < length (widthsIn F) = omega (arith, amount-below p, p .here) in
-      let z : Sized (length (problemAt B N .bits)) (problemAt B N .side) (widthsIn F) b (nodeIn B N b) =
-      subst (λ (ws : List ℕ). Sized (length (problemAt B N .bits)) (problemAt B N .side) ws b (nodeIn B N b)) (sym (ready .widths))
-      (sized (length (problemAt B N .bits)) (problemAt B N .side) (nodesOf (problemAt B N .nodes)) b (rw (ready .widths) at l)) in
+      let z : Sized (length (problemAt B N .bits)) (arrayWidths (problemAt B N)) (problemAt B N .side) (widthsIn F) b (nodeIn B N b) =
+      subst (λ (ws : List ℕ). Sized (length (problemAt B N .bits)) (arrayWidths (problemAt B N)) (problemAt B N .side) ws b (nodeIn B N b)) (sym (ready .widths))
+      (sized (length (problemAt B N .bits)) (arrayWidths (problemAt B N)) (problemAt B N .side) (nodesOf (problemAt B N .nodes)) b (rw (ready .widths) at l)) in
       z .wf
 
   amount-const : Taken B N F i rotation → shape (nodeIn B N (nodeIn B N i .b)) ≡ const
@@ -161,7 +161,7 @@ module _ (B N F : List Slice) (Y : List ℕ) (ready : Ready B N F Y) (i : ℕ) w
   unfolding rotationOk wfAs
   rotation-ready p {m} e {a} f {w} q =
       let r = amount-ok p in
-      let c : T (wfAs (length (problemAt B N .bits)) (problemAt B N .side) (take (nodeIn B N i .b) (widthsIn F)) (nodeIn B N (nodeIn B N i .b)) const) = subst (λ (s : Shape). T (wfAs (length (problemAt B N .bits)) (problemAt B N .side) (take (nodeIn B N i .b) (widthsIn F)) (nodeIn B N (nodeIn B N i .b)) s)) (amount-const p) (amount-sized p) in
+      let c : T (wfAs (length (problemAt B N .bits)) (arrayWidths (problemAt B N)) (problemAt B N .side) (take (nodeIn B N i .b) (widthsIn F)) (nodeIn B N (nodeIn B N i .b)) const) = subst (λ (s : Shape). T (wfAs (length (problemAt B N .bits)) (arrayWidths (problemAt B N)) (problemAt B N .side) (take (nodeIn B N i .b) (widthsIn F)) (nodeIn B N (nodeIn B N i .b)) s)) (amount-const p) (amount-sized p) in
       let x : Node = nodeIn B N (nodeIn B N i .b) in
       let g : a ≡ x = f ∙ ap (λ (z : Node). nodeIn B N (z .b)) e in (
         rw g (leb→le (x .a + x .b) (length (problemAt B N .bits)) (and-1 (fits64 (x .b)) _ (and-1 (ltb 0 (x .b)) _ c))),
@@ -219,13 +219,13 @@ module _ (B N F : List Slice) (Y : List ℕ) (ready : Ready B N F Y) (i : ℕ) (
   unfolding dagOf
   node-here = omega (arith, ready .counted)
 
-  formed-as : (s : Shape) → shape (nodeIn B N i) ≡ s → T (wfAs (length (problemAt B N .bits)) (problemAt B N .side) (take i (widthsIn F)) (nodeIn B N i) s)
+  formed-as : (s : Shape) → shape (nodeIn B N i) ≡ s → T (wfAs (length (problemAt B N .bits)) (arrayWidths (problemAt B N)) (problemAt B N .side) (take i (widthsIn F)) (nodeIn B N i) s)
   unfolding dagOf node-wf
   formed-as s e =
-      let z : Sized (length (problemAt B N .bits)) (problemAt B N .side) (widthsIn F) i (nodeIn B N i) =
-      subst (λ (ws : List ℕ). Sized (length (problemAt B N .bits)) (problemAt B N .side) ws i (nodeIn B N i)) (sym (ready .widths))
-      (sized (length (problemAt B N .bits)) (problemAt B N .side) (nodesOf (problemAt B N .nodes)) i (rw (ready .widths) at here)) in
-      subst (λ (x : Shape). T (wfAs (length (problemAt B N .bits)) (problemAt B N .side) (take i (widthsIn F)) (nodeIn B N i) x)) e (z .wf)
+      let z : Sized (length (problemAt B N .bits)) (arrayWidths (problemAt B N)) (problemAt B N .side) (widthsIn F) i (nodeIn B N i) =
+      subst (λ (ws : List ℕ). Sized (length (problemAt B N .bits)) (arrayWidths (problemAt B N)) (problemAt B N .side) ws i (nodeIn B N i)) (sym (ready .widths))
+      (sized (length (problemAt B N .bits)) (arrayWidths (problemAt B N)) (problemAt B N .side) (nodesOf (problemAt B N .nodes)) i (rw (ready .widths) at here)) in
+      subst (λ (x : Shape). T (wfAs (length (problemAt B N .bits)) (arrayWidths (problemAt B N)) (problemAt B N .side) (take i (widthsIn F)) (nodeIn B N i) x)) e (z .wf)
 
   pub passed-as : {s : Shape} → shape (nodeIn B N i) ≡ s → Taken B N F i s
   unfolding asked dagOf

@@ -200,15 +200,15 @@ module _ (B N F : List Slice) (Y : List ℕ) (ready : Ready B N F Y) (i : ℕ) w
 
   -- the operands of its form, with a name or without, are not refused either
   module _ (fine : Fine B N F i) where
-    node-facts : Facts (length (problemAt B N .bits)) (dagAt B N .side) (widthsIn F) i (getD (dagAt B N .nodes) i no-node)
-    node-facts = rw (ready .widths) (facts (length (problemAt B N .bits)) (dagAt B N .side) (dagAt B N .nodes) i (rw (ready .widths) at (fine .here)))
+    node-facts : Facts (length (problemAt B N .bits)) (dagAt B N .array-widths) (dagAt B N .side) (widthsIn F) i (getD (dagAt B N .nodes) i no-node)
+    node-facts = rw (ready .widths) (facts (length (problemAt B N .bits)) (dagAt B N .array-widths) (dagAt B N .side) (dagAt B N .nodes) i (rw (ready .widths) at (fine .here)))
 
     own-under : OverForm (Under B N F i) (dagAt B N .side) (formAs (getD (dagAt B N .nodes) i no-node) (shape (getD (dagAt B N .nodes) i no-node)))
     own-under =
         let m : Node = getD (dagAt B N .nodes) i no-node in
         let h = fine .here in
         over-form (Under B N F i) (dagAt B N .side) (formAs m (shape m))
-        (form-inside (widthsIn F) i (length (problemAt B N .bits)) (dagAt B N .side) m (shape m) (node-facts .form))
+        (form-inside (widthsIn F) i (length (problemAt B N .bits)) (dagAt B N .array-widths) (dagAt B N .side) m (shape m) (node-facts .form))
         (each-of (Passes (dagAt B N) (widthsIn F) i) (λ (o : Operand). Under B N F i (o .node))
         (λ o p. record { below = p .low; fine = record { here = omega (arith, p .low); free = p .passed } })
         (formOperands (dagAt B N .side) (formAs m (shape m)))

@@ -9,7 +9,7 @@ use lib.ListN.{length, getD, take}
 use Rattle.lists.specs.Tests.{every}
 use Rattle.lists.specs.Bytes.{bytes}
 use Rattle.echo_spec.specs.Shapes.{Shape}
-use Rattle.echo_spec.specs.Input.{Node, shape, no-node, nodesOf}
+use Rattle.echo_spec.specs.Input.{arrayWidths, Node, shape, no-node, nodesOf}
 use Rattle.echo_spec.specs.Widths.{wfAs, ext-wf}
 use Rattle.echo_spec.specs.Tables.{find-node}
 use Rattle.echo_spec.specs.Walk.{askedAs, asked}
@@ -53,7 +53,7 @@ textAt B N F = textIn (styleAt B N F)
 -- ---------------------------------------------------------------- what was made ready before the walk
 
 pub record Ready (B N F : List Slice) (Y : List ℕ) : Type 0 where
-  pub widths : widthsIn F ≡ ext-wf (length (problemAt B N .bits)) (dagAt B N .side) (dagAt B N .nodes)
+  pub widths : widthsIn F ≡ ext-wf (length (problemAt B N .bits)) (dagAt B N .array-widths) (dagAt B N .side) (dagAt B N .nodes)
   pub counted : length (widthsIn F) ≡ length (dagAt B N .nodes)
   pub entries : length (problemAt B N .side) ≤ 8192
   pub binary : T (every (λ b. leb b 1) (problemAt B N .bits))
@@ -86,7 +86,7 @@ headAt B N F i s = headAs (dagAt B N) (widthsIn F) (problemAt B N .bits) i (node
 pub record Taken (B N F : List Slice) (i : ℕ) (s : Shape) : Type 0 where
   pub here : i < length (widthsIn F)
   pub shaped : shape (nodeIn B N i) ≡ s
-  pub formed : T (wfAs (length (problemAt B N .bits)) (problemAt B N .side) (take i (widthsIn F)) (nodeIn B N i) s)
+  pub formed : T (wfAs (length (problemAt B N .bits)) (arrayWidths (problemAt B N)) (problemAt B N .side) (take i (widthsIn F)) (nodeIn B N i) s)
   pub taken : askedAs (dagAt B N) (widthsIn F) i (nodeIn B N i) s ≡ 0
 
 -- node i is a constant whose bits lie inside the bits

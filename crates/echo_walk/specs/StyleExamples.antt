@@ -6,7 +6,7 @@ use lib.ListN.{getD}
 use Rattle.lists.specs.Bytes.{bytes}
 use Rattle.lists.specs.Build.{upto, findFrom}
 use Rattle.echo_spec.specs.Shapes.{shapes}
-use Rattle.echo_spec.specs.Input.{Node, Dag, part, namesOf}
+use Rattle.echo_spec.specs.Input.{arrayColumns, Node, Dag, part, namesOf}
 use Rattle.echo_spec.specs.Tables.{find-node}
 use Rattle.echo_spec.specs.Trees.{constantBits, variableName}
 use Rattle.echo_spec.specs.Render.{symbols, symbolOf, decimal, decimalDigits, binaryDigits, quoted}
@@ -30,6 +30,7 @@ m2 = record {
   anames = [];
   aname-start = [];
   aname-len = [];
+  array-widths = arrayColumns [] [];
   fnames = [];
   fname-start = [];
   fname-len = [];

@@ -30,10 +30,10 @@ use Rattle.input_parts.specs.Asking.{Answers}
 size-known : ℕ → Bool
 size-known k = eqb (sizeOf k) 1 || eqb (sizeOf k) 8
 
-module _ (k : ℕ) (h : k < 16) where
+module _ (k : ℕ) (h : k < 18) where
   size-tested : T (size-known k)
   unfolding sizes sizeOf size-known
-  size-tested = every-at size-known 0 16 tt k (omega arith) h
+  size-tested = every-at size-known 0 18 tt k (omega arith) h
 
   pub span-of-8 : (n : ℕ) → sizeOf k ≡ 8 → 8 * n ≡ sizeOf k * n
   span-of-8 n e = ap (λ (z : ℕ). z * n) (sym e)
@@ -99,18 +99,19 @@ module _ {s starts counts : List ℕ} {k : ℕ} (h : Lies s starts counts k) whe
 -- ---------------------------------------------------------------- all inputs
 
 -- the parts and the fronts of the columns are the problem's inputs
-module _ {s starts counts side roots ns nl vn vw an al fn fl fw : List ℕ} {b0 b1 t2 t3 b4 t5 t6 t7 t8 b9 t10 t11 b12 t13 t14 t15 : List ℕ}
+module _ {s starts counts side roots ns nl vn vw an al iw lw fn fl fw : List ℕ} {b0 b1 t2 t3 b4 t5 t6 t7 t8 b9 t10 t11 t12 t13 b14 t15 t16 t17 : List ℕ}
     (e0 : b0 ≡ bytesPart s starts counts 0) (e1 : b1 ≡ bytesPart s starts counts 1) (e2 : t2 ≡ take (getD counts 2 0) side) (e3 : t3 ≡ take (getD counts 3 0) roots)
     (e4 : b4 ≡ bytesPart s starts counts 4) (e5 : t5 ≡ take (getD counts 5 0) ns) (e6 : t6 ≡ take (getD counts 6 0) nl) (e7 : t7 ≡ take (getD counts 7 0) vn)
-    (e8 : t8 ≡ take (getD counts 8 0) vw) (e9 : b9 ≡ bytesPart s starts counts 9) (e10 : t10 ≡ take (getD counts 10 0) an)
-    (e11 : t11 ≡ take (getD counts 11 0) al) (e12 : b12 ≡ bytesPart s starts counts 12) (e13 : t13 ≡ take (getD counts 13 0) fn)
-    (e14 : t14 ≡ take (getD counts 14 0) fl) (e15 : t15 ≡ take (getD counts 15 0) fw) (h : Columns s starts counts side roots ns nl vn vw an al fn fl fw) where
-  pub parts-are : problemOf b0 b1 t2 t3 b4 t5 t6 t7 t8 b9 t10 t11 b12 t13 t14 t15 ≡ problemFrom s starts counts
+    (e8 : t8 ≡ take (getD counts 8 0) vw) (e9 : b9 ≡ bytesPart s starts counts 9) (e10 : t10 ≡ take (getD counts 10 0) an) (e11 : t11 ≡ take (getD counts 11 0) al)
+    (e12 : t12 ≡ take (getD counts 12 0) iw) (e13 : t13 ≡ take (getD counts 13 0) lw) (e14 : b14 ≡ bytesPart s starts counts 14) (e15 : t15 ≡ take (getD counts 15 0) fn)
+    (e16 : t16 ≡ take (getD counts 16 0) fl) (e17 : t17 ≡ take (getD counts 17 0) fw)
+    (h : Columns s starts counts side roots ns nl vn vw an al iw lw fn fl fw) where
+  pub parts-are : problemOf b0 b1 t2 t3 b4 t5 t6 t7 t8 b9 t10 t11 t12 t13 b14 t15 t16 t17 ≡ problemFrom s starts counts
   unfolding problemFrom
   parts-are i =
-      problemOf (e0 i) (e1 i) ((e2 ∙ h .c2 .front) i) ((e3 ∙ h .c3 .front) i) (e4 i) ((e5 ∙ h .c5 .front) i) ((e6 ∙ h .c6 .front) i) ((e7 ∙ h .c7 .front) i)
-      ((e8 ∙ h .c8 .front) i) (e9 i) ((e10 ∙ h .c10 .front) i) ((e11 ∙ h .c11 .front) i) (e12 i) ((e13 ∙ h .c13 .front) i) ((e14 ∙ h .c14 .front) i)
-      ((e15 ∙ h .c15 .front) i)
+      problemOf (e0 i) (e1 i) ((e2 ∙ h .c2 .front) i) ((e3 ∙ h .c3 .front) i) (e4 i) ((e5 ∙ h .c5 .front) i) ((e6 ∙ h .c6 .front) i)
+      ((e7 ∙ h .c7 .front) i) ((e8 ∙ h .c8 .front) i) (e9 i) ((e10 ∙ h .c10 .front) i) ((e11 ∙ h .c11 .front) i) ((e12 ∙ h .c12 .front) i) ((e13 ∙ h .c13 .front) i)
+      (e14 i) ((e15 ∙ h .c15 .front) i) ((e16 ∙ h .c16 .front) i) ((e17 ∙ h .c17 .front) i)
 
 -- what was asked for is told
 module _ (r : Told) (lent out : List ℕ) {asked : Asked} {q p : Problem} where

@@ -1,4 +1,4 @@
-// The printer's sixteen inputs as parts of one byte string, by the number of the input, from 0: where the elements of each begin and how
+// The printer's eighteen inputs as parts of one byte string, by the number of the input, from 0: where the elements of each begin and how
 // many there are. Who has a problem in bytes finds the places, and this calls the printer, or asks for the size, with what lies there.
 // Under "Ruled out" stand wrong programs that a public function's contract refuses.
 use echo_kernel::Echo;
@@ -27,14 +27,14 @@ pub fn word64(s: &[u8], i: usize) -> u64
 }
 
 // How many inputs there are.
-pub const INPUTS: usize = 16;
+pub const INPUTS: usize = 18;
 
 // The bytes of one element of each.
-const SIZES: [u8; INPUTS] = [1, 1, 8, 8, 1, 8, 8, 8, 8, 1, 8, 8, 1, 8, 8, 8];
+const SIZES: [u8; INPUTS] = [1, 1, 8, 8, 1, 8, 8, 8, 8, 1, 8, 8, 8, 8, 1, 8, 8, 8];
 
 // The bytes of n elements of input k. Ruled out: as many bytes as numbers; eight bytes for one of the names.
 pub fn span(k: usize, n: usize) -> usize
-    requires { ⌜ (k < 16) × (n < 4294967296) ⌝ }
+    requires { ⌜ (k < 18) × (n < 4294967296) ⌝ }
     ensures { λ r. ⌜ (r ≡ parts.sizeOf k * n) × (r ≤ 8 * n) ⌝ }
 {
     if SIZES[k] == 8 { 8 * n } else { n }
@@ -60,6 +60,8 @@ const ROOMS: [usize; INPUTS] = [
     4294967295,
     ENTRIES,
     ENTRIES,
+    ENTRIES,
+    ENTRIES,
     4294967295,
     ENTRIES,
     ENTRIES,
@@ -68,7 +70,7 @@ const ROOMS: [usize; INPUTS] = [
 
 // How many elements of input k there is room for. Ruled out: the limit itself, of numbers; the room of the input before it.
 pub fn room(k: usize) -> usize
-    requires { ⌜ k < 16 ⌝ }
+    requires { ⌜ k < 18 ⌝ }
     ensures { λ r. ⌜ r ≡ parts.roomOf k ⌝ }
 {
     ROOMS[k]
@@ -83,7 +85,7 @@ pub fn bytes_of<'a>(
     counts: &[usize; INPUTS],
     k: usize,
 ) -> &'a [u8]
-    requires { ⌜ (k < 16) × (parts.sizeOf k ≡ 1) × Lies (now s) (now starts) (now counts) k ⌝ }
+    requires { ⌜ (k < 18) × (parts.sizeOf k ≡ 1) × Lies (now s) (now starts) (now counts) k ⌝ }
     ensures { λ r. ⌜ now r ≡ parts.bytesPart (now (s .entry)) (now (starts .entry)) (now (counts .entry)) k ⌝ }
 {
     let start = starts[k];
@@ -100,7 +102,7 @@ pub fn put(
     k: usize,
     column: &mut [u64],
 )
-    requires { ⌜ (k < 16) × (parts.sizeOf k ≡ 8) × Lies (now s) (now starts) (now counts) k × (parts.roomOf k ≤ length (now column)) ⌝ }
+    requires { ⌜ (k < 18) × (parts.sizeOf k ≡ 8) × Lies (now s) (now starts) (now counts) k × (parts.roomOf k ≤ length (now column)) ⌝ }
     ensures { λ _. ⌜ now (column .exit) ≡ atFront (parts.numbersPart (now (s .entry)) (now (starts .entry)) (now (counts .entry)) k) (now (column .entry)) ⌝ }
 {
     let start = starts[k];
@@ -114,7 +116,7 @@ pub fn put(
 
 // As much of a column as input k has. Ruled out: the whole column; as much as the next input has.
 pub fn taken<'a>(counts: &[usize; INPUTS], k: usize, column: &'a [u64]) -> &'a [u64]
-    requires { ⌜ (k < 16) × (getD (now counts) k 0 ≤ length (now column)) ⌝ }
+    requires { ⌜ (k < 18) × (getD (now counts) k 0 ≤ length (now column)) ⌝ }
     ensures { λ r. ⌜ now r ≡ take (getD (now (counts .entry)) k 0) (now (column .entry)) ⌝ }
 {
     let n = counts[k];
@@ -148,13 +150,15 @@ fn tell<'a>(
     var_width: &'a [u64],
     aname_start: &'a [u64],
     aname_len: &'a [u64],
+    index_width: &'a [u64],
+    value_width: &'a [u64],
     fname_start: &'a [u64],
     fname_len: &'a [u64],
     func_width: &'a [u64],
     asked: Asked,
     out: &mut [u8],
 ) -> Told
-    requires { ⌜ Inside (now s) (now starts) (now counts) × Columns (now s) (now starts) (now counts) (now side) (now roots) (now «name_start») (now «name_len») (now «var_node») (now «var_width») (now «aname_start») (now «aname_len») (now «fname_start») (now «fname_len») (now «func_width») ⌝ }
+    requires { ⌜ Inside (now s) (now starts) (now counts) × Columns (now s) (now starts) (now counts) (now side) (now roots) (now «name_start») (now «name_len») (now «var_node») (now «var_width») (now «aname_start») (now «aname_len») (now «index_width») (now «value_width») (now «fname_start») (now «fname_len») (now «func_width») ⌝ }
     ensures { λ r. ⌜ Answers asked r (parts.problemFrom (now (s .entry)) (now (starts .entry)) (now (counts .entry))) (now (out .entry)) (now (out .exit)) ⌝ }
 {
     let nodes = bytes_of(s, starts, counts, 0);
@@ -169,10 +173,12 @@ fn tell<'a>(
     let anames = bytes_of(s, starts, counts, 9);
     let ans = taken(counts, 10, aname_start);
     let anl = taken(counts, 11, aname_len);
-    let fnames = bytes_of(s, starts, counts, 12);
-    let fns = taken(counts, 13, fname_start);
-    let fnl = taken(counts, 14, fname_len);
-    let fw = taken(counts, 15, func_width);
+    let iw = taken(counts, 12, index_width);
+    let vws = taken(counts, 13, value_width);
+    let fnames = bytes_of(s, starts, counts, 14);
+    let fns = taken(counts, 15, fname_start);
+    let fnl = taken(counts, 16, fname_len);
+    let fw = taken(counts, 17, func_width);
     match asked {
         Asked::Print => Told {
             echo: echo_kernel::echo_ext(
@@ -188,6 +194,8 @@ fn tell<'a>(
                 anames,
                 ans,
                 anl,
+                iw,
+                vws,
                 fnames,
                 fns,
                 fnl,
@@ -211,6 +219,8 @@ fn tell<'a>(
                 anames,
                 ans,
                 anl,
+                iw,
+                vws,
                 fnames,
                 fns,
                 fnl,
@@ -220,7 +230,7 @@ fn tell<'a>(
     }
 }
 
-// With side entries and roots, and then the nine other columns.
+// With side entries and roots, and then the eleven other columns.
 fn with_columns<'a>(
     s: &'a [u8],
     starts: &[usize; INPUTS],
@@ -239,6 +249,8 @@ fn with_columns<'a>(
     let mut var_width = [0u64; ENTRIES];
     let mut aname_start = [0u64; ENTRIES];
     let mut aname_len = [0u64; ENTRIES];
+    let mut index_width = [0u64; ENTRIES];
+    let mut value_width = [0u64; ENTRIES];
     let mut fname_start = [0u64; ENTRIES];
     let mut fname_len = [0u64; ENTRIES];
     let mut func_width = [0u64; ENTRIES];
@@ -248,9 +260,11 @@ fn with_columns<'a>(
     put(s, starts, counts, 8, &mut var_width);
     put(s, starts, counts, 10, &mut aname_start);
     put(s, starts, counts, 11, &mut aname_len);
-    put(s, starts, counts, 13, &mut fname_start);
-    put(s, starts, counts, 14, &mut fname_len);
-    put(s, starts, counts, 15, &mut func_width);
+    put(s, starts, counts, 12, &mut index_width);
+    put(s, starts, counts, 13, &mut value_width);
+    put(s, starts, counts, 15, &mut fname_start);
+    put(s, starts, counts, 16, &mut fname_len);
+    put(s, starts, counts, 17, &mut func_width);
     tell(
         s,
         starts,
@@ -263,6 +277,8 @@ fn with_columns<'a>(
         &var_width,
         &aname_start,
         &aname_len,
+        &index_width,
+        &value_width,
         &fname_start,
         &fname_len,
         &func_width,

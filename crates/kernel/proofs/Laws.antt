@@ -28,7 +28,7 @@ use Rattle.echo_spec.specs.Shapes.{
 use Rattle.echo_spec.specs.Input.{Node, shape, largest, fits64}
 use Rattle.echo_spec.specs.Widths.{wfAs, widthAs, widthAt, earlier, un-wf, extend-wf}
 use Rattle.blast_kernel.specs.Codes.{codeOf, shapeCoded, in-arm, NoneOf, none-of}
-use Rattle.kernel.specs.Closed.{closed, closed-wf, closed-width, CoreFormed}
+use Rattle.kernel.specs.Closed.{closed, noArrays, closed-wf, closed-width, CoreFormed}
 
 -- two tests that say the same
 leb-same : (a b c d : ℕ) → (a ≤ b → c ≤ d) → (c ≤ d → a ≤ b) → leb a b ≡ leb c d
@@ -64,23 +64,23 @@ closed-past unknown h = refl
 
 -- r is the code of the node's shape, and the match is on r
 module _ (ws : List ℕ) (n : Node) {r : ℕ} (e : r ≡ codeOf (shape n)) where
-  pub wf-arm : (nbits k : ℕ) {b : Bool} → r ≡ k → b ≡ wfAs nbits [] ws n (closed (shapeCoded k)) → b ≡ closed-wf nbits ws n
-  wf-arm nbits k f g = g ∙ ap (λ (s : Shape). wfAs nbits [] ws n (closed s)) (sym (in-arm (shape n) e f))
+  pub wf-arm : (nbits k : ℕ) {b : Bool} → r ≡ k → b ≡ wfAs nbits noArrays [] ws n (closed (shapeCoded k)) → b ≡ closed-wf nbits ws n
+  wf-arm nbits k f g = g ∙ ap (λ (s : Shape). wfAs nbits noArrays [] ws n (closed s)) (sym (in-arm (shape n) e f))
 
   pub wf-past : (nbits : ℕ) → NoneOf 12 r → false ≡ closed-wf nbits ws n
   unfolding wfAs
-  wf-past nbits t = ap (wfAs nbits [] ws n) (sym (closed-past (shape n) (omega (arith, none-of 12 r t))))
+  wf-past nbits t = ap (wfAs nbits noArrays [] ws n) (sym (closed-past (shape n) (omega (arith, none-of 12 r t))))
 
-  pub width-arm : (k : ℕ) {w : ℕ} → r ≡ k → w ≡ widthAs ws n (closed (shapeCoded k)) → w ≡ closed-width ws n
-  width-arm k f g = g ∙ ap (λ (s : Shape). widthAs ws n (closed s)) (sym (in-arm (shape n) e f))
+  pub width-arm : (k : ℕ) {w : ℕ} → r ≡ k → w ≡ widthAs noArrays ws n (closed (shapeCoded k)) → w ≡ closed-width ws n
+  width-arm k f g = g ∙ ap (λ (s : Shape). widthAs noArrays ws n (closed s)) (sym (in-arm (shape n) e f))
 
   pub width-past : NoneOf 12 r → 0 ≡ closed-width ws n
   unfolding widthAs
-  width-past t = ap (widthAs ws n) (sym (closed-past (shape n) (omega (arith, none-of 12 r t))))
+  width-past t = ap (widthAs noArrays ws n) (sym (closed-past (shape n) (omega (arith, none-of 12 r t))))
 
   -- what was accepted, in the arm k
-  formed-arm : (k : ℕ) (h : CoreFormed ws n) → r ≡ k → wfAs (h .nbits) [] ws n (closed (shapeCoded k)) ≡ true
-  formed-arm k h f = ap (λ (s : Shape). wfAs (h .nbits) [] ws n (closed s)) (sym (in-arm (shape n) e f)) ∙ h .accepted
+  formed-arm : (k : ℕ) (h : CoreFormed ws n) → r ≡ k → wfAs (h .nbits) noArrays [] ws n (closed (shapeCoded k)) ≡ true
+  formed-arm k h f = ap (λ (s : Shape). wfAs (h .nbits) noArrays [] ws n (closed s)) (sym (in-arm (shape n) e f)) ∙ h .accepted
 
   -- the difference of an extraction is not below 0
   pub extraction-room : CoreFormed ws n → r ≡ 4 → (n .b ≤ n .a) × (n .a < widthAt ws (n .c))

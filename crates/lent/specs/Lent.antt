@@ -33,10 +33,12 @@ problemAt b n = record {
   anames = slot b 3;
   aname-start = slot n 6;
   aname-len = slot n 7;
+  index-width = slot n 8;
+  value-width = slot n 9;
   fnames = slot b 4;
-  fname-start = slot n 8;
-  fname-len = slot n 9;
-  func-width = slot n 10;
+  fname-start = slot n 10;
+  fname-len = slot n 11;
+  func-width = slot n 12;
 }
 
 abbrev pub dagAt : List Slice → List Slice → Dag
@@ -45,8 +47,8 @@ dagAt b n = dagOf (problemAt b n)
 -- of the lists in the order in which an entry point takes them
 abbrev pub problemOf : List ℕ → List ℕ → List ℕ → List ℕ → List ℕ → List ℕ → List ℕ → List ℕ
     → List ℕ → List ℕ → List ℕ → List ℕ → List ℕ → List ℕ
-    → List ℕ → List ℕ → Problem
-problemOf nodes bits side roots names ns nl vn vw anames an al fnames fn fl fw = record {
+    → List ℕ → List ℕ → List ℕ → List ℕ → Problem
+problemOf nodes bits side roots names ns nl vn vw anames an al ai av fnames fn fl fw = record {
   nodes = nodes;
   bits = bits;
   side = side;
@@ -59,6 +61,8 @@ problemOf nodes bits side roots names ns nl vn vw anames an al fnames fn fl fw =
   anames = anames;
   aname-start = an;
   aname-len = al;
+  index-width = ai;
+  value-width = av;
   fnames = fnames;
   fname-start = fn;
   fname-len = fl;
@@ -66,8 +70,8 @@ problemOf nodes bits side roots names ns nl vn vw anames an al fnames fn fl fw =
 }
 
 -- the arrays that an entry point makes hold the problem of its lists
-pub same-problem : (nodes bits names anames fnames side roots ns nl vn vw an al fn fl fw : Slice)
-    → problemAt (nodes ∷ bits ∷ names ∷ anames ∷ fnames ∷ []) (side ∷ roots ∷ ns ∷ nl ∷ vn ∷ vw ∷ an ∷ al ∷ fn ∷ fl ∷ fw ∷ [])
-    ≡ problemOf (nodes .now) (bits .now) (side .now) (roots .now) (names .now) (ns .now) (nl .now) (vn .now) (vw .now) (anames .now) (an .now) (al .now) (fnames .now)
+pub same-problem : (nodes bits names anames fnames side roots ns nl vn vw an al ai av fn fl fw : Slice)
+    → problemAt (nodes ∷ bits ∷ names ∷ anames ∷ fnames ∷ []) (side ∷ roots ∷ ns ∷ nl ∷ vn ∷ vw ∷ an ∷ al ∷ ai ∷ av ∷ fn ∷ fl ∷ fw ∷ [])
+    ≡ problemOf (nodes .now) (bits .now) (side .now) (roots .now) (names .now) (ns .now) (nl .now) (vn .now) (vw .now) (anames .now) (an .now) (al .now) (ai .now) (av .now) (fnames .now)
     (fn .now) (fl .now) (fw .now)
-same-problem nodes bits names anames fnames side roots ns nl vn vw an al fn fl fw = refl
+same-problem nodes bits names anames fnames side roots ns nl vn vw an al ai av fn fl fw = refl

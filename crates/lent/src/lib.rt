@@ -41,13 +41,17 @@ pub const ANAME_START: usize = 6;
 
 pub const ANAME_LEN: usize = 7;
 
-pub const FNAME_START: usize = 8;
+pub const INDEX_WIDTH: usize = 8;
 
-pub const FNAME_LEN: usize = 9;
+pub const VALUE_WIDTH: usize = 9;
 
-pub const FUNC_WIDTH: usize = 10;
+pub const FNAME_START: usize = 10;
 
-pub const NUMBERS: usize = 11;
+pub const FNAME_LEN: usize = 11;
+
+pub const FUNC_WIDTH: usize = 12;
+
+pub const NUMBERS: usize = 13;
 
 // ---------------------------------------------------------------- numbers
 

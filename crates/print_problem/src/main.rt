@@ -3,9 +3,9 @@
 use libc::STDIN_FILENO;
 use libc::STDOUT_FILENO;
 
-// One byte more than the longest problem within the limits, which has 16 counts and 319,488 bytes of elements. These bytes decide:
+// One byte more than the longest problem within the limits, which has 18 counts and 327,680 bytes of elements. These bytes decide:
 // what follows them is left over, or stands behind the first fault (`layout-front` in problem_layout's specs/LayoutLaws.antt).
-const INPUT: usize = 319617;
+const INPUT: usize = 327825;
 
 // The room for the script; a longer one is refused with 10.
 const ROOM: usize = 2097152;

@@ -10,8 +10,8 @@ use lib.ListN.{length, take, drop, getD}
 use Rattle.lists.specs.Bytes.{bytes}
 use Rattle.lists.specs.Tests.{same, same→eq, every-at, and-0, and-1}
 use Rattle.refusals.specs.declared.EchoError.{EchoError}
-use Rattle.refusals.specs.declared.EchoError.the-variants.{Malformed, Name, Sort, Var, Rotate, Shared, Signature, Encoding, Limit, Room}
-use Rattle.refusals.specs.Numbers.{errorNumber, errorOf, error-number, error-small, error-at}
+use Rattle.refusals.specs.declared.EchoError.the-variants.{Malformed, Name, Sort, Var, Rotate, Shared, Signature, Encoding, Limit, Room, ArrayWidth}
+use Rattle.refusals.specs.Numbers.{errorNumber}
 use Rattle.problem_layout.specs.Layout.{inputs, inputAt}
 use Rattle.problem_layout.specs.Lines.{refusedLine}
 
@@ -54,20 +54,28 @@ refusals =
     ++ (refusedLine Name
     ++ (refusedLine Sort
     ++ (refusedLine Var
-    ++ (refusedLine Rotate ++ (refusedLine Shared ++ (refusedLine Signature ++ (refusedLine Encoding ++ (refusedLine Limit ++ refusedLine Room))))))))
+    ++ (refusedLine Rotate
+    ++ (refusedLine Shared ++ (refusedLine Signature ++ (refusedLine Encoding ++ (refusedLine Limit ++ (refusedLine Room ++ refusedLine ArrayWidth)))))))))
 
 abbrev pub refusal-ends : List ℕ
-refusal-ends = 0 ∷ 0 ∷ 132 ∷ 270 ∷ 363 ∷ 447 ∷ 530 ∷ 589 ∷ 703 ∷ 831 ∷ 876 ∷ 977 ∷ []
+refusal-ends = 0 ∷ 0 ∷ 132 ∷ 270 ∷ 363 ∷ 447 ∷ 530 ∷ 589 ∷ 703 ∷ 831 ∷ 876 ∷ 977 ∷ 977 ∷ 1047 ∷ []
 
-refusal-tested : (k : ℕ) → 0 < k → k ≤ 10 → T (pieces refusals refusal-ends (λ j. refusedLine (errorOf j)) k)
+refusal-tested : (e : EchoError) → T (pieces refusals refusal-ends (λ j. refusedLine e) (errorNumber e))
 unfolding bytes same refusedLine
-refusal-tested k l h = every-at (pieces refusals refusal-ends (λ j. refusedLine (errorOf j))) 1 10 tt k l (omega arith)
+refusal-tested Malformed = tt
+refusal-tested Name = tt
+refusal-tested Sort = tt
+refusal-tested Var = tt
+refusal-tested Rotate = tt
+refusal-tested Shared = tt
+refusal-tested Signature = tt
+refusal-tested Encoding = tt
+refusal-tested Limit = tt
+refusal-tested Room = tt
+refusal-tested ArrayWidth = tt
 
 pub refusal-piece : {k : ℕ} (e : EchoError) → k ≡ errorNumber e → Piece refusals refusal-ends k (refusedLine e)
-refusal-piece {k} e h =
-    let q : errorOf k ≡ e = ap errorOf h ∙ error-at e in
-    let t : T (pieces refusals refusal-ends (λ j. refusedLine (errorOf j)) k) = refusal-tested k (omega (arith, error-number e)) (omega (arith, error-small e)) in
-    rw q at (piece-of refusals refusal-ends (λ j. refusedLine (errorOf j)) k t)
+refusal-piece {k} e h = rw h (piece-of refusals refusal-ends (λ j. refusedLine e) (errorNumber e) (refusal-tested e))
 
 -- ---------------------------------------------------------------- the names
 
@@ -79,14 +87,15 @@ abbrev pub names : List ℕ
 names =
     joined
     (inputAt 0 .name ∷ inputAt 1 .name ∷ inputAt 2 .name ∷ inputAt 3 .name ∷ inputAt 4 .name ∷ inputAt 5 .name ∷ inputAt 6 .name ∷ inputAt 7 .name
-    ∷ inputAt 8 .name ∷ inputAt 9 .name ∷ inputAt 10 .name ∷ inputAt 11 .name ∷ inputAt 12 .name ∷ inputAt 13 .name ∷ inputAt 14 .name ∷ inputAt 15 .name ∷ [])
+    ∷ inputAt 8 .name ∷ inputAt 9 .name ∷ inputAt 10 .name ∷ inputAt 11 .name ∷ inputAt 12 .name ∷ inputAt 13 .name ∷ inputAt 14 .name ∷ inputAt 15 .name
+    ∷ inputAt 16 .name ∷ inputAt 17 .name ∷ [])
 
 abbrev pub name-ends : List ℕ
-name-ends = 0 ∷ 5 ∷ 9 ∷ 13 ∷ 18 ∷ 23 ∷ 33 ∷ 41 ∷ 49 ∷ 58 ∷ 64 ∷ 75 ∷ 84 ∷ 90 ∷ 101 ∷ 110 ∷ 120 ∷ []
+name-ends = 0 ∷ 5 ∷ 9 ∷ 13 ∷ 18 ∷ 23 ∷ 33 ∷ 41 ∷ 49 ∷ 58 ∷ 64 ∷ 75 ∷ 84 ∷ 95 ∷ 106 ∷ 112 ∷ 123 ∷ 132 ∷ 142 ∷ []
 
-name-tested : (k : ℕ) → k < 16 → T (pieces names name-ends (λ j. inputAt j .name) k)
+name-tested : (k : ℕ) → k < 18 → T (pieces names name-ends (λ j. inputAt j .name) k)
 unfolding bytes same inputs inputAt
-name-tested k h = every-at (pieces names name-ends (λ j. inputAt j .name)) 0 16 tt k (omega arith) h
+name-tested k h = every-at (pieces names name-ends (λ j. inputAt j .name)) 0 18 tt k (omega arith) h
 
-pub name-piece : (k : ℕ) → k < 16 → Piece names name-ends k (inputAt k .name)
+pub name-piece : (k : ℕ) → k < 18 → Piece names name-ends k (inputAt k .name)
 name-piece k h = piece-of names name-ends (λ j. inputAt j .name) k (name-tested k h)

@@ -58,7 +58,7 @@ answers-by lent e a b k =
 shaped-as : {s starts counts : List ℕ} {r v : Shape} → Shaped s r starts counts → r ≡ v → Shaped s v starts counts
 shaped-as {s} {starts} {counts} h e = subst (λ (x : Shape). Shaped s x starts counts) e h
 
-pub whole-read : {s starts counts : List ℕ} {r : Shape} → Shaped s r starts counts → r ≡ shape.Whole → Read s starts counts 16
+pub whole-read : {s starts counts : List ℕ} {r : Shape} → Shaped s r starts counts → r ≡ shape.Whole → Read s starts counts 18
 whole-read h e = shaped-as h e .read
 
 module _ (lent : List ℕ) {s starts counts : List ℕ} {r : Shape} (h : Shaped s r starts counts) where

@@ -23,21 +23,21 @@ use Rattle.problem_layout.proofs.Tables.{limit-room}
 pub record Upto (s starts counts : List ℕ) (at k : ℕ) : Type 0 where
   pub place : at ≡ placeOf s k
   pub inside : at ≤ length s
-  pub few : k ≤ 16
-  pub tables : (length starts ≡ 16) × (length counts ≡ 16)
+  pub few : k ≤ 18
+  pub tables : (length starts ≡ 18) × (length counts ≡ 18)
   pub read : Read s starts counts k
-  pub rest : layout s ≡ inputsFrom s k (16 - k)
+  pub rest : layout s ≡ inputsFrom s k (18 - k)
 
-pub upto-start : (s : List ℕ) {starts counts : List ℕ} → (length starts ≡ 16) × (length counts ≡ 16) → Upto s starts counts 0 0
+pub upto-start : (s : List ℕ) {starts counts : List ℕ} → (length starts ≡ 18) × (length counts ≡ 18) → Upto s starts counts 0 0
 unfolding placeOf layout
 upto-start s t = record { place = refl; inside = omega arith; few = omega arith; tables = t; read = λ j l. absurd (omega arith); rest = refl }
 
-module _ {s starts counts : List ℕ} {at k : ℕ} (h : Upto s starts counts at k) (l : k < 16) where
-  rest-one : layout s ≡ inputsFrom s k (suc (15 - k))
+module _ {s starts counts : List ℕ} {at k : ℕ} (h : Upto s starts counts at k) (l : k < 18) where
+  rest-one : layout s ≡ inputsFrom s k (suc (17 - k))
   rest-one = h .rest ∙ ap (inputsFrom s k) (omega arith)
 
   pub count-missing : length s - at < 8 → Shaped s (Early k) starts counts
-  count-missing a = record { same = rest-one ∙ no-count s k (15 - k) (omega (arith, h .place, h .inside)); read = l }
+  count-missing a = record { same = rest-one ∙ no-count s k (17 - k) (omega (arith, h .place, h .inside)); read = l }
 
   module _ {n : ℕ} (a : 8 ≤ length s - at) (e : n ≡ word64 s at) where
     there : placeOf s k + 8 ≤ length s
@@ -47,7 +47,7 @@ module _ {s starts counts : List ℕ} {at k : ℕ} (h : Upto s starts counts at 
     count-is = e ∙ ap (word64 s) (h .place)
 
     pub count-over : {most : ℕ} → most ≡ inputAt k .limit → most < n → Shaped s (TooLarge k) starts counts
-    count-over f b = record { same = rest-one ∙ over-limit s k (15 - k) there (omega (arith, f, b, count-is)); read = l }
+    count-over f b = record { same = rest-one ∙ over-limit s k (17 - k) there (omega (arith, f, b, count-is)); read = l }
 
     module _ {most m : ℕ} (f : most ≡ inputAt k .limit) (b : n ≤ most) (g : m ≡ sizeOf k * n) where
       within : countOf s k ≤ inputAt k .limit
@@ -59,7 +59,7 @@ module _ {s starts counts : List ℕ} {at k : ℕ} (h : Upto s starts counts at 
           next-place s k ∙ (λ i. sym (h .place) i + 8 + sym p i)
 
       pub elements-missing : length s - at - 8 < m → Shaped s (Early k) starts counts
-      elements-missing d = record { same = rest-one ∙ no-elements s k (15 - k) there within (omega (arith, next-is, h .inside)); read = l }
+      elements-missing d = record { same = rest-one ∙ no-elements s k (17 - k) there within (omega (arith, next-is, h .inside)); read = l }
 
       pub upto-next : m ≤ length s - at - 8 → Upto s (set starts k (at + 8)) (set counts k n) (at + (8 + m)) (k + 1)
       upto-next d =
@@ -69,13 +69,13 @@ module _ {s starts counts : List ℕ} {at k : ℕ} (h : Upto s starts counts at 
             few = omega arith;
             tables = (length-set starts k (at + 8) ∙ h .tables .0, length-set counts k n ∙ h .tables .1);
             read = λ j o. so-far j o (decLe k j);
-            rest = rest-one ∙ one-input s k (15 - k) there within inner ∙ (λ i. inputsFrom s (sym (add-one k) i) (fewer i));
+            rest = rest-one ∙ one-input s k (17 - k) there within inner ∙ (λ i. inputsFrom s (sym (add-one k) i) (fewer i));
           }
         where
           inner : placeOf s (suc k) ≤ length s
           inner = omega (arith, next-is, h .inside)
 
-          fewer : 15 - k ≡ 16 - (k + 1)
+          fewer : 17 - k ≡ 18 - (k + 1)
           fewer = omega arith
 
           own : Found s (set starts k (at + 8)) (set counts k n) k
@@ -101,8 +101,8 @@ module _ {s starts counts : List ℕ} {at k : ℕ} (h : Upto s starts counts at 
 
 -- ---------------------------------------------------------------- behind the last input
 
-module _ {s starts counts : List ℕ} {at k : ℕ} (h : Upto s starts counts at k) (l : 16 ≤ k) where
-  all : k ≡ 16
+module _ {s starts counts : List ℕ} {at k : ℕ} (h : Upto s starts counts at k) (l : 18 ≤ k) where
+  all : k ≡ 18
   all = omega (arith, h .few)
 
   at-end : layout s ≡ inputsFrom s k 0
@@ -123,8 +123,8 @@ module _ {s starts counts : List ℕ} {at k : ℕ} (h : Upto s starts counts at 
 -- ---------------------------------------------------------------- the parts
 
 -- what was read lies within the bytes and is the layout's problem
-module _ {s starts counts : List ℕ} (r : Read s starts counts 16) where
-  lies : (k : ℕ) (l : k < 16) → Lies s starts counts k
+module _ {s starts counts : List ℕ} (r : Read s starts counts 18) where
+  lies : (k : ℕ) (l : k < 18) → Lies s starts counts k
   lies k l =
       let f : Found s starts counts k = r k l in
       let p : sizeOf k * getD counts k 0 ≡ sizeOf k * countOf s k = ap (λ (z : ℕ). sizeOf k * z) (f .many) in
@@ -133,11 +133,11 @@ module _ {s starts counts : List ℕ} (r : Read s starts counts 16) where
   pub inside-read : Inside s starts counts
   inside-read k l = lies k l
 
-  bytes-same : (k : ℕ) → k < 16 → bytesPart s starts counts k ≡ bytesOf s k
+  bytes-same : (k : ℕ) → k < 18 → bytesPart s starts counts k ≡ bytesOf s k
   unfolding bytesOf
   bytes-same k l = λ i. bytesAt s (r k l .begins i) (r k l .many i)
 
-  numbers-same : (k : ℕ) → k < 16 → numbersPart s starts counts k ≡ numbersOf s k
+  numbers-same : (k : ℕ) → k < 18 → numbersPart s starts counts k ≡ numbersOf s k
   unfolding numbersOf
   numbers-same k l = λ i. numbersAt s (r k l .begins i) (r k l .many i)
 
@@ -146,5 +146,5 @@ module _ {s starts counts : List ℕ} (r : Read s starts counts 16) where
   problem-read = λ i.
       problemOf (bytes-same 0 (omega arith) i) (bytes-same 1 (omega arith) i) (numbers-same 2 (omega arith) i) (numbers-same 3 (omega arith) i)
       (bytes-same 4 (omega arith) i) (numbers-same 5 (omega arith) i) (numbers-same 6 (omega arith) i) (numbers-same 7 (omega arith) i) (numbers-same 8 (omega arith) i)
-      (bytes-same 9 (omega arith) i) (numbers-same 10 (omega arith) i) (numbers-same 11 (omega arith) i)
-      (bytes-same 12 (omega arith) i) (numbers-same 13 (omega arith) i) (numbers-same 14 (omega arith) i) (numbers-same 15 (omega arith) i)
+      (bytes-same 9 (omega arith) i) (numbers-same 10 (omega arith) i) (numbers-same 11 (omega arith) i) (numbers-same 12 (omega arith) i) (numbers-same 13 (omega arith) i)
+      (bytes-same 14 (omega arith) i) (numbers-same 15 (omega arith) i) (numbers-same 16 (omega arith) i) (numbers-same 17 (omega arith) i)

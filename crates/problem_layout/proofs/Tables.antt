@@ -11,7 +11,7 @@ use Rattle.input_parts.specs.Parts.{rooms, roomOf}
 use Rattle.problem_layout.specs.Layout.{inputs, inputAt}
 
 abbrev limits : List ℕ
-limits = 34816 ∷ 131072 ∷ 8192 ∷ 256 ∷ 16384 ∷ 512 ∷ 512 ∷ 512 ∷ 512 ∷ 16384 ∷ 512 ∷ 512 ∷ 16384 ∷ 512 ∷ 512 ∷ 512 ∷ []
+limits = 34816 ∷ 131072 ∷ 8192 ∷ 256 ∷ 16384 ∷ 512 ∷ 512 ∷ 512 ∷ 512 ∷ 16384 ∷ 512 ∷ 512 ∷ 512 ∷ 512 ∷ 16384 ∷ 512 ∷ 512 ∷ 512 ∷ []
 
 -- the tests: an entry is the definition's, no limit is over 131,072, and there is room for as many
 abbrev limit-is : ℕ → Bool
@@ -23,10 +23,10 @@ limit-small k = leb (getD limits k 0) 131072
 abbrev limit-roomy : ℕ → Bool
 limit-roomy k = leb (inputAt k .limit) (roomOf k)
 
-module _ (k : ℕ) (h : k < 16) where
+module _ (k : ℕ) (h : k < 18) where
   limit-tested : T (limit-is k && limit-small k)
   unfolding inputs inputAt
-  limit-tested = every-at (λ j. limit-is j && limit-small j) 0 16 tt k (omega arith) h
+  limit-tested = every-at (λ j. limit-is j && limit-small j) 0 18 tt k (omega arith) h
 
   pub limit-right : (getD limits k 0 ≡ inputAt k .limit) × (getD limits k 0 ≤ 131072)
   limit-right = (
@@ -39,7 +39,7 @@ module _ (k : ℕ) (h : k < 16) where
 
   roomy-tested : T (limit-roomy k)
   unfolding inputs inputAt rooms roomOf
-  roomy-tested = every-at limit-roomy 0 16 tt k (omega arith) h
+  roomy-tested = every-at limit-roomy 0 18 tt k (omega arith) h
 
   pub limit-room : inputAt k .limit ≤ roomOf k
   limit-room = leb→le (inputAt k .limit) (roomOf k) roomy-tested

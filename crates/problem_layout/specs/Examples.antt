@@ -12,16 +12,16 @@ use Rattle.problem_layout.specs.Layout.{early, tooLarge, leftOver, given
 abbrev number : ℕ → ℕ → List ℕ
 number low high = low ∷ high ∷ replicate 6 0
 
--- sixteen counts of 0 are the problem of nothing; a byte less, or one more; no byte at all
-all-empty : layout (replicate 128 0) ≡ given (problemOf [] [] [] [] [] [] [] [] [] [] [] [] [] [] [] [])
+-- eighteen counts of 0 are the problem of nothing; a byte less, or one more; no byte at all
+all-empty : layout (replicate 144 0) ≡ given (problemOf [] [] [] [] [] [] [] [] [] [] [] [] [] [] [] [] [] [])
 unfolding inputs inputAt sizes sizeOf word32 word64 placeOf bytesOf numbersOf problemIn inputsFrom layout
 all-empty = refl
 
-last-cut : layout (replicate 127 0) ≡ early 15
+last-cut : layout (replicate 143 0) ≡ early 17
 unfolding inputs inputAt sizes sizeOf word32 word64 placeOf inputsFrom layout
 last-cut = refl
 
-one-more : layout (replicate 129 0) ≡ leftOver
+one-more : layout (replicate 145 0) ≡ leftOver
 unfolding inputs inputAt sizes sizeOf word32 word64 placeOf inputsFrom layout
 one-more = refl
 
@@ -39,7 +39,7 @@ unfolding inputs inputAt sizes sizeOf word32 word64 placeOf inputsFrom layout
 roots-missing = refl
 
 -- two node bytes, and the root 258: an element of the nodes has one byte and one of the roots eight, the lowest first
-two-inputs : layout (number 2 0 ++ (7 ∷ 9 ∷ (replicate 16 0 ++ (number 1 0 ++ (number 2 1 ++ replicate 96 0)))))
-    ≡ given (problemOf (7 ∷ 9 ∷ []) [] [] (258 ∷ []) [] [] [] [] [] [] [] [] [] [] [] [])
+two-inputs : layout (number 2 0 ++ (7 ∷ 9 ∷ (replicate 16 0 ++ (number 1 0 ++ (number 2 1 ++ replicate 112 0)))))
+    ≡ given (problemOf (7 ∷ 9 ∷ []) [] [] (258 ∷ []) [] [] [] [] [] [] [] [] [] [] [] [] [] [])
 unfolding inputs inputAt sizes sizeOf word32 word64 placeOf bytesOf numbersOf problemIn inputsFrom layout
 two-inputs = refl

@@ -1,4 +1,4 @@
--- A problem in bytes: the sixteen inputs of `echo_ext` in its order, each a count of 8 bytes and then its elements. Nothing follows.
+-- A problem in bytes: the eighteen inputs of `echo_ext` in its order, each a count of 8 bytes and then its elements. Nothing follows.
 use Prim.Native.Nat.{ℕ, zero, suc, _+_, _*_}
 use Prim.Native.String.{String}
 use mathlib.Core.List.{List, [], _∷_}
@@ -34,6 +34,8 @@ inputs =
     ∷ input "anames" 16384
     ∷ input "aname_start" 512
     ∷ input "aname_len" 512
+    ∷ input "index_width" 512
+    ∷ input "value_width" 512
     ∷ input "fnames" 16384
     ∷ input "fname_start" 512
     ∷ input "fname_len" 512
@@ -65,8 +67,8 @@ unfoldable pub problemIn : List ℕ → Problem
 problemIn s =
     problemOf (bytesOf s 0) (bytesOf s 1) (numbersOf s 2) (numbersOf s 3)
     (bytesOf s 4) (numbersOf s 5) (numbersOf s 6) (numbersOf s 7) (numbersOf s 8)
-    (bytesOf s 9) (numbersOf s 10) (numbersOf s 11)
-    (bytesOf s 12) (numbersOf s 13) (numbersOf s 14) (numbersOf s 15)
+    (bytesOf s 9) (numbersOf s 10) (numbersOf s 11) (numbersOf s 12) (numbersOf s 13)
+    (bytesOf s 14) (numbersOf s 15) (numbersOf s 16) (numbersOf s 17)
 
 -- ---------------------------------------------------------------- the layout
 
@@ -91,4 +93,4 @@ inputsFrom s k (suc n) =
     (inputsFrom s (suc k) n)))
 
 unfoldable pub layout : List ℕ → Layout
-layout s = inputsFrom s 0 16
+layout s = inputsFrom s 0 18

@@ -1,4 +1,4 @@
--- Laws of the layout: what is said of one input, that the first 319,617 bytes decide, and that a problem that is read is within the limits.
+-- Laws of the layout: what is said of one input, that the first 327,825 bytes decide, and that a problem that is read is within the limits.
 -- Assumes nothing.
 use Prim.Native.Nat.{ℕ, zero, suc, _+_, _*_, _≤_, _<_}
 use mathlib.Core.Path.{_≡_, refl, ap, sym, subst, _∙_}
@@ -62,23 +62,23 @@ unfoldable pub longest : ℕ → ℕ
 longest zero = 0
 longest (suc k) = longest k + 8 + sizeOf k * inputAt k .limit
 
-pub longest-problem : longest 16 ≡ 319616
+pub longest-problem : longest 18 ≡ 327824
 unfolding inputs inputAt sizes sizeOf longest
 longest-problem = refl
 
-longest-tested : (k : ℕ) → k ≤ 16 → T (leb (longest k) 319616)
+longest-tested : (k : ℕ) → k ≤ 18 → T (leb (longest k) 327824)
 unfolding inputs inputAt sizes sizeOf longest
-longest-tested k h = every-at (λ j. leb (longest j) 319616) 0 17 tt k (omega arith) (omega arith)
+longest-tested k h = every-at (λ j. leb (longest j) 327824) 0 19 tt k (omega arith) (omega arith)
 
-longest-bound : (k : ℕ) → k ≤ 16 → longest k ≤ 319616
-longest-bound k h = leb→le (longest k) 319616 (longest-tested k h)
+longest-bound : (k : ℕ) → k ≤ 18 → longest k ≤ 327824
+longest-bound k h = leb→le (longest k) 327824 (longest-tested k h)
 
 next-longest : (k : ℕ) → longest (suc k) ≡ longest k + 8 + sizeOf k * inputAt k .limit
 unfolding longest
 next-longest k = refl
 
 -- the first n bytes of more than n, where n is above what a problem may have
-module _ (s : List ℕ) (n : ℕ) (large : 319616 < n) (long : n < length s) where
+module _ (s : List ℕ) (n : ℕ) (large : 327824 < n) (long : n < length s) where
   front-length : length (take n s) ≡ n
   front-length = length-take-le n s (omega arith)
 
@@ -102,14 +102,14 @@ module _ (s : List ℕ) (n : ℕ) (large : 319616 < n) (long : n < length s) whe
       λ j. a j + 4294967296 * b j
 
   -- m inputs from k on, which begin at the same place
-  same-from : (m k : ℕ) → k + m ≡ 16 → placeOf (take n s) k ≡ placeOf s k → placeOf s k ≤ longest k → inputsFrom (take n s) k m ≡ inputsFrom s k m
+  same-from : (m k : ℕ) → k + m ≡ 18 → placeOf (take n s) k ≡ placeOf s k → placeOf s k ≤ longest k → inputsFrom (take n s) k m ≡ inputsFrom s k m
   unfolding inputsFrom
   same-from zero k e p b =
-      let c : longest k ≤ 319616 = longest-bound k (omega arith) in
+      let c : longest k ≤ 327824 = longest-bound k (omega arith) in
       rw (lt-leb (length (take n s)) (placeOf (take n s) k) (omega (arith, front-length)), lt-leb (length s) (placeOf s k) (omega arith)) refl
   same-from (suc m) k e p b = go (decLe (countOf s k) (inputAt k .limit)) (λ q l. same-from m (suc k) (omega arith) q l)
     where
-      below : longest (suc k) ≤ 319616
+      below : longest (suc k) ≤ 327824
       below = longest-bound (suc k) (omega arith)
 
       room : placeOf s k + 8 ≤ n
@@ -133,10 +133,10 @@ module _ (s : List ℕ) (n : ℕ) (large : 319616 < n) (long : n < length s) whe
 
   same-layout : layout (take n s) ≡ layout s
   unfolding layout placeOf longest
-  same-layout = same-from 16 0 refl refl (omega arith)
+  same-layout = same-from 18 0 refl refl (omega arith)
 
--- so a reader may stop behind 319,617 bytes
-pub layout-front : (n : ℕ) → 319616 < n → (s : List ℕ) → layout (take n s) ≡ layout s
+-- so a reader may stop behind 327,825 bytes
+pub layout-front : (n : ℕ) → 327824 < n → (s : List ℕ) → layout (take n s) ≡ layout s
 layout-front n large s = go (decLe (length s) n)
   where
     go : Dec (length s ≤ n) → layout (take n s) ≡ layout s
@@ -183,14 +183,14 @@ given-from s (suc n) k p e =
 and-true : {a b : Bool} → a ≡ true → b ≡ true → (a && b) ≡ true
 and-true p q = λ i. p i && q i
 
-module _ (s : List ℕ) (fits : (j : ℕ) → 0 ≤ j → j < 16 → Fits s j) where
-  bytes-within : (k : ℕ) → k < 16 → {most : ℕ} → inputAt k .limit ≡ most → leb (length (bytesOf s k)) most ≡ true
+module _ (s : List ℕ) (fits : (j : ℕ) → 0 ≤ j → j < 18 → Fits s j) where
+  bytes-within : (k : ℕ) → k < 18 → {most : ℕ} → inputAt k .limit ≡ most → leb (length (bytesOf s k)) most ≡ true
   unfolding bytesOf
   bytes-within k l {most} e =
       le-leb (length (take (countOf s k) (drop (placeOf s k + 8) s))) most
       (omega (arith, length-take (countOf s k) (drop (placeOf s k + 8) s), fits k (omega arith) l .counted))
 
-  numbers-within : (k : ℕ) → k < 16 → {most : ℕ} → inputAt k .limit ≡ most → leb (length (numbersOf s k)) most ≡ true
+  numbers-within : (k : ℕ) → k < 18 → {most : ℕ} → inputAt k .limit ≡ most → leb (length (numbersOf s k)) most ≡ true
   unfolding numbersOf
   numbers-within k l {most} e =
       le-leb (length (numbersAt s (placeOf s k + 8) (countOf s k))) most
@@ -209,12 +209,14 @@ module _ (s : List ℕ) (fits : (j : ℕ) → 0 ≤ j → j < 16 → Fits s j) w
       (and-true (numbers-within 8 (omega arith) refl)
       (and-true (numbers-within 10 (omega arith) refl)
       (and-true (numbers-within 11 (omega arith) refl)
-      (and-true (numbers-within 13 (omega arith) refl) (and-true (numbers-within 14 (omega arith) refl) (and-true (numbers-within 15 (omega arith) refl) refl)))))))))
-      (and-true (bytes-within 4 (omega arith) refl) (and-true (bytes-within 9 (omega arith) refl) (and-true (bytes-within 12 (omega arith) refl) refl)))))
+      (and-true (numbers-within 12 (omega arith) refl)
+      (and-true (numbers-within 13 (omega arith) refl)
+      (and-true (numbers-within 15 (omega arith) refl) (and-true (numbers-within 16 (omega arith) refl) (and-true (numbers-within 17 (omega arith) refl) refl)))))))))))
+      (and-true (bytes-within 4 (omega arith) refl) (and-true (bytes-within 9 (omega arith) refl) (and-true (bytes-within 14 (omega arith) refl) refl)))))
 
 -- so no problem that is read is refused with 9
 pub read-within : (s : List ℕ) (p : Problem) → layout s ≡ given p → withinLimits p ≡ true
 unfolding layout
 read-within s p e =
-    let g : GivenBy s 0 16 p = given-from s 16 0 p e in
+    let g : GivenBy s 0 18 p = given-from s 18 0 p e in
     ap withinLimits (g .problem) ∙ all-within s (g .fits)

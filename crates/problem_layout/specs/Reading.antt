@@ -28,12 +28,12 @@ layoutOf (TooLarge k) s = tooLarge k
 layoutOf LeftOver s = leftOver
 layoutOf Whole s = given (problemIn s)
 
--- what was read: all, or a fault in one of the sixteen
+-- what was read: all, or a fault in one of the eighteen
 abbrev pub ReadIf : Shape → List ℕ → List ℕ → List ℕ → Type 0
-ReadIf (Early k) s starts counts = k < 16
-ReadIf (TooLarge k) s starts counts = k < 16
+ReadIf (Early k) s starts counts = k < 18
+ReadIf (TooLarge k) s starts counts = k < 18
 ReadIf LeftOver s starts counts = Unit
-ReadIf Whole s starts counts = Read s starts counts 16
+ReadIf Whole s starts counts = Read s starts counts 18
 
 pub record Shaped (s : List ℕ) (r : Shape) (starts counts : List ℕ) : Type 0 where
   pub same : layout s ≡ layoutOf r s

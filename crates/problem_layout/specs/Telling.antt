@@ -61,12 +61,12 @@ pub record Tells (input lent : List ℕ) (r : Told) (out : List ℕ) : Type 0 wh
   pub front : record { count = r .length; bytes = out } ≡ shown (saidOf (layout input) lent) (printedTo (layout input) lent)
   pub inside : r .length ≤ length out
 
--- a script lies within the buffer, and a fault is in one of the sixteen inputs
+-- a script lies within the buffer, and a fault is in one of the eighteen inputs
 abbrev pub Known : Said → ℕ → Type 0
 Known (Script n) room = n ≤ room
 Known (Refused e) room = Unit
-Known (Early k) room = k < 16
-Known (TooLarge k) room = k < 16
+Known (Early k) room = k < 18
+Known (TooLarge k) room = k < 18
 Known LeftOver room = Unit
 
 -- before the line

@@ -35,6 +35,8 @@ const LIMITS: [u64; INPUTS] = [
     MAX_ARENA as u64,
     MAX_ENTRIES as u64,
     MAX_ENTRIES as u64,
+    MAX_ENTRIES as u64,
+    MAX_ENTRIES as u64,
     MAX_ARENA as u64,
     MAX_ENTRIES as u64,
     MAX_ENTRIES as u64,
@@ -42,7 +44,7 @@ const LIMITS: [u64; INPUTS] = [
 ];
 
 fn limit(k: usize) -> u64
-    requires { ⌜ k < 16 ⌝ }
+    requires { ⌜ k < 18 ⌝ }
     ensures { λ r. ⌜ (r ≡ layout.inputAt k .limit) × (r ≤ 131072) ⌝ }
 {
     LIMITS[k]
@@ -61,7 +63,7 @@ enum Shape {
 // Each input in turn: the count is there, it is within its limit, the elements are there. Then nothing is left. Where the elements of
 // each begin and how many there are goes to the two tables.
 fn read_shape(s: &[u8], starts: &mut [usize], counts: &mut [usize]) -> Shape
-    requires { ⌜ (length (now starts) ≡ 16) × (length (now counts) ≡ 16) ⌝ }
+    requires { ⌜ (length (now starts) ≡ 18) × (length (now counts) ≡ 18) ⌝ }
     ensures { λ r. ⌜ Shaped (now (s .entry)) r (now (starts .exit)) (now (counts .exit)) ⌝ }
 {
     let mut at = 0;
@@ -124,9 +126,9 @@ fn answer(input: &[u8], out: &mut [u8]) -> Said
 
 // ---------------------------------------------------------------- lines
 
-// The lines of the ten refusals, one behind the other; that with number n goes from end n to end n + 1. (One array and no arm for each:
+// The lines of the refusals, one behind the other; that with number n goes from end n to end n + 1, and 11 has none. (One array and no arm for each:
 // in the proof of a `match` every arm carries every text of the function.)
-const REFUSALS: [u8; 977] =
+const REFUSALS: [u8; 1047] =
     *b"refused: 1 Malformed: a node is not well formed, the columns of a table differ in length, or a root, array or function is not there\n\
     refused: 2 Name: a name is empty or outside its arena, reserved, given twice, starts with @ or ., or has a byte that no quoted symbol has\n\
     refused: 3 Sort: a Bool stands where a bit-vector is wanted, or a bit-vector where a Bool is\n\
@@ -136,9 +138,25 @@ const REFUSALS: [u8; 977] =
     refused: 7 Signature: a function has width 0, is never called, or is called in another way than by its first call\n\
     refused: 8 Encoding: the node bytes are no whole records, a kind is unknown, an unused operand is not 0, or a bit is not 0 or 1\n\
     refused: 9 Limit: an input is over its limit\n\
-    refused: 10 Room: nothing is wrong with the problem, but its script is longer than the buffer for it\n";
+    refused: 10 Room: nothing is wrong with the problem, but its script is longer than the buffer for it\n\
+    refused: 12 ArrayWidth: a width in the array table is 0 or over 65536\n";
 
-const REFUSAL_ENDS: [usize; 12] = [0, 0, 132, 270, 363, 447, 530, 589, 703, 831, 876, 977];
+const REFUSAL_ENDS: [usize; 14] = [
+    0,
+    0,
+    132,
+    270,
+    363,
+    447,
+    530,
+    589,
+    703,
+    831,
+    876,
+    977,
+    977,
+    1047,
+];
 
 // The line of a refusal.
 fn refused_line(e: EchoError, p: Place, out: &mut [u8]) -> Place
@@ -152,7 +170,7 @@ fn refused_line(e: EchoError, p: Place, out: &mut [u8]) -> Place
 }
 
 // The names of the inputs likewise.
-const NAMES: [u8; 120] = *b"nodes\
+const NAMES: [u8; 142] = *b"nodes\
     bits\
     side\
     roots\
@@ -164,12 +182,14 @@ const NAMES: [u8; 120] = *b"nodes\
     anames\
     aname_start\
     aname_len\
+    index_width\
+    value_width\
     fnames\
     fname_start\
     fname_len\
     func_width";
 
-const NAME_ENDS: [usize; 17] = [
+const NAME_ENDS: [usize; 19] = [
     0,
     5,
     9,
@@ -183,14 +203,16 @@ const NAME_ENDS: [usize; 17] = [
     64,
     75,
     84,
-    90,
-    101,
-    110,
-    120,
+    95,
+    106,
+    112,
+    123,
+    132,
+    142,
 ];
 
 fn input_name(k: usize, p: Place, out: &mut [u8]) -> Place
-    requires { ⌜ k < 16 ⌝ }
+    requires { ⌜ k < 18 ⌝ }
     ensures { λ r. ⌜ page r (now (out .exit)) ≡ written (page p (now (out .entry))) (layout.inputAt k .name) ⌝ }
 {
     let names = NAMES;
@@ -201,7 +223,7 @@ fn input_name(k: usize, p: Place, out: &mut [u8]) -> Place
 
 // An input by its number, from 1, and its name.
 fn input_text(k: usize, p: Place, out: &mut [u8]) -> Place
-    requires { ⌜ k < 16 ⌝ }
+    requires { ⌜ k < 18 ⌝ }
     ensures { λ r. ⌜ page r (now (out .exit)) ≡ written (page p (now (out .entry))) (inputText k) ⌝ }
 {
     let opened = p.word(out, b"input ");
@@ -211,7 +233,7 @@ fn input_text(k: usize, p: Place, out: &mut [u8]) -> Place
 }
 
 fn early_line(k: usize, p: Place, out: &mut [u8]) -> Place
-    requires { ⌜ k < 16 ⌝ }
+    requires { ⌜ k < 18 ⌝ }
     ensures { λ r. ⌜ page r (now (out .exit)) ≡ written (page p (now (out .entry))) (earlyLine k) ⌝ }
 {
     let opened = p.word(out, b"input: ends early in ");
@@ -220,7 +242,7 @@ fn early_line(k: usize, p: Place, out: &mut [u8]) -> Place
 }
 
 fn too_large_line(k: usize, p: Place, out: &mut [u8]) -> Place
-    requires { ⌜ k < 16 ⌝ }
+    requires { ⌜ k < 18 ⌝ }
     ensures { λ r. ⌜ page r (now (out .exit)) ≡ written (page p (now (out .entry))) (tooLargeLine k) ⌝ }
 {
     let opened = p.word(out, b"input: too large: ");
@@ -235,7 +257,7 @@ fn left_over_line(p: Place, out: &mut [u8]) -> Place
 {
     p.word(
         out,
-        b"input: bytes are left over after input 16, func_width\n",
+        b"input: bytes are left over after input 18, func_width\n",
     )
 }
 

@@ -1,11 +1,12 @@
 -- The number of a refusal, and the refusal with a number.
-use Prim.Native.Nat.{ℕ, suc, _-_, _≤_}
+use Prim.Native.Nat.{ℕ, suc, _-_, _≤_, _<_}
+use mathlib.Core.Logic.{_≢_}
 use mathlib.Core.Path.{_≡_, refl}
 use mathlib.Core.List.{[], _∷_}
 use native.Mathlib.Omega.{arith}
 use lib.ListN.{getD}
 use Rattle.refusals.specs.declared.EchoError.{EchoError}
-use Rattle.refusals.specs.declared.EchoError.the-variants.{Malformed, Name, Sort, Var, Rotate, Shared, Signature, Encoding, Limit, Room}
+use Rattle.refusals.specs.declared.EchoError.the-variants.{Malformed, Name, Sort, Var, Rotate, Shared, Signature, Encoding, Limit, Room, ArrayWidth}
 
 abbrev pub errorNumber : EchoError → ℕ
 errorNumber Malformed = 1
@@ -18,10 +19,15 @@ errorNumber Signature = 7
 errorNumber Encoding = 8
 errorNumber Limit = 9
 errorNumber Room = 10
+errorNumber ArrayWidth = 12
 
--- the refusal with this number, from 1 to 10
+-- the refusal with this number, from 1 to 10 or 12; 11 is that of another way to print, which no entry point has yet
 abbrev pub errorOf : ℕ → EchoError
-errorOf n = getD (Malformed ∷ Name ∷ Sort ∷ Var ∷ Rotate ∷ Shared ∷ Signature ∷ Encoding ∷ Limit ∷ Room ∷ []) (n - 1) Room
+errorOf n = getD (Malformed ∷ Name ∷ Sort ∷ Var ∷ Rotate ∷ Shared ∷ Signature ∷ Encoding ∷ Limit ∷ Room ∷ ArrayWidth ∷ ArrayWidth ∷ []) (n - 1) ArrayWidth
+
+-- the numbers that there are
+abbrev pub Numbered : ℕ → Type 0
+Numbered n = (0 < n) × (n ≤ 12) × (n ≢ 11)
 
 -- ---------------------------------------------------------------- laws
 
@@ -37,8 +43,9 @@ error-number Signature = refl
 error-number Encoding = refl
 error-number Limit = refl
 error-number Room = refl
+error-number ArrayWidth = refl
 
-pub error-small : (e : EchoError) → errorNumber e ≤ 10
+pub error-small : (e : EchoError) → errorNumber e ≤ 12
 error-small Malformed = omega arith
 error-small Name = omega arith
 error-small Sort = omega arith
@@ -49,6 +56,7 @@ error-small Signature = omega arith
 error-small Encoding = omega arith
 error-small Limit = omega arith
 error-small Room = omega arith
+error-small ArrayWidth = omega arith
 
 -- each refusal is the one with its number
 pub error-at : (e : EchoError) → errorOf (errorNumber e) ≡ e
@@ -62,3 +70,4 @@ error-at Signature = refl
 error-at Encoding = refl
 error-at Limit = refl
 error-at Room = refl
+error-at ArrayWidth = refl

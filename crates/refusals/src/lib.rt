@@ -1,12 +1,11 @@
-// The ten refusals with their numbers, and the limits on the inputs: each stands here once. Under "Ruled out" stand wrong programs that
+// The refusals with their numbers, and the limits on the inputs: each stands here once. Under "Ruled out" stand wrong programs that
 // a function's contract refuses.
 ghost use mathlib.Core.Path.{_≡_};
-ghost use Prim.Native.Nat.{_≤_, _<_};
-ghost use Rattle.refusals.specs.Numbers.{errorNumber};
+ghost use Rattle.refusals.specs.Numbers.{errorNumber, Numbered};
 
 // ---------------------------------------------------------------- refusals
 
-// Why a problem is refused: the Rust's seven, and three more.
+// Why a problem is refused: the Rust's seven, and four more.
 pub enum EchoError {
     // A node is not well formed, columns of a table differ in length, a root is not a node, or a select or call is of none in the tables.
     Malformed,
@@ -28,6 +27,8 @@ pub enum EchoError {
     Limit,
     // The script is longer than the lent buffer.
     Room,
+    // A width in the array table is 0 or over 65,536.
+    ArrayWidth,
 }
 
 // Their numbers, which stand for them inside the code and outside the language. 0 is an acceptance.
@@ -51,6 +52,8 @@ pub const LIMIT: u64 = 9;
 
 pub const ROOM: u64 = 10;
 
+pub const ARRAY_WIDTH: u64 = 12;
+
 // A refusal's number. Ruled out: numbers from 0 on; 8 and 9 the other way about.
 pub fn number_of(e: EchoError) -> u64
     ensures { λ r. ⌜ r ≡ errorNumber e ⌝ }
@@ -66,12 +69,13 @@ pub fn number_of(e: EchoError) -> u64
         EchoError::Encoding => ENCODING,
         EchoError::Limit => LIMIT,
         EchoError::Room => ROOM,
+        EchoError::ArrayWidth => ARRAY_WIDTH,
     }
 }
 
 // The refusal with this number. Ruled out: the one with the number before it; one refusal for two numbers.
 pub fn error_of(n: u64) -> EchoError
-    requires { ⌜ (0 < n) × (n ≤ 10) ⌝ }
+    requires { ⌜ Numbered n ⌝ }
     ensures { λ r. ⌜ errorNumber r ≡ n ⌝ }
 {
     match n {
@@ -84,7 +88,8 @@ pub fn error_of(n: u64) -> EchoError
         SIGNATURE => EchoError::Signature,
         ENCODING => EchoError::Encoding,
         LIMIT => EchoError::Limit,
-        _ => EchoError::Room,
+        ROOM => EchoError::Room,
+        _ => EchoError::ArrayWidth,
     }
 }
 
@@ -104,7 +109,9 @@ pub const MAX_SIDE: usize = 8192;
 
 pub const MAX_ROOTS: usize = 256;
 
-// The entries of a table, and the bytes of its names.
+// The entries of a table, the bytes of its names, and the widest index or value of an array.
 pub const MAX_ENTRIES: usize = 512;
 
 pub const MAX_ARENA: usize = 16384;
+
+pub const MAX_ARRAY_WIDTH: u64 = 65536;

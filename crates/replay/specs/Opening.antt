@@ -14,11 +14,11 @@ use Rattle.replay.specs.declared.Opened.{Opened}
 use Rattle.replay.specs.declared.Opened.the-variants.{Whole, Damaged}
 use Rattle.replay.specs.Unpacking.{pick}
 
--- the first three inputs, or all
+-- the first fourteen inputs, or all
 abbrev pub inputsOf : Recorded → ℕ
-inputsOf Widths = 3
-inputsOf Printer = 16
-inputsOf Sizes = 16
+inputsOf Widths = 14
+inputsOf Printer = 18
+inputsOf Sizes = 18
 
 -- the bytes of an acceptance's result: a number for each node, the script, or the terms as one number
 abbrev pub acceptedBytes : Recorded → ℕ → ℕ

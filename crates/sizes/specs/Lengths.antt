@@ -15,8 +15,8 @@ use Rattle.lists.specs.Build.{all-tabulate, upto-all}
 use Rattle.reading.specs.Trees.{Name, Tree, variable, constant, apply, select, call, Trees, none, more, Stores, base, store}
 use Rattle.echo_spec.specs.Shapes.{Shape, var, const, binary, rotation, extraction, concat, extension, ite, comparison, negation, connective, unary, unknown, shapes}
 use Rattle.echo_spec.specs.Input.{Node, shape, no-node, largest, fits64, part, namesOf, Dag, Query, nameTable, anameTable, fnameTable}
-use Rattle.echo_spec.specs.Widths.{widthAt, widthsOf}
-use Rattle.echo_spec.specs.NodeLaws.{Formed, Facts, facts}
+use Rattle.echo_spec.specs.Widths.{arrayWidthsOk, widthAt, widthsOf}
+use Rattle.echo_spec.specs.NodeLaws.{Formed, facts, node-wide}
 use Rattle.echo_spec.specs.EncodingLaws.{width-fits}
 use Rattle.echo_spec.specs.Tables.{find-node}
 use Rattle.echo_spec.specs.Trees.{constantBits, bitsValue, amountOf, variableName, treesOver, storesOver, treeAs, treeStep, treesBelow, treeOf}
@@ -209,7 +209,7 @@ module _ (k : ℕ) where
 -- k bytes are enough for a term: names have b at most
 module _ (q : Query) (k b : ℕ) (wide : 17 + b ≤ k) (long : 7 + length (q .bits) ≤ k) (least : 66 ≤ k)
     (names : length (q .dag .names) ≤ b) (anames : length (q .dag .anames) ≤ b) (fnames : length (q .dag .fnames) ≤ b)
-    (all : length (widthsOf q) ≡ length (q .dag .nodes)) where
+    (arrays : T (arrayWidthsOk (q .dag .array-widths))) (all : length (widthsOf q) ≡ length (q .dag .nodes)) where
   abbrev d : Dag
   d = q .dag
 
@@ -217,7 +217,7 @@ module _ (q : Query) (k b : ℕ) (wide : 17 + b ≤ k) (long : 7 + length (q .bi
   ws = widthsOf q
 
   small : (i : ℕ) → widthAt ws i ≤ largest
-  small i = leb→le (widthAt ws i) largest (width-fits q i)
+  small i = leb→le (widthAt ws i) largest (width-fits q arrays i)
 
   amount-fits : (i : ℕ) (n : Node) → 0 < widthAt ws i → T (fits64 (amountOf d ws (q .bits) i n))
   unfolding amountOf
@@ -239,7 +239,7 @@ module _ (q : Query) (k b : ℕ) (wide : 17 + b ≤ k) (long : 7 + length (q .bi
     plain : (kind : ℕ) (xs : List ℕ) → Short k (apply kind [] (treesOver below xs))
     plain kind xs = apply-short k below short kind [] xs tt (omega arith)
 
-    node-short : (n : Node) (s : Shape) → Facts (length (q .bits)) (d .side) ws i n → Formed ws i (length (q .bits)) (d .side) n s
+    node-short : (n : Node) (s : Shape) → 0 < widthAt ws i → Formed ws i (length (q .bits)) (d .array-widths) (d .side) n s
         → Short k (treeAs d ws (q .bits) below i n s)
     unfolding treeAs
     node-short n var f g = variable-short k (variableName d i) (let a = variable-name i in omega arith)
@@ -248,7 +248,7 @@ module _ (q : Query) (k b : ℕ) (wide : 17 + b ≤ k) (long : 7 + length (q .bi
         (unfold constantBits in let p = length-take (n .b) (drop (n .a) (q .bits)) in let r = length-drop (n .a) (q .bits) in omega arith)
     node-short n binary f g = plain (n .kind) (n .a ∷ n .b ∷ [])
     node-short n rotation f g =
-        apply-short k below short (n .kind) (amountOf d ws (q .bits) i n ∷ []) (n .a ∷ []) (amount-fits i n (f .positive), tt) (omega arith)
+        apply-short k below short (n .kind) (amountOf d ws (q .bits) i n ∷ []) (n .a ∷ []) (amount-fits i n f, tt) (omega arith)
     node-short n extraction f (low, order, high, width) =
         let e = small (n .c) in
         apply-short k below short (n .kind) (n .a ∷ n .b ∷ []) (n .c ∷ []) (le→leb (n .a) largest (omega arith), (le→leb (n .b) largest (omega arith), tt)) (omega arith)
@@ -276,8 +276,8 @@ module _ (q : Query) (k b : ℕ) (wide : 17 + b ≤ k) (long : 7 + length (q .bi
         by-place : Dec (i < length ws) → Short k (treeAs d ws (q .bits) below i (getD (d .nodes) i no-node) (shape (getD (d .nodes) i no-node)))
         by-place (yes l) =
             let n : Node = getD (d .nodes) i no-node in
-            let f = facts (length (q .bits)) (d .side) (d .nodes) i l in
-            node-short n (shape n) f (f .form)
+            let f = facts (length (q .bits)) (d .array-widths) (d .side) (d .nodes) i l in
+            node-short n (shape n) (node-wide (length (q .bits)) (d .array-widths) (d .side) (d .nodes) arrays i l .0) (f .form)
         by-place (no l) =
             let past : length (d .nodes) ≤ i = omega (arith, all) in
             rw (List·getD-eq-default (d .nodes) no-node {n = i} past) (unfold treeAs treesOver shapes in plain 255 [])

@@ -6,7 +6,7 @@ use mathlib.Core.Bool.{Bool, true, false}
 use mathlib.Core.Option.{Option, none as nothing, some}
 use native.Mathlib.Nat.{mul-add, mul-one, mul-le-mul-left}
 use native.Mathlib.Omega.{arith}
-use lib.Dec.{T, leb, ltb, leb→le, ltb→lt}
+use lib.Dec.{T, leb, ltb, leb→le, le→leb, ltb→lt}
 use lib.ListN.{length, take, drop, getD, length-append, length-take, length-drop, length-map}
 use Rattle.lists.specs.Bytes.{bytes}
 use Rattle.lists.specs.Tests.{every, All, and-0, and-1, by-test}
@@ -27,13 +27,14 @@ use Rattle.echo_spec.specs.Input.{
   fits64,
   Dag,
   Query,
+  largest,
   dagOf,
   queryOf,
   nameTable,
   anameTable,
   fnameTable,
 }
-use Rattle.echo_spec.specs.Widths.{indexWidth, valueWidth, widthAt, widthsOf}
+use Rattle.echo_spec.specs.Widths.{indexWidth, valueWidth, arrayWidthsOk, widthAt, widthsOf}
 use Rattle.echo_spec.specs.Tables.{find-call, argumentWidths, signature, variablesOf, arraysOf, functionsOf, declarationsOf}
 use Rattle.echo_spec.specs.Trees.{treesOver, treeOf, readingOf}
 use Rattle.echo_spec.specs.Walk.{walkRoots, refusal}
@@ -55,6 +56,7 @@ use Rattle.echo_spec.specs.Render.{
 }
 use Rattle.echo_spec.specs.Answers.{script, endlessWith, endlessRefusal}
 use Rattle.echo_spec.specs.Accepted.{unless-passed, orElse-passed, Accepted, accepted}
+use Rattle.echo_spec.specs.NodeLaws.{index-bound, value-bound}
 use Rattle.echo_spec.specs.ColumnLaws.{names-counted}
 use Rattle.echo_spec.specs.EncodingLaws.{signature-fits}
 use Rattle.sizes.specs.Size.{weigh, weighAll, termsEntered, operatorsEntered}
@@ -190,24 +192,27 @@ module _ (q : Query) where
       let b = name-short (d .names) (d .name-start) (d .name-len) k in
       omega arith)
 
-  arrays-length : length (d .anames) ≤ 16384 → length (texts arrayText (arraysOf d)) ≤ 16475 * length (anameTable d)
-  unfolding indexWidth valueWidth
-  arrays-length h =
-      lines-length arrayText 16475 (length (anameTable d)) (λ k. record { name = getD (anameTable d) k []; index = indexWidth k; value = valueWidth k })
+  arrays-length : length (d .anames) ≤ 16384 → T (arrayWidthsOk (d .array-widths)) → length (texts arrayText (arraysOf d)) ≤ 16475 * length (anameTable d)
+  arrays-length h ok =
+      let index : ℕ → ℕ = indexWidth (d .array-widths .index) in
+      let value : ℕ → ℕ = valueWidth (d .array-widths .value) in
+      lines-length arrayText 16475 (length (anameTable d)) (λ k. record { name = getD (anameTable d) k []; index = index k; value = value k })
       (λ k.
-      let a = array-length (record { name = getD (anameTable d) k []; index = indexWidth k; value = valueWidth k }) tt tt in
+      let i = index-bound (d .array-widths) ok k .1 in
+      let v = value-bound (d .array-widths) ok k .1 in
+      let a = array-length (record { name = getD (anameTable d) k []; index = index k; value = value k }) (le→leb (index k) largest (omega arith)) (le→leb (value k) largest (omega arith)) in
       let b = name-short (d .anames) (d .aname-start) (d .aname-len) k in
       omega arith)
 
-  functions-length : length (d .fnames) ≤ 16384 → T (every fits64 (d .func-width)) → length (d .side) ≤ 8192
+  functions-length : length (d .fnames) ≤ 16384 → T (every fits64 (d .func-width)) → T (arrayWidthsOk (d .array-widths)) → length (d .side) ≤ 8192
       → length (texts functionText (functionsOf d (widthsOf q))) ≤ 278581 * length (fnameTable d)
-  functions-length h v l =
+  functions-length h v ok l =
       lines-length functionText 278581 (length (fnameTable d))
       (λ g. record { name = getD (fnameTable d) g []; arguments = signature d (widthsOf q) g; width = getD (d .func-width) g 0 })
       (λ g.
       let f : Function = record { name = getD (fnameTable d) g []; arguments = signature d (widthsOf q) g; width = getD (d .func-width) g 0 } in
       let e = signature-length g in
-      let a = function-length f (by-test fits64 (signature d (widthsOf q) g) (signature-fits q g)) (column-fits (d .func-width) v g) in
+      let a = function-length f (by-test fits64 (signature d (widthsOf q) g) (signature-fits q ok g)) (column-fits (d .func-width) v g) in
       let b = name-short (d .fnames) (d .fname-start) (d .fname-len) g in
       omega arith)
 
@@ -234,7 +239,7 @@ limits-of p t =
     let u₁ = and-1 (leb (length (p .nodes)) 34816) _ t₁ in
     let t₃ = and-1 (leb (length (p .roots)) 256) _ t₂ in
     let columns : List (List ℕ) =
-    p .name-start ∷ p .name-len ∷ p .var-node ∷ p .var-width ∷ p .aname-start ∷ p .aname-len ∷ p .fname-start ∷ p .fname-len ∷ p .func-width ∷ [] in
+    p .name-start ∷ p .name-len ∷ p .var-node ∷ p .var-width ∷ p .aname-start ∷ p .aname-len ∷ p .index-width ∷ p .value-width ∷ p .fname-start ∷ p .fname-len ∷ p .func-width ∷ [] in
     let cs = by-test columnWithin columns (and-0 (every columnWithin columns) _ t₃) in
     let arenas = by-test arenaWithin (p .names ∷ p .anames ∷ p .fnames ∷ []) (and-1 (every columnWithin columns) _ t₃) in
     let n = leb→le (length (p .nodes)) 34816 (and-0 (leb (length (p .nodes)) 34816) _ t₁) in
@@ -247,7 +252,7 @@ limits-of p t =
       roots = leb→le (length (p .roots)) 256 (and-0 (leb (length (p .roots)) 256) _ t₂);
       variables = leb→le (length (p .name-start)) 512 (cs .0);
       arrays = leb→le (length (p .aname-start)) 512 (cs .1 .1 .1 .1 .0);
-      functions = leb→le (length (p .fname-start)) 512 (cs .1 .1 .1 .1 .1 .1 .0);
+      functions = leb→le (length (p .fname-start)) 512 (cs .1 .1 .1 .1 .1 .1 .1 .1 .0);
       names = leb→le (length (p .names)) 16384 (arenas .0);
       anames = leb→le (length (p .anames)) 16384 (arenas .1 .0);
       fnames = leb→le (length (p .fnames)) 16384 (arenas .1 .1 .0);
@@ -309,13 +314,13 @@ module _ (p : Problem) (ok : endlessRefusal p ≡ 0) where
         let l = limits in
         let a = render-length (readingOf q) in
         let b = variables-length q (l .names) vars in
-        let c = arrays-length q (l .anames) in
-        let e = functions-length q (l .fnames) funcs (l .side) in
+        let c = arrays-length q (l .anames) (passed .checked .arrays) in
+        let e = functions-length q (l .fnames) funcs (passed .checked .arrays) (l .side) in
         let lv = names-counted (p .names) (p .name-start) (p .name-len) in
         let la = names-counted (p .anames) (p .aname-start) (p .aname-len) in
         let lf = names-counted (p .fnames) (p .fname-start) (p .fname-len) in
         let f = assertions-length 131079 (treeOf (dagOf p) (widthsOf q) (p .bits))
-        (tree-short q 131079 16384 (omega arith) (omega arith) (omega arith) (l .names) (l .anames) (l .fnames) widths-all) (p .roots) in
+        (tree-short q 131079 16384 (omega arith) (omega arith) (omega arith) (l .names) (l .anames) (l .fnames) (passed .checked .arrays) widths-all) (p .roots) in
         let s = scaled-all 131079 1 1 {l′ = 131079} {o′ = 131079} (omega arith) (omega arith) (treesOver (treeOf (dagOf p) (widthsOf q) (p .bits)) (p .roots)) in
         omega arith
 

@@ -1,3 +1,4 @@
+mod Columns
 mod Turns
 mod Passing
 mod Writing

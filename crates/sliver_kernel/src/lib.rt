@@ -5,32 +5,86 @@ use blast_kernel::CALL;
 use blast_kernel::SELECT;
 use lent::Node;
 use lent::clear_numbers;
+use refusals::MAX_ARRAY_WIDTH;
+use refusals::MAX_ENTRIES;
 use refusals::MAX_NODES;
 ghost use mathlib.Core.Path.{_≡_};
 ghost use mathlib.Core.Bool.{_&&_};
 ghost use Prim.Native.Nat.{_≤_};
 ghost use lib.Dec.{ltb};
 ghost use lib.ListN.{length, drop};
-ghost use Rattle.echo_spec.specs.Input.{nodesOf, fits64};
+ghost use Rattle.lists.specs.Tests.{every};
+ghost use Rattle.echo_spec.specs.Input.{arrayColumns, passWithin, nodesOf, fits64};
 ghost use Rattle.echo_spec.specs.Widths as widths;
 ghost use Rattle.echo_spec.specs.Answers.{atFront, zeroed, ext-wf-answer};
 ghost use Rattle.lent.specs.Records.{nodeOf};
 ghost use Rattle.sliver_kernel.specs.Pass.{ExtFormed, Passed};
 ghost use Rattle.sliver_kernel.specs.Outcomes.{answered};
 
-// The width of an array's index, by its number. Ruled out: 64; the array's number.
-pub fn index_width(array: u64) -> u64
-    ensures { λ r. ⌜ r ≡ widths.indexWidth array ⌝ }
+// ---------------------------------------------------------------- the array table
+
+// The width of an array's index, by its number: the column's, or the Rust's past its end. Ruled out: 64; the array's number; the first
+// entry for all.
+pub fn width_of_index(column: &[u64], array: u64) -> u64
+    ensures { λ r. ⌜ r ≡ widths.indexWidth (now (column .entry)) array ⌝ }
 {
-    32
+    let k = array as usize;
+    if k < column.len() { column[k] } else { 32 }
 }
 
-// The width of an array's value. Ruled out: the index's; 1.
-pub fn value_width(array: u64) -> u64
-    ensures { λ r. ⌜ r ≡ widths.valueWidth array ⌝ }
+// The width of an array's value. Ruled out: the index's; 1; 0 past the column's end.
+pub fn width_of_value(column: &[u64], array: u64) -> u64
+    ensures { λ r. ⌜ r ≡ widths.valueWidth (now (column .entry)) array ⌝ }
 {
-    8
+    let k = array as usize;
+    if k < column.len() { column[k] } else { 8 }
 }
+
+// One width of a column. Ruled out: 0; the limit refused.
+fn allowed(w: u64) -> bool
+    ensures { λ r. ⌜ r ≡ widths.arrayWidthOk w ⌝ }
+{
+    w > 0 && w <= MAX_ARRAY_WIDTH
+}
+
+// Every width of a column.
+fn column_allowed(column: &[u64]) -> bool
+    ensures { λ r. ⌜ r ≡ every widths.arrayWidthOk (now (column .entry)) ⌝ }
+{
+    let mut i = 0;
+    while i < column.len() {
+        if !allowed(column[i]) {
+            return false;
+        }
+        i += 1;
+    }
+    true
+}
+
+// 12: the widths of every array, used or not. Ruled out: the first array's alone; the values' unchecked.
+pub fn array_widths_ok(index_width: &[u64], value_width: &[u64]) -> bool
+    ensures { λ r. ⌜ r ≡ widths.arrayWidthsOk (arrayColumns (now («index_width» .entry)) (now («value_width» .entry))) ⌝ }
+{
+    column_allowed(index_width) && column_allowed(value_width)
+}
+
+// 9 of the width pass. Ruled out: the two columns without a limit; 512 entries refused.
+fn pass_within(
+    nodes: &[u8],
+    bits: &[u8],
+    side: &[u64],
+    index_width: &[u64],
+    value_width: &[u64],
+) -> bool
+    ensures { λ r. ⌜ r ≡ passWithin (now (nodes .entry)) (now (bits .entry)) (now (side .entry)) (arrayColumns (now («index_width» .entry)) (now («value_width» .entry))) ⌝ }
+{
+    if !blast_kernel::nodes_within(nodes, bits, side) {
+        return false;
+    }
+    index_width.len() <= MAX_ENTRIES && value_width.len() <= MAX_ENTRIES
+}
+
+// ---------------------------------------------------------------- selects and calls
 
 // One level of a chain: a pair of an index and a value at this place of the side entries.
 fn pair_wf(ws: &[u64], side: &[u64], index: u64, value: u64, at: usize) -> bool
@@ -91,12 +145,22 @@ pub fn args_wf(ws: &[u64], side: &[u64], s: u64, n: u64) -> bool
 }
 
 // Array number, index, side start and number of stores.
-fn select_wf(ws: &[u64], side: &[u64], array: u64, i: u64, s: u64, n: u64) -> bool
-    ensures { λ r. ⌜ r ≡ (widths.earlierOf (now (ws .entry)) (widths.indexWidth array) i
-        && widths.chain-wf (widths.indexWidth array) (widths.valueWidth array) (now (ws .entry)) n (drop s (now (side .entry)))) ⌝ }
+fn select_wf(
+    ws: &[u64],
+    side: &[u64],
+    index_width: &[u64],
+    value_width: &[u64],
+    array: u64,
+    i: u64,
+    s: u64,
+    n: u64,
+) -> bool
+    ensures { λ r. ⌜ r ≡ (widths.earlierOf (now (ws .entry)) (widths.indexWidth (now («index_width» .entry)) array) i
+        && widths.chain-wf (widths.indexWidth (now («index_width» .entry)) array) (widths.valueWidth (now («value_width» .entry)) array) (now (ws .entry)) n
+        (drop s (now (side .entry)))) ⌝ }
 {
-    let w = index_width(array);
-    kernel::earlier_of(ws, w, i) && chain_wf(ws, side, w, value_width(array), s, n)
+    let w = width_of_index(index_width, array);
+    kernel::earlier_of(ws, w, i) && chain_wf(ws, side, w, width_of_value(value_width, array), s, n)
 }
 
 // Width, side start and number of arguments.
@@ -108,43 +172,57 @@ fn call_wf(ws: &[u64], side: &[u64], w: u64, s: u64, n: u64) -> bool
 
 // Is the node well formed after nodes of the widths `ws`. (The Rust's, but that a kind stands for the case of
 // `ExtNode`.) Ruled out: a call of width 0; a select whose chain is not looked at.
-pub fn ext_node_wf(ws: &[u64], nbits: usize, side: &[u64], n: Node) -> bool
-    ensures { λ r. ⌜ r ≡ widths.node-wf nbits (now (side .entry)) (now (ws .entry)) (nodeOf n) ⌝ }
+pub fn ext_node_wf(
+    ws: &[u64],
+    nbits: usize,
+    side: &[u64],
+    index_width: &[u64],
+    value_width: &[u64],
+    n: Node,
+) -> bool
+    ensures { λ r. ⌜ r ≡ widths.node-wf nbits (arrayColumns (now («index_width» .entry)) (now («value_width» .entry))) (now (side .entry)) (now (ws .entry)) (nodeOf n) ⌝ }
 {
     let s = blast_kernel::shape(n.kind);
     match s {
-        SELECT => select_wf(ws, side, n.a, n.b, n.c, n.d),
+        SELECT => select_wf(ws, side, index_width, value_width, n.a, n.b, n.c, n.d),
         CALL => call_wf(ws, side, n.b, n.c, n.d),
         _ => kernel::node_wf(ws, nbits, n),
     }
 }
 
 // The width of a node that `ext_node_wf` accepted. Ruled out: a select as wide as its index; a call as wide as its first argument.
-pub fn ext_node_width(ws: &[u64], n: Node) -> u64
+pub fn ext_node_width(ws: &[u64], index_width: &[u64], value_width: &[u64], n: Node) -> u64
     requires { ⌜ ExtFormed (now ws) (nodeOf n) ⌝ }
-    ensures { λ r. ⌜ r ≡ widths.node-width (now (ws .entry)) (nodeOf n) ⌝ }
+    ensures { λ r. ⌜ r ≡ widths.node-width (arrayColumns (now («index_width» .entry)) (now («value_width» .entry))) (now (ws .entry)) (nodeOf n) ⌝ }
 {
     let s = blast_kernel::shape(n.kind);
     match s {
-        SELECT => value_width(n.a),
+        SELECT => width_of_value(value_width, n.a),
         CALL => n.b,
         _ => kernel::node_width(ws, n),
     }
 }
 
 // Each node's width in turn, up to the first that is not well formed: the answer is how many were written.
-fn fill(nodes: &[u8], nbits: usize, side: &[u64], ws: &mut [u64]) -> usize
+fn fill(
+    nodes: &[u8],
+    nbits: usize,
+    side: &[u64],
+    index_width: &[u64],
+    value_width: &[u64],
+    ws: &mut [u64],
+) -> usize
     requires { ⌜ length (nodesOf (now nodes)) ≤ length (now ws) ⌝ }
-    ensures { λ r. ⌜ Passed nbits (now (side .entry)) (nodesOf (now (nodes .entry))) r (now (ws .exit)) ⌝ }
+    ensures { λ r. ⌜ Passed nbits (arrayColumns (now («index_width» .entry)) (now («value_width» .entry))) (now (side .entry)) (nodesOf (now (nodes .entry))) r (now (ws .exit)) ⌝ }
 {
     let n = lent::node_count(nodes);
     let mut i = 0;
     while i < n {
         let node = lent::node_at(nodes, i);
-        if !ext_node_wf(&ws[..i], nbits, side, node) {
+        if !ext_node_wf(&ws[..i], nbits, side, index_width, value_width, node) {
             return i;
         }
-        let w = ext_node_width(&ws[..i], node);
+        let w = ext_node_width(&ws[..i], index_width, value_width, node);
         ws[i] = w;
         i += 1;
     }
@@ -154,11 +232,18 @@ fn fill(nodes: &[u8], nbits: usize, side: &[u64], ws: &mut [u64]) -> usize
 // The pass over a table that has room for every node: how many nodes come before the first that is not well formed, and their widths.
 // (The Rust's `ext_wf` without its `Result`; the printer calls it too.) Ruled out: the node count where a node is refused; a table
 // that is all 0.
-pub fn widths(nodes: &[u8], nbits: usize, side: &[u64], ws: &mut [u64; MAX_NODES]) -> usize
+pub fn widths(
+    nodes: &[u8],
+    nbits: usize,
+    side: &[u64],
+    index_width: &[u64],
+    value_width: &[u64],
+    ws: &mut [u64; MAX_NODES],
+) -> usize
     requires { ⌜ length (now nodes) ≤ 34816 ⌝ }
-    ensures { λ r. ⌜ Passed nbits (now (side .entry)) (nodesOf (now (nodes .entry))) r (now (ws .exit)) ⌝ }
+    ensures { λ r. ⌜ Passed nbits (arrayColumns (now («index_width» .entry)) (now («value_width» .entry))) (now (side .entry)) (nodesOf (now (nodes .entry))) r (now (ws .exit)) ⌝ }
 {
-    fill(nodes, nbits, side, ws)
+    fill(nodes, nbits, side, index_width, value_width, ws)
 }
 
 // The widths to the front of what was lent.
@@ -177,7 +262,7 @@ fn copy(ws: &[u64], out: &mut [u64])
 pub enum Outcome {
     // The node count: the widths are written.
     Accepted(usize),
-    // The number of the first node that is not well formed.
+    // The number of the first node that is not well formed, or the node count where the two columns differ in length.
     Refused(usize),
     // The nodes or bits are encoded wrongly.
     Encoding,
@@ -185,15 +270,25 @@ pub enum Outcome {
     Limit,
     // The lent slice is shorter than the node count.
     Room,
+    // A width in the array table is 0 or over 65,536.
+    ArrayWidth,
 }
 
 // THE WIDTH PASS. With a slice that is too short every node is still looked at, in a table of the pass's own, so that a node that
 // is refused is told before the want of room.
-pub fn ext_wf(nodes: &[u8], bits: &[u8], side: &[u64], out: &mut [u64]) -> Outcome
+pub fn ext_wf(
+    nodes: &[u8],
+    bits: &[u8],
+    side: &[u64],
+    index_width: &[u64],
+    value_width: &[u64],
+    out: &mut [u64],
+) -> Outcome
     ensures { λ r. ⌜ answered r (now (out .exit))
-        ≡ ext-wf-answer (now (nodes .entry)) (now (bits .entry)) (now (side .entry)) (now (out .entry)) ⌝ }
+        ≡ ext-wf-answer (now (nodes .entry)) (now (bits .entry)) (now (side .entry)) (arrayColumns (now («index_width» .entry)) (now («value_width» .entry)))
+        (now (out .entry)) ⌝ }
 {
-    if !blast_kernel::nodes_within(nodes, bits, side) {
+    if !pass_within(nodes, bits, side, index_width, value_width) {
         clear_numbers(out);
         return Outcome::Limit;
     }
@@ -201,8 +296,16 @@ pub fn ext_wf(nodes: &[u8], bits: &[u8], side: &[u64], out: &mut [u64]) -> Outco
         clear_numbers(out);
         return Outcome::Encoding;
     }
+    if index_width.len() != value_width.len() {
+        clear_numbers(out);
+        return Outcome::Refused(lent::node_count(nodes));
+    }
+    if !array_widths_ok(index_width, value_width) {
+        clear_numbers(out);
+        return Outcome::ArrayWidth;
+    }
     let mut ws = [0u64; MAX_NODES];
-    let n = widths(nodes, bits.len(), side, &mut ws);
+    let n = widths(nodes, bits.len(), side, index_width, value_width, &mut ws);
     if n < lent::node_count(nodes) {
         clear_numbers(out);
         return Outcome::Refused(n);

@@ -1,13 +1,13 @@
 -- The printer's answer taken apart: what an acceptance and what each refusal says.
 use Prim.Native.Nat.{ℕ, zero, suc, _≤_, _<_}
 use mathlib.Core.Path.{_≡_, refl, ap, sym, _∙_, subst}
-use mathlib.Core.List.{List, [], _++_}
+use mathlib.Core.List.{List, [], _∷_, _++_}
 use mathlib.Core.Bool.{Bool, true, false, not}
 use mathlib.Core.Logic.{_↔_, _≢_}
 use native.Mathlib.Omega.{arith}
 use lib.Dec.{T, eqb, leb, leb→le, le→leb, nleb→lt}
 use lib.ListN.{length, drop, replicate}
-use Rattle.lists.specs.Tests.{T→true, no→false, inList}
+use Rattle.lists.specs.Tests.{T→true, no→false, inList, among, among-every}
 use Rattle.reading.specs.Trees.{Name, Reading}
 use Rattle.smtlib.specs.Lexicon.{Lex}
 use Rattle.smtlib.specs.Grammar.{Script, scriptTokens}
@@ -17,8 +17,8 @@ use Rattle.smtlib.specs.Readings.{Reads}
 use Rattle.smtlib.specs.ReadsUnique.{reads-unique}
 use Rattle.smtlib.specs.Sorts.{WellSorted}
 use Rattle.echo_spec.specs.Refusals.{unless, _orElse_}
-use Rattle.echo_spec.specs.Input.{Problem, withinLimits, encoded, nodesOf, dagOf, queryOf}
-use Rattle.echo_spec.specs.Widths.{ext-wf}
+use Rattle.echo_spec.specs.Input.{Problem, ArrayWidths, withinLimits, encoded, nodesOf, dagOf, queryOf}
+use Rattle.echo_spec.specs.Widths.{arrayWidthsOk, ext-wf, widthsOf}
 use Rattle.echo_spec.specs.Names.{reserved}
 use Rattle.echo_spec.specs.NameLaws.{allNames, word-refused}
 use Rattle.echo_spec.specs.Tables.{columnsOk}
@@ -26,6 +26,7 @@ use Rattle.echo_spec.specs.Walk.{refusalWith, refusal}
 use Rattle.echo_spec.specs.Render.{render}
 use Rattle.echo_spec.specs.Answers.{
   widthRefusal,
+  refusedNode,
   widthAnswer,
   ext-wf-answer,
   reading,
@@ -37,7 +38,7 @@ use Rattle.echo_spec.specs.Answers.{
   textAnswer,
   echo-ext-answer,
 }
-use Rattle.echo_spec.specs.Accepted.{unless-passed, orElse-passed, in-orElse, in-unless, endless-bound}
+use Rattle.echo_spec.specs.Accepted.{unless-passed, orElse-passed, in-orElse, in-unless, endlessNumber, endless-number}
 use Rattle.echo_spec.specs.EncodingLaws.{encoded-binary}
 use Rattle.theorems.specs.Scripts.{scriptOf, Sound, lex-script, script-well-sorted, render-reads}
 use Rattle.theorems.specs.Printed.{reading-sound}
@@ -177,12 +178,11 @@ unfolding endlessRefusal
 endless-whole p = endless-passes p _
 
 -- acceptance or a listed number
-pub number-bound : (p : Problem) (lent : List ℕ) → echo-ext-answer p lent .number ≤ 10
-unfolding echo-ext-answer
-number-bound p lent =
-    leb→le _ 10
-    (text-listed (λ n. leb n 10) (endlessRefusal p) (printed p) lent tt tt
-    (let l : endlessRefusal p ≤ 9 = endless-bound p in le→leb (endlessRefusal p) 10 (omega arith)))
+pub number-listed : (p : Problem) (lent : List ℕ) → T (among (0 ∷ 1 ∷ 2 ∷ 3 ∷ 4 ∷ 5 ∷ 6 ∷ 7 ∷ 8 ∷ 9 ∷ 10 ∷ 12 ∷ []) (echo-ext-answer p lent .number))
+unfolding echo-ext-answer endlessNumber
+number-listed p lent =
+    let q : (ℕ → Bool) = among (0 ∷ 1 ∷ 2 ∷ 3 ∷ 4 ∷ 5 ∷ 6 ∷ 7 ∷ 8 ∷ 9 ∷ 10 ∷ 12 ∷ []) in
+    text-listed q (endlessRefusal p) (printed p) lent tt tt (among-every q (0 ∷ 1 ∷ 2 ∷ 3 ∷ 4 ∷ 5 ∷ 6 ∷ 7 ∷ 8 ∷ 9 ∷ 12 ∷ []) tt (endlessRefusal p) (endless-number p))
 
 pub acceptance : (p : Problem) (lent : List ℕ) → echo-ext-answer p lent .number ≡ 0
     → echo-ext-answer p lent ≡ record { number = 0; count = length (printed p); output = printed p ++ drop (length (printed p)) lent }
@@ -208,16 +208,16 @@ accepted-whole p lent = accepted-exactly p lent .0
 pub room-refusal : (p : Problem) (lent : List ℕ) → (echo-ext-answer p lent .number ≡ 10) ↔ (Whole p × (length lent < length (printed p)))
 unfolding echo-ext-answer
 room-refusal p lent =
-    let l : endlessRefusal p ≤ 9 = endless-bound p in
-    let a = text-room (endlessRefusal p) (printed p) lent (λ e. omega arith) in
+    let a = text-room (endlessRefusal p) (printed p) lent (λ e. unfold endlessNumber in subst (λ (k : ℕ). T (endlessNumber k)) e (endless-number p)) in
     (λ e. let h = a .0 e in (endless-whole p .0 (h .0), h .1), λ h. a .1 (endless-whole p .1 (h .0), h .1))
 
 -- every check before that of the names
 pub record BeforeNames (p : Problem) : Type 0 where
   pub limits : T (withinLimits p)
   pub encoding : T (encoded (p .nodes) (p .bits))
-  pub widths : T (eqb (length (ext-wf (length (p .bits)) (dagOf p .side) (dagOf p .nodes))) (length (dagOf p .nodes)))
   pub columns : T (columnsOk (dagOf p))
+  pub arrays : T (arrayWidthsOk (dagOf p .array-widths))
+  pub widths : T (eqb (length (widthsOf (queryOf p))) (length (dagOf p .nodes)))
 
 -- a reserved word in any of the tables is 2, where nothing before is refused
 pub reserved-refused : (p : Problem) (lent : List ℕ) (n : Name) → BeforeNames p → T (inList n reserved) → T (inList n (allNames (dagOf p)))
@@ -228,8 +228,9 @@ reserved-refused p lent n b w h =
     (rw (
       T→true (withinLimits p) (b .limits),
       T→true (encoded (p .nodes) (p .bits)) (b .encoding),
-      T→true (eqb (length (ext-wf (length (p .bits)) (dagOf p .side) (dagOf p .nodes))) (length (dagOf p .nodes))) (b .widths),
       T→true (columnsOk (dagOf p)) (b .columns),
+      T→true (arrayWidthsOk (dagOf p .array-widths)) (b .arrays),
+      T→true (eqb (length (widthsOf (queryOf p))) (length (dagOf p .nodes))) (b .widths),
       word-refused (dagOf p) n w h,
     ))
 
@@ -268,30 +269,30 @@ scripts-equal p p′ w w′ = (
 
 -- ---------------------------------------------------------------- the width pass
 
-width-whole : (n : ℕ) (ws lent : List ℕ) → widthAnswer n ws lent .number ≡ 0
-    → widthAnswer n ws lent ≡ record { number = 0; count = length ws; output = ws ++ drop (length ws) lent }
+width-whole : (n at : ℕ) (ws lent : List ℕ) → widthAnswer n at ws lent .number ≡ 0
+    → widthAnswer n at ws lent ≡ record { number = 0; count = length ws; output = ws ++ drop (length ws) lent }
 unfolding widthAnswer
-width-whole zero ws lent e = refl
-width-whole (suc zero) ws lent e = absurd (omega arith)
-width-whole (suc (suc n)) ws lent e = absurd (omega arith)
+width-whole zero at ws lent e = refl
+width-whole (suc zero) at ws lent e = absurd (omega arith)
+width-whole (suc (suc n)) at ws lent e = absurd (omega arith)
 
-width-zeroed : (n : ℕ) (ws lent : List ℕ) {k : ℕ} → widthAnswer n ws lent .number ≡ suc k → widthAnswer n ws lent .output ≡ replicate (length lent) 0
+width-zeroed : (n at : ℕ) (ws lent : List ℕ) {k : ℕ} → widthAnswer n at ws lent .number ≡ suc k → widthAnswer n at ws lent .output ≡ replicate (length lent) 0
 unfolding widthAnswer
-width-zeroed zero ws lent e = absurd (omega arith)
-width-zeroed (suc zero) ws lent e = refl
-width-zeroed (suc (suc n)) ws lent e = refl
+width-zeroed zero at ws lent e = absurd (omega arith)
+width-zeroed (suc zero) at ws lent e = refl
+width-zeroed (suc (suc n)) at ws lent e = refl
 
-pub width-accepted : (nodes bits side lent : List ℕ) → ext-wf-answer nodes bits side lent .number ≡ 0
-    → let ws : List ℕ = ext-wf (length bits) side (nodesOf nodes) in
-    ext-wf-answer nodes bits side lent ≡ record { number = 0; count = length ws; output = ws ++ drop (length ws) lent }
+pub width-accepted : (nodes bits side : List ℕ) (arrays : ArrayWidths) (lent : List ℕ) → ext-wf-answer nodes bits side arrays lent .number ≡ 0
+    → let ws : List ℕ = ext-wf (length bits) arrays side (nodesOf nodes) in
+    ext-wf-answer nodes bits side arrays lent ≡ record { number = 0; count = length ws; output = ws ++ drop (length ws) lent }
 unfolding ext-wf-answer
-width-accepted nodes bits side lent e =
-    let ws : List ℕ = ext-wf (length bits) side (nodesOf nodes) in
-    width-whole (widthRefusal nodes bits side ws (length lent)) ws lent e
+width-accepted nodes bits side arrays lent e =
+    let ws : List ℕ = ext-wf (length bits) arrays side (nodesOf nodes) in
+    width-whole (widthRefusal nodes bits side arrays ws (length lent)) (refusedNode nodes arrays ws) ws lent e
 
-pub width-refused : (nodes bits side lent : List ℕ) (k : ℕ) → ext-wf-answer nodes bits side lent .number ≡ suc k
-    → ext-wf-answer nodes bits side lent .output ≡ replicate (length lent) 0
+pub width-refused : (nodes bits side : List ℕ) (arrays : ArrayWidths) (lent : List ℕ) (k : ℕ) → ext-wf-answer nodes bits side arrays lent .number ≡ suc k
+    → ext-wf-answer nodes bits side arrays lent .output ≡ replicate (length lent) 0
 unfolding ext-wf-answer
-width-refused nodes bits side lent k e =
-    let ws : List ℕ = ext-wf (length bits) side (nodesOf nodes) in
-    width-zeroed (widthRefusal nodes bits side ws (length lent)) ws lent e
+width-refused nodes bits side arrays lent k e =
+    let ws : List ℕ = ext-wf (length bits) arrays side (nodesOf nodes) in
+    width-zeroed (widthRefusal nodes bits side arrays ws (length lent)) (refusedNode nodes arrays ws) ws lent e

@@ -11,6 +11,7 @@ use lib.ListN.{length, drop, replicate}
 use Rattle.lists.specs.Tests.{among, among-every, inList, everyFrom, every-at, and-0, and-1, no→false, not→false, T→true}
 use Rattle.echo_spec.specs.Refusals.{unless, _orElse_}
 use Rattle.echo_spec.specs.Input.{Problem, withinLimits, encoded, Dag, dagOf, queryOf, nameTable, anameTable, fnameTable}
+use Rattle.echo_spec.specs.Widths.{arrayWidthsOk}
 use Rattle.echo_spec.specs.Names.{namesOk}
 use Rattle.echo_spec.specs.Sharing.{usesOfAll, usedOnce, unshared}
 use Rattle.echo_spec.specs.Tables.{columnsOk, decl-vars-ok, decl-funcs-ok}
@@ -108,7 +109,7 @@ roots-number d ws us (r ∷ rs) =
 
 -- what the query can be refused with
 abbrev pub queryNumber : ℕ → Bool
-queryNumber n = among (0 ∷ 1 ∷ 2 ∷ 3 ∷ 4 ∷ 5 ∷ 7 ∷ 11 ∷ []) n
+queryNumber n = among (0 ∷ 1 ∷ 2 ∷ 3 ∷ 4 ∷ 5 ∷ 7 ∷ 11 ∷ 12 ∷ []) n
 
 widen : (n : ℕ) → T (walkNumber n) → T (queryNumber n)
 unfolding walkNumber
@@ -122,20 +123,20 @@ query-number d ws roots =
 
 -- what the problem can be refused with, given endless room
 abbrev pub endlessNumber : ℕ → Bool
-endlessNumber n = among (0 ∷ 1 ∷ 2 ∷ 3 ∷ 4 ∷ 5 ∷ 7 ∷ 8 ∷ 9 ∷ 11 ∷ []) n
+endlessNumber n = among (0 ∷ 1 ∷ 2 ∷ 3 ∷ 4 ∷ 5 ∷ 7 ∷ 8 ∷ 9 ∷ 11 ∷ 12 ∷ []) n
 
 pub endless-let-number : (p : Problem) → T (endlessNumber (endlessLet p))
 unfolding endlessLet
 endless-let-number p =
     let r : ℕ = letRefusal (dagOf p) (length (p .bits)) (p .roots) in
-    endless-listed endlessNumber p r tt tt tt (among-every endlessNumber (0 ∷ 1 ∷ 2 ∷ 3 ∷ 4 ∷ 5 ∷ 7 ∷ 11 ∷ []) tt r (query-number (dagOf p) _ (p .roots)))
+    endless-listed endlessNumber p r tt tt tt (among-every endlessNumber (0 ∷ 1 ∷ 2 ∷ 3 ∷ 4 ∷ 5 ∷ 7 ∷ 11 ∷ 12 ∷ []) tt r (query-number (dagOf p) _ (p .roots)))
 
--- 6 does not occur, and no number above 11
-pub let-number : (p : Problem) (lent : List ℕ) → T (among (0 ∷ 1 ∷ 2 ∷ 3 ∷ 4 ∷ 5 ∷ 7 ∷ 8 ∷ 9 ∷ 10 ∷ 11 ∷ []) (echo-let-answer p lent .number))
+-- 6 does not occur, and no number above 12
+pub let-number : (p : Problem) (lent : List ℕ) → T (among (0 ∷ 1 ∷ 2 ∷ 3 ∷ 4 ∷ 5 ∷ 7 ∷ 8 ∷ 9 ∷ 10 ∷ 11 ∷ 12 ∷ []) (echo-let-answer p lent .number))
 unfolding echo-let-answer
 let-number p lent =
-    let q : (ℕ → Bool) = among (0 ∷ 1 ∷ 2 ∷ 3 ∷ 4 ∷ 5 ∷ 7 ∷ 8 ∷ 9 ∷ 10 ∷ 11 ∷ []) in
-    text-listed q (endlessLet p) (letPrinted p) lent tt tt (among-every q (0 ∷ 1 ∷ 2 ∷ 3 ∷ 4 ∷ 5 ∷ 7 ∷ 8 ∷ 9 ∷ 11 ∷ []) tt (endlessLet p) (endless-let-number p))
+    let q : (ℕ → Bool) = among (0 ∷ 1 ∷ 2 ∷ 3 ∷ 4 ∷ 5 ∷ 7 ∷ 8 ∷ 9 ∷ 10 ∷ 11 ∷ 12 ∷ []) in
+    text-listed q (endlessLet p) (letPrinted p) lent tt tt (among-every q (0 ∷ 1 ∷ 2 ∷ 3 ∷ 4 ∷ 5 ∷ 7 ∷ 8 ∷ 9 ∷ 11 ∷ 12 ∷ []) tt (endlessLet p) (endless-let-number p))
 
 -- ---------------------------------------------------------------- 11
 
@@ -146,8 +147,9 @@ past false n x k h e = absurd (h e)
 
 -- every check before that of sharing
 pub record Before (d : Dag) (ws : List ℕ) : Type 0 where
-  pub widths : T (eqb (length ws) (length (d .nodes)))
   pub columns : T (columnsOk d)
+  pub arrays : T (arrayWidthsOk (d .array-widths))
+  pub widths : T (eqb (length ws) (length (d .nodes)))
   pub names : T (namesOk d)
 
 pub clash-query : (d : Dag) (ws roots : List ℕ) → (letRefusalWith d ws roots ≡ 11) ↔ (Before d ws × T (not (namesClear d (usesIn d roots))))
@@ -172,16 +174,18 @@ clash-query d ws roots = (there, λ h. back (h .0) (h .1))
 
     there : letRefusalWith d ws roots ≡ 11 → Before d ws × T (not (namesClear d (usesIn d roots)))
     there e =
-        let (w, e₁) = past (eqb (length ws) (length (d .nodes))) 0 _ 11 (λ q. omega arith) e in
-        let (c, e₂) = past (columnsOk d) 0 _ 11 (λ q. omega arith) e₁ in
+        let (c, e₀) = past (columnsOk d) 0 _ 11 (λ q. omega arith) e in
+        let (a, e₁) = past (arrayWidthsOk (d .array-widths)) 11 _ 11 (λ q. omega arith) e₀ in
+        let (w, e₂) = past (eqb (length ws) (length (d .nodes))) 0 _ 11 (λ q. omega arith) e₁ in
         let (n, e₃) = past (namesOk d) 1 _ 11 (λ q. omega arith) e₂ in
-        (record { widths = w; columns = c; names = n }, by-clear (namesClear d (usesIn d roots)) e₃)
+        (record { columns = c; arrays = a; widths = w; names = n }, by-clear (namesClear d (usesIn d roots)) e₃)
 
     back : Before d ws → T (not (namesClear d (usesIn d roots))) → letRefusalWith d ws roots ≡ 11
     back b h =
         rw (
-          T→true (eqb (length ws) (length (d .nodes))) (b .widths),
           T→true (columnsOk d) (b .columns),
+          T→true (arrayWidthsOk (d .array-widths)) (b .arrays),
+          T→true (eqb (length ws) (length (d .nodes))) (b .widths),
           T→true (namesOk d) (b .names),
           not→false (namesClear d (usesIn d roots)) h,
         )

@@ -88,7 +88,7 @@ module _ (q : Query) (ok : Checked (q .dag) (widthsOf q)) (binaryIn : All (λ b.
             → sortUnder D E (cond t (variable (letName j)) (trees j)) ≡ some (sortAs b (widthAt ws j))
         by-bound true is e =
             let agrees = sort-agrees b (boolAt d j) (unless-passed (sortOk b (boolAt d j)) 2 e) in
-            rw (known (true→T is), agrees) (if-proper (sortAt j) (node-proper q j (rw (ok .widths) (bound-below j (true→T is))) (boolAt d j)))
+            rw (known (true→T is), agrees) (if-proper (sortAt j) (node-proper q (ok .arrays) j (rw (ok .widths) (bound-below j (true→T is))) (boolAt d j)))
         by-bound false is e = rest e
 
     node-sorted : (n i : ℕ) → i < n → Known i → (b : Bool) → letWalk d ws bound i b ≡ 0 → sortUnder D E (namedOf d ws bitsIn bound i) ≡ some (sortAs b (widthAt ws i))

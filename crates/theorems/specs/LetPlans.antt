@@ -60,7 +60,7 @@ module _ (q : Query) (bound bound′ : ℕ → Bool) where
       named-agrees (namedBelow d ws bits bound i) (namedBelow d ws bits bound′ i) j (h j m)
       (p ∙ plan-tree n j (omega arith) (omega arith) (λ k o. h k (omega arith)) ∙ sym q) in
       sym (unfolded-none (treeAs d ws bits f i node (shape node)))
-      ∙ unfold-as d bits ws [] i f g (λ j m. unfolded-none (f j) ∙ agree j m) refl node (shape node) (facts (length bits) (d .side) (d .nodes) i here .low)
+      ∙ unfold-as d bits ws [] i f g (λ j m. unfolded-none (f j) ∙ agree j m) refl node (shape node) (facts (length bits) (d .array-widths) (d .side) (d .nodes) i here .low)
 
   pub plan-walk : (n i : ℕ) → i < n → i < length ws → ((j : ℕ) → j < i → bound j ≡ bound′ j) → letWalk d ws bound i ≡ letWalk d ws bound′ i
   unfolding letWalk letStep walkStep
@@ -76,5 +76,5 @@ module _ (q : Query) (bound bound′ : ℕ → Bool) where
       (p ∙ plan-walk n j (omega arith) (omega arith) (λ k o. h k (omega arith)) ∙ sym q) in
       let e : walkAll f (operandsAs (d .side) node (shape node)) ≡ walkAll g (operandsAs (d .side) node (shape node)) =
       walk-agrees f g i agree (operandsAs (d .side) node (shape node))
-      (facts (length bits) (d .side) (d .nodes) i here .low) in
+      (facts (length bits) (d .array-widths) (d .side) (d .nodes) i here .low) in
       λ k w. unless (ltb i (length (d .nodes))) 1 orElse unless (sortOk w (isBool (shape node))) 3 orElse asked d ws i orElse e k

@@ -105,4 +105,4 @@ module _ (q : Query) (bound : ℕ → Bool) (E : Scope Tree) (unbound : (i : ℕ
       let below : unfolded E (namedBelow d ws bits bound i j) ≡ treeOf d ws bits j =
       ap (unfolded E) same-named ∙ unfold-node n j (omega arith) (omega arith) (λ k q. known k (omega arith)) in
       unfold-use (namedBelow d ws bits bound i) j (known j m) below ∙ sym same-tree)
-      (unbound i) (getD (d .nodes) i no-node) (shape (getD (d .nodes) i no-node)) (facts (length bits) (d .side) (d .nodes) i here .low)
+      (unbound i) (getD (d .nodes) i no-node) (shape (getD (d .nodes) i no-node)) (facts (length bits) (d .array-widths) (d .side) (d .nodes) i here .low)

@@ -9,6 +9,7 @@ pub mod Fitting
 pub mod Scripts
 pub mod Printed
 pub mod Answered
+pub mod ArrayAnswered
 pub mod LetTerms
 pub mod LetNames
 pub mod LetUnfolding

@@ -5,7 +5,7 @@ use mathlib.Core.List.{List, [], _∷_, _++_}
 use mathlib.Core.Bool.{Bool, false, _&&_, _||_, not}
 use mathlib.Core.Option.{Option, none as nothing, some}
 use native.Mathlib.Omega.{arith}
-use lib.Dec.{T, leb, ltb, eqb, eqb→eq, le→leb, not-T, T-not}
+use lib.Dec.{T, leb, ltb, eqb, eqb→eq, le→leb, lt→ltb, not-T, T-not}
 use lib.ListN.{length, getD}
 use Rattle.lists.specs.Bytes.{bytes}
 use Rattle.lists.specs.Tests.{
@@ -32,7 +32,7 @@ use Rattle.reading.specs.Trees.{Name, Trees, none, more, Variable, Array, Funct
 use Rattle.smtlib.specs.Lexicon.{blank, quotable}
 use Rattle.smtlib.specs.Readings.{builtIn, operators, variableNames, arrayNames, functionNames, declaredNames}
 use Rattle.smtlib.specs.Sorts.{bool, theorySymbols, solverSymbol, free}
-use Rattle.echo_spec.specs.Input.{Dag, Query, no-node, nameTable, anameTable, fnameTable}
+use Rattle.echo_spec.specs.Input.{ArrayWidths, Dag, Query, no-node, nameTable, anameTable, fnameTable}
 use Rattle.echo_spec.specs.Widths.{indexWidth, valueWidth, widthsOf}
 use Rattle.echo_spec.specs.Names.{byteOk, firstOk, rustWords, smtlib27Words, reserved}
 use Rattle.echo_spec.specs.Tables.{find-call, argumentsInside, decl-vars-ok, signature, decl-func-ok, decl-funcs-ok, declarationsOf}
@@ -42,6 +42,7 @@ use Rattle.echo_spec.specs.TreeSortLaws.{has-eq}
 use Rattle.echo_spec.specs.SortedTrees.{declarationsIn, roots-sorted}
 use Rattle.echo_spec.specs.Walk.{refusalWith}
 use Rattle.echo_spec.specs.Accepted.{Checked, accepted}
+use Rattle.echo_spec.specs.NodeLaws.{index-bound, value-bound}
 use Rattle.echo_spec.specs.ColumnLaws.{columns-aligned, names-counted}
 use Rattle.echo_spec.specs.NameLaws.{name-byte, nameOk, allNames, names-distinct, names-ok}
 use Rattle.theorems.specs.Terms.{FitsAll}
@@ -159,8 +160,13 @@ module _ (q : Query) (ok : Checked (q .dag) (widthsOf q)) where
       (λ i l. every-place (ltb 0) 0 (q .dag .var-width) (ok .variables) i (omega (arith, names-counted (q .dag .names) (q .dag .name-start) (q .dag .name-len), columns-aligned (q .dag) (ok .columns) .var-width)))
 
   sound-arrays : All (λ (a : Array). wide (a .index) && wide (a .value)) (declarationsIn q .arrays)
-  unfolding declarationsOf indexWidth valueWidth
-  sound-arrays = all-tabulate (λ (a : Array). wide (a .index) && wide (a .value)) (length (anameTable (q .dag))) _ (λ i l. tt)
+  unfolding declarationsOf
+  sound-arrays =
+      let widths : ArrayWidths = q .dag .array-widths in
+      all-tabulate (λ (a : Array). wide (a .index) && wide (a .value)) (length (anameTable (q .dag))) _
+      (λ k l.
+      and-T (wide (indexWidth (widths .index) k)) (wide (valueWidth (widths .value) k)) (lt→ltb 0 (indexWidth (widths .index) k) (index-bound widths (ok .arrays) k .0))
+      (lt→ltb 0 (valueWidth (widths .value) k) (value-bound widths (ok .arrays) k .0)))
 
   sound-functions : All (λ (f : Function). every wide (f .arguments) && wide (f .width)) (declarationsIn q .functions)
   unfolding declarationsOf decl-funcs-ok
@@ -174,7 +180,7 @@ module _ (q : Query) (ok : Checked (q .dag) (widthsOf q)) where
       sound-with (declarationsIn q) (rw (declared-names (q .dag) (widthsOf q)) (names-ok (q .dag) (ok .names)))
       (rw (declared-names (q .dag) (widthsOf q)) (names-distinct (q .dag) (ok .names))) sound-variables sound-arrays sound-functions
 
--- the plain way: bits are bits, and no check of 1 to 7 refuses
+-- the plain way: bits are bits, and no check of 1 to 7 and 12 refuses
 pub reading-sound : (q : Query) → All (λ b. leb b 1) (q .bits) → refusalWith (q .dag) (widthsOf q) (q .roots) ≡ 0 → Sound (readingOf q)
 unfolding readingOf
 reading-sound q binary passed =

@@ -26,20 +26,26 @@ returns : tie.Need-returns
 unfolding columnsOk dagOf
 returns c = rw (failed (c .before .four-aligned .ensures) (c .if1 .taken)) refl
 
-element-copy-out-two-aligned : tie.Need-element-copy-out-two-aligned
-element-copy-out-two-aligned c = search needs
+element-copy-out-four-aligned-5 : tie.Need-element-copy-out-four-aligned-5
+element-copy-out-four-aligned-5 c = search needs
 
-element-copy-out-two-aligned-2 : tie.Need-element-copy-out-two-aligned-2
-element-copy-out-two-aligned-2 c = search needs
+element-copy-out-four-aligned-6 : tie.Need-element-copy-out-four-aligned-6
+element-copy-out-four-aligned-6 c = search needs
 
-two-aligned-requires : tie.Need-two-aligned-requires
-two-aligned-requires c κs = search needs
+element-copy-out-four-aligned-7 : tie.Need-element-copy-out-four-aligned-7
+element-copy-out-four-aligned-7 c = search needs
+
+element-copy-out-four-aligned-8 : tie.Need-element-copy-out-four-aligned-8
+element-copy-out-four-aligned-8 c = search needs
+
+four-aligned-requires-2 : tie.Need-four-aligned-requires-2
+four-aligned-requires-2 c κs = search needs
 
 returns-2 : tie.Need-returns-2
 unfolding columnsOk dagOf
 returns-2 c =
-    let variables = c .before .before .before .before in
-    rw (passed (variables .before .four-aligned .ensures) (variables .if1 .left), failed (c .before .two-aligned .ensures) (c .if2 .taken)) refl
+    let variables = c .before .before .before .before .before .before in
+    rw (passed (variables .before .four-aligned .ensures) (variables .if1 .left), failed (c .before .four-aligned2 .ensures) (c .if2 .taken)) refl
 
 element-copy-out-three-aligned : tie.Need-element-copy-out-three-aligned
 element-copy-out-three-aligned c = search needs
@@ -56,9 +62,9 @@ three-aligned-requires c κs = search needs
 returns-3 : tie.Need-returns-3
 unfolding columnsOk dagOf
 returns-3 c =
-    let variables = c .before .before .before .before .before .before .before .before in
+    let variables = c .before .before .before .before .before .before .before .before .before .before in
     let arrays = c .before .before .before .before in
-    rw (passed (variables .before .four-aligned .ensures) (variables .if1 .left), passed (arrays .before .two-aligned .ensures) (arrays .if2 .left))
+    rw (passed (variables .before .four-aligned .ensures) (variables .if1 .left), passed (arrays .before .four-aligned2 .ensures) (arrays .if2 .left))
     (c .three-aligned .ensures)
 
 pub columns-ok-spec : {M : Type 1} → statement M
@@ -71,9 +77,11 @@ columns-ok-spec =
     element-copy-out-four-aligned-4
     four-aligned-requires
     returns
-    element-copy-out-two-aligned
-    element-copy-out-two-aligned-2
-    two-aligned-requires
+    element-copy-out-four-aligned-5
+    element-copy-out-four-aligned-6
+    element-copy-out-four-aligned-7
+    element-copy-out-four-aligned-8
+    four-aligned-requires-2
     returns-2
     element-copy-out-three-aligned
     element-copy-out-three-aligned-2

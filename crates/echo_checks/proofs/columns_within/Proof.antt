@@ -13,10 +13,10 @@ use Rattle.echo_checks.proofs.columns_within.Statement.{statement}
 use Rattle.echo_checks.proofs.columns_within.Tie as tie
 
 abbrev Inv-loop : tie.InvT-loop
-Inv-loop numbers k₀ k = (2 ≤ k) × (k ≤ 11) × Left columnWithin (columns (problemAt [] numbers)) (k - 2)
+Inv-loop numbers k₀ k = (2 ≤ k) × (k ≤ 13) × Left columnWithin (columns (problemAt [] numbers)) (k - 2)
 
 abbrev μ-loop : tie.MeasureT-loop
-μ-loop numbers k₀ k = 11 - k
+μ-loop numbers k₀ k = 13 - k
 
 loop-holds : tie.Need-loop-holds Inv-loop μ-loop
 loop-holds c = (omega arith, omega arith, left-start _ _)

@@ -20,11 +20,17 @@ element-copy-out-entry-name-3 c = search needs
 entry-name-requires : tie.Need-entry-name-requires
 entry-name-requires c κs = search needs
 
-index-width-requires : tie.Need-index-width-requires
-index-width-requires c κs = search needs
+element-copy-out-width-of-index : tie.Need-element-copy-out-width-of-index
+element-copy-out-width-of-index c = search needs
 
-value-width-requires : tie.Need-value-width-requires
-value-width-requires c κs = search needs
+width-of-index-requires : tie.Need-width-of-index-requires
+width-of-index-requires c κs = search needs
+
+element-copy-out-width-of-value : tie.Need-element-copy-out-width-of-value
+element-copy-out-width-of-value c = search needs
+
+width-of-value-requires : tie.Need-width-of-value-requires
+width-of-value-requires c κs = search needs
 
 decl-array-requires : tie.Need-decl-array-requires
 decl-array-requires c κs = search needs
@@ -37,12 +43,12 @@ unfolding dagOf
 returns c =
     let line = c .before .before in
     let value = line .before .before in
-    let index = value .before in
-    let name = index .before in
+    let index = value .before .before in
+    let name = index .before .before in
     let args = name .before .before .before .before .before .args in
     let d = dagAt (args .bytes .now) (args .numbers .now) in
     line .decl-array .ensures
-    ∙ ap (written _) (array-line d (args .k) (name .entry-name .ensures) (index .index-width .ensures) (value .value-width .ensures))
+    ∙ ap (written _) (array-line d (args .k) (name .entry-name .ensures) (index .width-of-index .ensures) (value .width-of-value .ensures))
 
 pub push-array-spec : {M : Type 1} → statement M
 push-array-spec =
@@ -52,8 +58,10 @@ push-array-spec =
     element-copy-out-entry-name-2
     element-copy-out-entry-name-3
     entry-name-requires
-    index-width-requires
-    value-width-requires
+    element-copy-out-width-of-index
+    width-of-index-requires
+    element-copy-out-width-of-value
+    width-of-value-requires
     decl-array-requires
     same-length
     returns)

@@ -7,10 +7,10 @@ use Rattle.echo_size.proofs.Sizing.{column-fits}
 
 size-of-requires : tie.Need-size-of-requires
 size-of-requires c κs =
-    let start = c .before .before .before .before .before .before .before .before .before .before .before .before .before .before .before .before .before .before in
-    let shared-slice-known9 = c .before .before .before .before .before .before .before .before .before .shared-slice-known9 in
-    let shared-slice-known16 = c .before .before .shared-slice-known16 in
-    record { variables = column-fits (start .args .var-width .now) (λ i. omega (arith, shared-slice-known9 .given i)); functions = column-fits (start .args .func-width .now) (λ i. omega (arith, shared-slice-known16 .given i)) }
+    let start = c .before .before .before .before .before .before .before .before .before .before .before .before .before .before .before .before .before .before .before .before in
+    let shared-slice-known9 = c .before .before .before .before .before .before .before .before .before .before .before .shared-slice-known9 in
+    let shared-slice-known18 = c .before .before .shared-slice-known18 in
+    record { variables = column-fits (start .args .var-width .now) (λ i. omega (arith, shared-slice-known9 .given i)); functions = column-fits (start .args .func-width .now) (λ i. omega (arith, shared-slice-known18 .given i)) }
 
 returns : tie.Need-returns
 returns c = search needs

@@ -10,7 +10,7 @@ abbrev Inv-loop : tie.InvT-loop
 Inv-loop s starts₀ counts₀ at₀ k₀ starts counts at k = Upto s starts counts at k
 
 abbrev μ-loop : tie.MeasureT-loop
-μ-loop s starts₀ counts₀ at₀ k₀ starts counts at k = 16 - k
+μ-loop s starts₀ counts₀ at₀ k₀ starts counts at k = 18 - k
 
 loop-holds : tie.Need-loop-holds Inv-loop μ-loop
 loop-holds c = upto-start _ (c .before .before .before .pre)

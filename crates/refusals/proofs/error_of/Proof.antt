@@ -1,9 +1,10 @@
--- `refusals::error_of` meets its contract: past the nine cases only 10 is left. Assumes nothing.
+-- `refusals::error_of` meets its contract: past the ten cases only 12 is left. Assumes nothing.
 use Prim.Native.Nat.{ℕ, zero, suc, _≤_, _<_}
 use mathlib.Core.Path.{_≡_, sym}
 use native.Mathlib.Omega.{arith}
 use lib.Arith.{lt-of-le-ne}
 use borrow.Author.Needs.{needs}
+use Rattle.refusals.specs.Numbers.{Numbered}
 use Rattle.refusals.proofs.error_of.Statement.{statement}
 use Rattle.refusals.proofs.error_of.Tie as tie
 
@@ -16,8 +17,8 @@ past-above : (n x : ℕ) → 0 < x → Past n x → n < x
 past-above zero x l t = l
 past-above (suc n) x l t = let h : n < x = past-above n x l (t .0) in lt-of-le-ne h (λ e. t .1 (sym e))
 
-last : (x : ℕ) → 0 < x → x ≤ 10 → Past 9 x → 10 ≡ x
-last x l m t = omega (arith, past-above 9 x l t)
+last : (x : ℕ) → Numbered x → Past 10 x → 12 ≡ x
+last x (l, m, n) t = let h : 11 < x = lt-of-le-ne (past-above 10 x l t) (λ e. n (sym e)) in omega arith
 
 returns : tie.Need-returns
 returns c = search needs
@@ -47,7 +48,10 @@ returns-9 : tie.Need-returns-9
 returns-9 c = search needs
 
 returns-10 : tie.Need-returns-10
-returns-10 c = last _ (c .before .pre .0) (c .before .pre .1) (c .match .rest)
+returns-10 c = search needs
+
+returns-11 : tie.Need-returns-11
+returns-11 c = last _ (c .before .pre) (c .match .rest)
 
 pub error-of-spec : {M : Type 1} → statement M
 error-of-spec =
@@ -62,4 +66,5 @@ error-of-spec =
     returns-7
     returns-8
     returns-9
-    returns-10)
+    returns-10
+    returns-11)

@@ -22,18 +22,18 @@ node-wf-requires c κs = search needs
 returns : tie.Need-returns
 unfolding wfAs
 returns c =
-    wf-arm _ (nodeOf (c .before .before .before .before .before .args .n)) (c .before .before .shape .ensures) _ _ 12 (c .before .match .keys1)
+    wf-arm _ (nodeOf (c .before .before .before .before .before .before .before .args .n)) (c .before .before .shape .ensures) _ _ _ 12 (c .before .match .keys1)
     (c .select-wf .ensures)
 
 returns-2 : tie.Need-returns-2
 unfolding wfAs
 returns-2 c =
-    wf-arm _ (nodeOf (c .before .before .before .before .before .args .n)) (c .before .before .shape .ensures) _ _ 13 (c .before .match .keys2)
+    wf-arm _ (nodeOf (c .before .before .before .before .before .before .before .args .n)) (c .before .before .shape .ensures) _ _ _ 13 (c .before .match .keys2)
     (c .call-wf .ensures)
 
 returns-3 : tie.Need-returns-3
 returns-3 c =
-    c .node-wf .ensures ∙ wf-rest _ (nodeOf (c .before .before .before .before .before .args .n)) (c .before .before .shape .ensures) _ _
+    c .node-wf .ensures ∙ wf-rest _ (nodeOf (c .before .before .before .before .before .before .before .args .n)) (c .before .before .shape .ensures) _ _ _
     (c .before .match .rest)
 
 pub ext-node-wf-spec : {M : Type 1} → statement M

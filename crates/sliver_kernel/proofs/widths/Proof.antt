@@ -5,7 +5,7 @@ use Rattle.sliver_kernel.proofs.widths.Statement.{statement}
 use Rattle.sliver_kernel.proofs.widths.Tie as tie
 
 fill-requires : tie.Need-fill-requires
-fill-requires c κs = omega (arith, nodes-length (c .before .before .before .args .nodes .now), c .fill-arg .given .0 .1)
+fill-requires c κs = omega (arith, nodes-length (c .before .before .before .before .before .args .nodes .now), c .fill-arg .given .0 .1)
 
 returns : tie.Need-returns
 returns c = c .fill .ensures
