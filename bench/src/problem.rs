@@ -19,7 +19,7 @@ pub mod kind {
     pub const CALL: u8 = 38;
 }
 
-/// The sixteen inputs of the port: records of 17 bytes, bits as bytes, 64-bit numbers.
+/// The eighteen inputs of the port: records of 17 bytes, bits as bytes, 64-bit numbers.
 #[derive(Clone, Default)]
 pub struct Problem {
     pub nodes: Vec<u8>,

@@ -207,7 +207,8 @@ fn report_widths(p: &Problem, room: usize, fill: u64) {
     };
     println!("the width passes differ on a problem of {} nodes; made smaller:", p.count());
     let mut p = p.clone();
-    p = Problem { nodes: p.nodes, bits: p.bits, side: p.side, ..Problem::default() };
+    let Problem { nodes, bits, side, index_width, value_width, .. } = p;
+    p = Problem { nodes, bits, side, index_width, value_width, ..Problem::default() };
     let (q, room) = reduce::reduce(&p, room, Duration::from_secs(60), &differs, &|q| Some(q.count()));
     show::problem(&q);
     let want = added::width_answer(&q, room);

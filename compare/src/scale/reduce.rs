@@ -418,6 +418,7 @@ impl Reducer<'_> {
                     _ => {}
                 }
             }
+            ws.extend(p.index_width.iter().chain(&p.value_width));
             ws.sort();
             ws.dedup();
             ws
@@ -438,7 +439,7 @@ impl Reducer<'_> {
                         q.set_operand(i, j, new as u32);
                     }
                 }
-                for xs in [&mut q.var_width, &mut q.func_width] {
+                for xs in [&mut q.var_width, &mut q.func_width, &mut q.index_width, &mut q.value_width] {
                     xs.iter_mut().filter(|x| **x == old).for_each(|x| *x = new);
                 }
                 if self.attempt(q) {
