@@ -58,9 +58,10 @@ enum {
     ECHO_MALFORMED = 1,
 
     /*
-     * A declared name cannot stand in the script: it is empty or not wholly inside its arena; has a byte outside 32 to 126, or a
-     * bar or a backslash; begins with an at sign or a full stop; is a word of SMT-LIB (2.7 too) or of a solver, such as "bvadd" or
-     * "int_to_bv"; or is given twice, be it in two tables. Rename it.
+     * A declared name cannot stand in the script: it is empty or not wholly inside its arena; has a byte below 32, byte 127, a bar
+     * or a backslash; begins with an at sign or a full stop; is a word of SMT-LIB (2.7 too) or of a solver, such as "bvadd" or
+     * "int_to_bv"; or is given twice, be it in two tables. Rename it. Bytes from 128 to 255 are permitted, in any encoding, and names
+     * are compared byte by byte.
      */
     ECHO_NAME = 2,
 

@@ -1,8 +1,10 @@
 //! NOT THE RUST'S: the numbers that document 01 adds, and the names and the number 12 that document 02 does. 9 (limits), 8 (encoding), 1 of
-//! the columns and 12 (array widths) come before the Rust is asked, 10 (room) after. A name among the words of SMT-LIB 2.7 is asked of the Rust as a word that the Rust reserves.
+//! the columns and 12 (array widths) come before the Rust is asked, 10 (room) after. A name among the words of SMT-LIB 2.7 is asked of the
+//! Rust as a word that the Rust reserves, and one with bytes from 128 on as one that is spelt without them (spelling.rs).
 //! Written from the documents, not from the port.
 use crate::oracle;
 use crate::problem::{Problem, kind, operand_count};
+use crate::spelling;
 use crate::words::is_added;
 
 /// What is expected: number, count or length, and the result of an acceptance.
@@ -106,9 +108,18 @@ fn reserve(arena: &mut Vec<u8>, starts: &mut [u64], lens: &mut [u64]) -> bool {
     found
 }
 
+/// The Rust's answer; with bytes from 128 on in a name, its answer to the problem in which all names are spelt without them, with the given
+/// names put back.
+fn script(p: &Problem) -> Result<Vec<u8>, u32> {
+    if !spelling::has_high(p) {
+        return with_words(p);
+    }
+    with_words(&spelling::problem(p)).map(|s| spelling::script(&s))
+}
+
 /// The Rust's answer; with a name among the words of SMT-LIB 2.7, its answer to the problem in which that name is one of its own reserved
 /// words, so that 1 from widths and columns still comes before 2.
-fn script(p: &Problem) -> Result<Vec<u8>, u32> {
+fn with_words(p: &Problem) -> Result<Vec<u8>, u32> {
     let mut q = p.clone();
     let found = [
         reserve(&mut q.names, &mut q.name_start, &mut q.name_len),
@@ -121,6 +132,11 @@ fn script(p: &Problem) -> Result<Vec<u8>, u32> {
     let answer = oracle::script(&q);
     assert!(matches!(answer, Err(1 | 2)), "the Rust accepts its own reserved word");
     answer
+}
+
+/// Is it the Rust that answers: do 9, 8, 1 of the columns and 12 pass?
+pub fn reaches_the_rust(p: &Problem) -> bool {
+    within(p) && encoded(p) && columns(p) && array_widths(p)
 }
 
 pub fn print_answer(p: &Problem, room: usize) -> Answer<u8> {
@@ -144,7 +160,7 @@ pub fn print_answer(p: &Problem, room: usize) -> Answer<u8> {
 
 /// How long the script is, if the problem is accepted with endless room.
 pub fn script_len(p: &Problem) -> Option<usize> {
-    if !within(p) || !encoded(p) || !columns(p) || !array_widths(p) {
+    if !reaches_the_rust(p) {
         return None;
     }
     script(p).ok().map(|s| s.len())

@@ -138,6 +138,7 @@ fn before_the_walk() -> Vec<Check> {
             .finds(2, "variable's name", |p| named(p, 0, b"@"))
             .finds(2, "array's name", |p| named(p, 1, b"let"))
             .finds(2, "function's name, a word of SMT-LIB 2.7", |p| named(p, 2, b"int_to_bv"))
+            .finds(2, "array's name, 127 after a byte from 128 on", |p| named(p, 1, b"\xc3\x7f"))
             .finds(2, "name given twice", |p| {
                 named(p, 0, b"~both");
                 named(p, 2, b"~both");

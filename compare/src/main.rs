@@ -1,12 +1,15 @@
 //! Makes the recorded lists: `record widths OUT`, `record printer OUT` and `record sizes OUT`. The problems follow from a seed; the answers
-//! are the Rust's (oracle.rs), with what documents 01 and 02 add around it (added.rs). Sizes are those of the Rust's scripts.
+//! are the Rust's (oracle.rs), with what documents 01 and 02 add around it (added.rs), and with names that it takes in the place of those
+//! with bytes from 128 on (spelling.rs). Sizes are those of the Rust's scripts.
 mod added;
+mod alphabets;
 mod arrays;
 mod both;
 mod list;
 mod oracle;
 mod printer;
 mod problem;
+mod spelling;
 mod terms;
 mod trees;
 mod widths;
@@ -81,12 +84,36 @@ fn check_added_words() {
     }
 }
 
+/// That the Rust refuses each byte from 128 on in a name, so that they are a difference from it.
+fn check_high_bytes() {
+    for b in 128..=255u8 {
+        for t in 0..3 {
+            let mut p = problem::Problem::default();
+            printer::named(&mut p, t, &[b'k', b]);
+            assert!(oracle::script(&p) == Err(2), "the Rust accepts byte {b}");
+        }
+    }
+}
+
+/// Names that have none are asked as they are; spelt as the others are they must get the same answer.
+fn check_spelling(p: &problem::Problem) {
+    if added::reaches_the_rust(p) && !spelling::has_high(p) {
+        let other = oracle::script(&spelling::problem(p)).map(|s| spelling::script(&s));
+        assert!(other == oracle::script(p), "the Rust answers otherwise where names are spelt");
+    }
+}
+
+/// What the replay fills the lent bytes with beforehand.
+const FILL_BYTE: u8 = 127;
+
 fn record_printer(out: &str, long: bool) {
     check_added_words();
+    check_high_bytes();
     let mut list = list::List::new(b"PRINTER2");
     let mut tally = Tally::default();
     let mut accepted = 0;
     for c in printer::all().into_iter().chain(arrays::of_printer()) {
+        check_spelling(&c.problem);
         let len = added::script_len(&c.problem).unwrap_or(64);
         let room = match c.room {
             printer::Room::Exact => len,
@@ -96,6 +123,7 @@ fn record_printer(out: &str, long: bool) {
             printer::Room::Fixed(n) => n,
         };
         let a = added::print_answer(&c.problem, room);
+        assert!(!a.result.contains(&FILL_BYTE), "a script has the byte that the replay fills with");
         accepted += (a.number == 0) as usize;
         tally.note(&c.label, c.want, a.number);
         list.add(&list::of_script(&c.problem, room, &a));

@@ -1,5 +1,6 @@
 //! Problems for the printer. As for the width pass, each has a label and the number that it was made for: the recorder stops where the
 //! Rust answers another. A label begins with that number, or with + for an acceptance.
+use crate::alphabets;
 use crate::both;
 use crate::problem::{Problem, Rng, is_bool, is_rotation, is_same_width, kind, operand_count};
 use crate::trees::{accepted, kinds};
@@ -260,7 +261,7 @@ fn columns(ds: &mut Defects) {
 
 fn names(ds: &mut Defects) {
     for t in 0..3 {
-        for b in [0u8, 9, 10, 13, 31, 127, 128, 195, 255, b'|', b'\\'] {
+        for b in [0u8, 9, 10, 13, 31, 127, b'|', b'\\'] {
             for at in 0..3 {
                 put(ds, NAMES, 2, "name: a byte that is not permitted", move |p| {
                     let mut n = b"~ab".to_vec();
@@ -1195,7 +1196,7 @@ fn good_names(add: &mut impl FnMut(&str, Problem, Room, Option<u32>)) {
             if b != b'@' && b != b'.' && b != b'!' && b != b'=' && b != b'_' {
                 named(&mut p, t, &[b]);
             }
-            ok("each byte that is permitted", p);
+            ok("each byte below 127 that is permitted", p);
         }
         for n in ["k@", "k.", "~@", "_.", "!@", "let ", " let", "lets", "Let", "LET", "le"] {
             let mut p = Problem::default();
@@ -1551,6 +1552,7 @@ pub fn all() -> Vec<Case> {
     examples(&mut add);
     found(&mut add);
     good_names(&mut add);
+    alphabets::all(&mut add);
     limits(&mut rng, &mut add);
     extremes(&mut add);
 
@@ -1714,7 +1716,7 @@ fn change(p: &mut Problem, rng: &mut Rng) {
             let a = arena(p, t);
             if !a.is_empty() {
                 let i = rng.below(a.len() as u64) as usize;
-                a[i] = rng.pick(&[b'@', b'.', b'|', 31, 32, 126, 127, b'a']);
+                a[i] = rng.pick(&[b'@', b'.', b'|', 31, 32, 126, 127, 128, 255, b'a']);
             }
         }
         _ => {

@@ -9,7 +9,7 @@
       "vars":   a list of [name, node, width]
       "arrays": a list of [name, index width, value width]
       "funcs":  a list of [name, width]
-    What is left out is empty.
+    What is left out is empty. Names are written in UTF-8.
 """
 import json
 import struct
@@ -38,9 +38,10 @@ def table(names):
     """An arena with the names, and where each starts and how long it is."""
     arena, starts, lens = [], [], []
     for name in names:
+        name = name.encode('utf-8')
         starts.append(len(arena))
         lens.append(len(name))
-        arena += list(name.encode('latin-1'))
+        arena += list(name)
     return arena, starts, lens
 
 

@@ -77,8 +77,11 @@ pub const MAX_ARRAY_WIDTH: u64 = 65_536;
 /// A problem: eighteen slices, which are only read. The default is the empty problem, of which every slice is empty.
 ///
 /// The three tables have columns of one length each. Entry `i` of a table has the name `arena[start[i]..start[i] + len[i]]`. Names are
-/// printable ASCII other than `|` and `\`, not empty, and all different, over the tables too. The first byte is no `@` and no `.`, and the
+/// bytes from 32 on other than 127, `|` and `\`, not empty, and all different, over the tables too. The first byte is no `@` and no `.`, and the
 /// words of SMT-LIB, 2.7 too, and some of solvers' (`bvadd`, `let`, `int_to_bv`, ..) are reserved.
+///
+/// Bytes from 128 on are permitted, so that a name may be a `str` in any alphabet, or bytes in any other encoding; a script has them as they
+/// are, and is UTF-8 only if its names are. Names are compared byte by byte: two spellings of one letter are two names.
 #[derive(Clone, Copy, Debug, Default, PartialEq, Eq, Hash)]
 pub struct Problem<'a> {
     /// Node records of [`NODE_BYTES`] bytes each, as [`node`] makes them. An operand is the number of an earlier node.

@@ -74,8 +74,8 @@ impl fmt::Display for Refusal {
                  select or call below a root names an array or function that is not in its table"
             }
             Refusal::Name => {
-                "a declared name is empty or reaches past its arena, has a byte outside 32 to 126 or a `|` or `\\`, begins with `@` \
-                 or `.`, is reserved, or is given twice, be it in two tables: look at names, anames and fnames"
+                "a declared name is empty or reaches past its arena, has a byte below 32, byte 127, a `|` or a `\\`, begins with \
+                 `@` or `.`, is reserved, or is given twice, be it in two tables: look at names, anames and fnames"
             }
             Refusal::Sort => {
                 "a Bool stands where a bit-vector is wanted, or the other way about: look at the roots, which are Bool, and at the \

@@ -95,7 +95,7 @@ fn name() {
     let nodes = rich_nodes().concat();
     let base = rich(&nodes);
     // Names of the first variable, up to the last byte of the arena: v is there.
-    for bad in ["@v", ".v", "|v", "\\v", "\nv", "\x7fv", "\u{e9}v", "letv"] {
+    for bad in ["@v", ".v", "|v", "\\v", "\nv", "\x1fv", "\x7fv", "\u{e9}\x7fv", "@\u{e9}v", "letv"] {
         let len = bad.len() as u64 - 1;
         let problem = Problem { names: bad.as_bytes(), name_start: &[0, len], name_len: &[len, 1], ..base };
         assert_eq!(refused(&problem), Refusal::Name, "{bad:?}");
@@ -110,6 +110,12 @@ fn name() {
         assert_eq!(refused(&Problem { fnames: word.as_bytes(), fname_len: &[len], ..base }), Refusal::Name, "{word}");
         assert!(echo_ext(&Problem { fnames: word.as_bytes(), fname_len: &[len - 1], ..base }, &mut [0; 1_000]).is_ok(), "{word}");
     }
+    // Names with bytes from 128 on that are equal, in a table and in two.
+    let umlaut = "\u{fc}\u{fc}".as_bytes();
+    assert_eq!(refused(&Problem { names: umlaut, name_start: &[0, 2], name_len: &[2, 2], ..base }), Refusal::Name);
+    let one = Problem { names: b"\xffv", name_start: &[0, 1], name_len: &[1, 1], ..base };
+    assert_eq!(refused(&Problem { anames: b"\xff", ..one }), Refusal::Name);
+    assert_eq!(refused(&Problem { fnames: b"\xff", ..one }), Refusal::Name);
     // Empty; past the arena, also where start and length have no sum in 64 bits; twice in a table and in two.
     assert_eq!(refused(&Problem { name_len: &[0, 1], ..base }), Refusal::Name);
     assert_eq!(refused(&Problem { name_len: &[1, 2], ..base }), Refusal::Name);

@@ -491,6 +491,27 @@ fn an_entry(g: &mut Grower, table: usize) -> usize {
     n
 }
 
+/// The name of one entry and a new name that differs from it in one byte, which is from 128 on in both, at the first, a middle or the last
+/// place: they go to the two entries. False if there is no such name.
+fn alike(g: &mut Grower, (t, i): (usize, usize), (u, j): (usize, usize), place: usize) -> bool {
+    let mut s = name_of(g, t, i).clone();
+    while s.len() < 3 {
+        s.push(g.rng.from_to(97, 122) as u8);
+    }
+    let at = [0, g.rng.from_to(1, s.len() as u64 - 2) as usize, s.len() - 1][place];
+    s[at] = g.rng.from_to(128, 254) as u8;
+    let mut r = s.clone();
+    r[at] = g.rng.from_to(s[at] as u64 + 1, 255) as u8;
+    if !g.claim(t, &s) || !g.claim(u, &r) {
+        return false;
+    }
+    *name_of(g, t, i) = s;
+    *name_of(g, u, j) = r;
+    true
+}
+
+const PLACES: [&str; 3] = ["the first", "a middle", "the last"];
+
 fn name_of<'a>(g: &'a mut Grower, table: usize, i: usize) -> &'a mut Vec<u8> {
     match table {
         0 => &mut g.plan.vars[i].name,
@@ -523,11 +544,7 @@ fn names(c: &mut Clauses) {
             let b = rng.below(32) as u8;
             with(s, rng, b);
         });
-        name("a byte above 126", |s, rng| {
-            let any = rng.from_to(127, 255) as u8;
-            let b = rng.pick(&[127, 128, 255, any]);
-            with(s, rng, b);
-        });
+        name("byte 127", |s, rng| with(s, rng, 127));
         name("a bar", |s, rng| with(s, rng, b'|'));
         name("a backslash", |s, rng| with(s, rng, b'\\'));
         name("begins with @", |s, rng| {
@@ -570,6 +587,16 @@ fn names(c: &mut Clauses) {
                 true
             },
         );
+        c.plan(2, &format!("name, {whose}: twice in the table, with a byte from 128 on"), move |g| {
+            let (i, j) = (an_entry(g, t), an_entry(g, t));
+            let place = g.rng.below(3) as usize;
+            if i == j || !alike(g, (t, i), (t, j), place) {
+                return None;
+            }
+            let s = name_of(g, t, i).clone();
+            *name_of(g, t, j) = s;
+            Some(i)
+        });
         c.plan(2, &format!("name, {whose}: twice in the table"), move |g| {
             let i = an_entry(g, t);
             let mut j = an_entry(g, t);
@@ -586,6 +613,21 @@ fn names(c: &mut Clauses) {
     for (t, u, label) in
         [(0, 1, "a variable's and an array's"), (0, 2, "a variable's and a function's"), (1, 2, "an array's and a function's")]
     {
+        c.plan(2, &format!("name: {label}, with a byte from 128 on"), move |g| {
+            let (i, j) = (an_entry(g, t), an_entry(g, u));
+            let place = g.rng.below(3) as usize;
+            if !alike(g, (t, i), (u, j), place) {
+                return None;
+            }
+            let s = name_of(g, t, i).clone();
+            *name_of(g, u, j) = s;
+            Some(i)
+        });
+        c.plan(0, &format!("names, {label}, that differ in one byte from 128 on"), move |g| {
+            let (i, j) = (an_entry(g, t), an_entry(g, u));
+            let place = g.rng.below(3) as usize;
+            alike(g, (t, i), (u, j), place).then_some(i)
+        });
         c.plan(2, &format!("name: {label}"), move |g| {
             let (i, j) = (an_entry(g, t), an_entry(g, u));
             if g.rng.one_in(2) {
@@ -1427,6 +1469,12 @@ fn accepted(c: &mut Clauses) {
                 true
             },
         );
+        for place in 0..3 {
+            c.plan(0, &format!("{} name differs from another in {} byte, from 128 on", TABLES[t], PLACES[place]), move |g| {
+                let (i, j) = (an_entry(g, t), an_entry(g, t));
+                (i != j && alike(g, (t, i), (t, j), place)).then_some(i)
+            });
+        }
         for (label, words) in [("a reserved word", RUST), ("a word of SMT-LIB 2.7", SMTLIB_27)] {
             c.plan(0, &format!("{} name close to {label}", TABLES[t]), move |g| {
                 let i = an_entry(g, t);

@@ -16,6 +16,8 @@ mod problem;
 mod reduce;
 mod seen;
 mod show;
+#[path = "../spelling.rs"]
+mod spelling;
 #[path = "../terms.rs"]
 mod terms;
 #[path = "../words.rs"]
@@ -252,8 +254,8 @@ fn compare(count: u64, seed: u64) -> bool {
         t.most_terms = t.most_terms.max(told.terms);
         let (which, lent) = room(&mut rng, (number == 0).then_some(full.count));
         let want = added::with_room(full, lent);
-        // no byte of a script is above 126
-        let fill = rng.from_to(128, 255) as u8;
+        // no byte of a script is one of these, nor is it 0
+        let fill = if rng.one_in(4) { 127 } else { rng.from_to(11, 31) as u8 };
         if check::script(&p, &want, lent, fill, &mut bytes).is_some() {
             println!("problem {i} of seed {seed}");
             // made again, in case the port changed it

@@ -166,6 +166,8 @@ pub struct Grower<'r> {
     rusts: bool,
     formulas: u64,
     short_names: bool,
+    /// one byte in so many of a name is from 128 on; 0: none, so that the Rust is asked with the names themselves
+    high: u64,
 }
 
 const WIDTHS: [u64; 26] =
@@ -174,7 +176,7 @@ const WIDTHS: [u64; 26] =
 fn permitted(name: &[u8]) -> bool {
     !name.is_empty()
         && !matches!(name[0], b'@' | b'.')
-        && name.iter().all(|b| (32..=126).contains(b) && !matches!(b, b'|' | b'\\'))
+        && name.iter().all(|b| *b >= 32 && !matches!(b, b'|' | b'\\' | 127))
         && !words::is_reserved(name)
 }
 
@@ -196,6 +198,7 @@ impl<'r> Grower<'r> {
             rusts: rng.one_in(2),
             formulas: rng.from_to(1, 4),
             short_names: rng.one_in(2),
+            high: rng.pick(&[0, 0, 0, 0, 0, 1, 3, 20]),
             rng,
         }
     }
@@ -214,7 +217,13 @@ impl<'r> Grower<'r> {
         }
         let mut s: Vec<u8> = vec![];
         while (s.len() as u64) < n {
-            s.push(if self.rng.one_in(3) { self.rng.from_to(32, 126) } else { self.rng.from_to(97, 122) } as u8);
+            s.push(if self.high > 0 && self.rng.one_in(self.high) {
+                self.rng.from_to(128, 255)
+            } else if self.rng.one_in(3) {
+                self.rng.from_to(32, 126)
+            } else {
+                self.rng.from_to(97, 122)
+            } as u8);
         }
         s
     }

@@ -86,6 +86,11 @@ pub fn features(p: &Problem) -> Vec<String> {
     put(any(&|a, s, l| s + l == a.len()), "a name at the end of its arena");
     put(any(&|a, s, l| a[s..s + l].contains(&32)), "a name with byte 32");
     put(any(&|a, s, l| a[s..s + l].contains(&126)), "a name with byte 126");
+    put(any(&|a, s, l| a[s..s + l].contains(&128)), "a name with byte 128");
+    put(any(&|a, s, l| a[s..s + l].contains(&255)), "a name with byte 255");
+    put(any(&|a, s, _| a[s] >= 128), "a name that begins with a byte from 128 on");
+    put(any(&|a, s, l| a[s + l - 1] >= 128), "a name that ends with a byte from 128 on");
+    put(!any(&|a, s, l| a[s..s + l].iter().any(|b| *b >= 128)), "no name with a byte from 128 on");
     put(any(&|a, s, l| a[s + 1..s + l].iter().any(|b| matches!(b, b'@' | b'.'))), "a name with @ or a full stop inside");
     let arrays = || p.index_width.iter().zip(&p.value_width);
     put(arrays().any(|(i, v)| (*i, *v) != (32, 8)), "an array of other widths than the Rust's");

@@ -22,8 +22,8 @@ use Rattle.smtlib.specs.Readings.{operators, Reads}
 use Rattle.smtlib.specs.Sorts.{WellSorted}
 use Rattle.echo_spec.specs.Input.{Problem, ArrayWidths, arrayColumns, nodesOf, no-node, dagOf}
 use Rattle.echo_spec.specs.Widths.{node-wf, ext-wf}
-use Rattle.echo_spec.specs.Names.{rustWords, smtlib27Words, reserved}
-use Rattle.echo_spec.specs.NameLaws.{allNames}
+use Rattle.echo_spec.specs.Names.{byteOk, rustWords, smtlib27Words, reserved}
+use Rattle.echo_spec.specs.NameLaws.{NameByte, name-byte, byte-named, allNames, word-refused, byte-refused}
 use Rattle.echo_spec.specs.Render.{symbolOf}
 use Rattle.echo_spec.specs.Answers.{Answer, ext-wf-answer, reading, echo-ext-answer}
 use Rattle.sliver_kernel.specs.declared.Outcome.{Outcome}
@@ -49,7 +49,7 @@ use Rattle.theorems.specs.Answered.{
   accepted-whole,
   room-refusal,
   BeforeNames,
-  reserved-refused,
+  named-refused,
   script-lexed,
   script-sorted,
   script-only,
@@ -93,7 +93,16 @@ room-only = room-refusal
 pub added-words-refused : (p : Problem) (lent : List ℕ) (n : Name) → T (inList n (map bytes smtlib27Words)) → T (inList n (allNames (dagOf p)))
     → BeforeNames p → echo-ext-answer p lent .number ≡ 2
 unfolding reserved
-added-words-refused p lent n w h b = reserved-refused p lent n b (in-right n (map bytes rustWords) (map bytes smtlib27Words) w) h
+added-words-refused p lent n w h b = named-refused p lent n b (word-refused n (in-right n (map bytes rustWords) (map bytes smtlib27Words) w)) h
+
+-- The bytes that a name may have are those from 32 to 255 but for 127, the bar (124) and the backslash (92): so each from 128 to 255.
+pub name-bytes : (c : ℕ) → T (byteOk c) ↔ NameByte c
+name-bytes c = (name-byte c, byte-named c)
+
+-- A name with any other byte, declared in any of the tables, is 2, if no check before that of the names refuses the problem.
+pub other-bytes-refused : (p : Problem) (lent : List ℕ) (n : Name) (c : ℕ) → T (among n c) → (NameByte c → ⊥) → T (inList n (allNames (dagOf p)))
+    → BeforeNames p → echo-ext-answer p lent .number ≡ 2
+other-bytes-refused p lent n c a k h b = named-refused p lent n b (byte-refused n c a k) h
 
 -- ---------------------------------------------------------------- each script is well sorted
 

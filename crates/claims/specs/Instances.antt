@@ -1,7 +1,7 @@
 -- The claims at problems: each speaks of something. One problem has an array, a function with arguments and one without, and a rotation.
 use Prim.Native.Nat.{ℕ, _≤_, _<_}
 use mathlib.Core.Path.{_≡_, refl, subst}
-use mathlib.Core.List.{List, [], _∷_, _++_}
+use mathlib.Core.List.{List, [], _∷_, _++_, map}
 use mathlib.Core.Bool.{false}
 use native.Mathlib.Omega.{arith}
 use lib.Dec.{T}
@@ -9,12 +9,14 @@ use lib.ListN.{length, getD, take, replicate}
 use Rattle.lists.specs.Bytes.{bytes}
 use Rattle.lists.specs.Tests.{same, same-refl}
 use Rattle.reading.specs.Kinds.{Var, Const, ZeroExt, Eq, Rotl, Not, Select, Call}
+use Rattle.reading.specs.Trees.{Name}
 use Rattle.smtlib.specs.Lexicon.{Lex}
 use Rattle.smtlib.specs.Grammar.{Script, scriptTokens}
 use Rattle.smtlib.specs.Sorts.{WellSorted}
 use Rattle.smtlib.specs.Readings.{Reads}
 use Rattle.echo_spec.specs.Input.{Problem, nodesOf, no-node}
 use Rattle.echo_spec.specs.Widths.{node-wf, ext-wf}
+use Rattle.echo_spec.specs.Names.{byteOk}
 use Rattle.echo_spec.specs.Answers.{reading, ext-wf-answer, echo-ext-answer}
 use Rattle.echo_spec.specs.Examples.{noArrays, node, problem, var, fun, lent, eleven, allMeet}
 use Rattle.refusals.specs.declared.EchoError.the-variants.{Room}
@@ -30,6 +32,8 @@ use Rattle.claims.specs.Claims.{
   accepts-exactly,
   room-only,
   added-words-refused,
+  name-bytes,
+  other-bytes-refused,
   well-sorted,
   one-lexing,
   one-reading,
@@ -120,6 +124,13 @@ added-word : echo-ext-answer integer (lent 200) .number ≡ 2
 unfolding allMeet integer
 added-word = added-words-refused integer (lent 200) (bytes "int_to_bv") tt tt before-names
 
+-- bytes from 128 on are permitted
+high-bytes : T (byteOk 128) × T (byteOk 255)
+high-bytes =
+    let permitted : (c : ℕ) → 128 ≤ c → c ≤ 255 → T (byteOk c) =
+    λ c l h. name-bytes c .1 (record { printable = omega arith; no-delete = λ e. omega arith; in-byte = h; no-bar = λ e. omega arith; no-backslash = λ e. omega arith }) in
+    (permitted 128 (omega arith) (omega arith), permitted 255 (omega arith) (omega arith))
+
 -- ---------------------------------------------------------------- scripts
 
 sorted : (s : Script) × WellSorted s
@@ -141,6 +152,101 @@ equal = equal-scripts (example eleven) (example three) (lent 300) (lent 400) acc
 unequal : ((reading (example eleven) .declarations ≡ reading (example two) .declarations)
     × (reading (example eleven) .assertions ≡ reading (example two) .assertions)) → ⊥
 unequal h = other-script (equal-scripts (example eleven) (example two) (lent 300) (lent 300) accepted-eleven accepted-two .1 h)
+
+-- ---------------------------------------------------------------- names in other alphabets
+
+-- a problem with names of these bytes: a variable of width 8, an array that is read at it and a function that is called on it
+named : Name → Name → Name → Problem
+named x m f = record {
+  nodes = node Var 8 0 0 0 ++ (node ZeroExt 0 24 0 0 ++ (node Select 0 1 0 0 ++ (node Call 0 8 0 1 ++ node Eq 2 3 0 0)));
+  bits = [];
+  side = 0 ∷ [];
+  roots = 4 ∷ [];
+  names = x;
+  name-start = 0 ∷ [];
+  name-len = length x ∷ [];
+  var-node = 0 ∷ [];
+  var-width = 8 ∷ [];
+  anames = m;
+  aname-start = 0 ∷ [];
+  aname-len = length m ∷ [];
+  index-width = 32 ∷ [];
+  value-width = 8 ∷ [];
+  fnames = f;
+  fname-start = 0 ∷ [];
+  fname-len = length f ∷ [];
+  func-width = 8 ∷ [];
+}
+
+-- German for a check sum, Japanese for a region in two characters, and German for a size; the bytes are those of UTF-8
+checksum : Name
+checksum = 80 ∷ 114 ∷ 195 ∷ 188 ∷ 102 ∷ 115 ∷ 117 ∷ 109 ∷ 109 ∷ 101 ∷ []
+
+region : Name
+region = 233 ∷ 160 ∷ 152 ∷ 229 ∷ 159 ∷ 159 ∷ []
+
+size : Name
+size = 71 ∷ 114 ∷ 195 ∷ 182 ∷ 195 ∷ 159 ∷ 101 ∷ []
+
+-- the region with its last byte changed: another character
+otherRegion : Name
+otherRegion = 233 ∷ 160 ∷ 152 ∷ 229 ∷ 159 ∷ 160 ∷ []
+
+foreign : Problem
+foreign = named checksum region size
+
+elsewhere : Problem
+elsewhere = named checksum otherRegion size
+
+accepted-foreign : Accepts foreign (lent 300)
+unfolding allMeet named checksum region size foreign
+accepted-foreign = refl
+
+accepted-elsewhere : Accepts elsewhere (lent 300)
+unfolding allMeet named checksum otherRegion size elsewhere
+accepted-elsewhere = refl
+
+-- the names stand in the script as they are
+foreign-script : printed foreign
+    ≡ bytes "(set-logic QF_AUFBV)\n(declare-const |" ++ (checksum ++ (bytes "| (_ BitVec 8))\n(declare-const |" ++ (region ++ (bytes "| (Array (_ BitVec 32) (_ BitVec 8)))\n(declare-fun |"
+    ++ (size ++ (bytes "| ((_ BitVec 8)) (_ BitVec 8))\n(assert (= (select |" ++ (region ++ (bytes "| ((_ zero_extend 24) |" ++ (checksum ++ (bytes "|)) (|" ++ (size
+    ++ (bytes "| |" ++ (checksum ++ bytes "|)))\n(check-sat)\n")))))))))))))
+unfolding allMeet named checksum region size foreign
+foreign-script = refl
+
+foreign-sorted : (s : Script) × Lex (printed foreign) (scriptTokens s) × WellSorted s
+foreign-sorted = let w = well-sorted foreign (lent 300) accepted-foreign in (w .0, w .1, w .2)
+
+foreign-read : Reads (printed foreign) (reading foreign)
+foreign-read = one-reading foreign (lent 300) accepted-foreign (reading foreign) .1 refl
+
+-- the names that are read are those bytes
+foreign-names : (map (λ v. v .name) (reading foreign .declarations .variables) ≡ checksum ∷ [])
+    × (map (λ a. a .name) (reading foreign .declarations .arrays) ≡ region ∷ [])
+    × (map (λ f. f .name) (reading foreign .declarations .functions) ≡ size ∷ [])
+unfolding allMeet named checksum region size foreign
+foreign-names = (refl, refl, refl)
+
+-- one byte of one name: other bytes, so other declarations or other trees
+foreign-other : printed foreign ≡ printed elsewhere → ⊥
+unfolding allMeet named checksum region otherRegion size foreign elsewhere
+foreign-other e = subst (λ (l : List ℕ). T (same (printed foreign) l)) e (same-refl (printed foreign))
+
+foreign-unequal : ((reading foreign .declarations ≡ reading elsewhere .declarations)
+    × (reading foreign .assertions ≡ reading elsewhere .assertions)) → ⊥
+foreign-unequal h = foreign-other (equal-scripts foreign elsewhere (lent 300) (lent 300) accepted-foreign accepted-elsewhere .1 h)
+
+-- 127 in a name is 2
+deleting : Problem
+deleting = named checksum (109 ∷ 127 ∷ []) size
+
+before-deleting : BeforeNames deleting
+unfolding allMeet named checksum size deleting
+before-deleting = record { limits = tt; encoding = tt; columns = tt; arrays = tt; widths = tt }
+
+delete-refused : echo-ext-answer deleting (lent 300) .number ≡ 2
+unfolding allMeet named checksum size deleting
+delete-refused = other-bytes-refused deleting (lent 300) (109 ∷ 127 ∷ []) 127 tt (λ b. b .no-delete refl) tt before-deleting
 
 -- ---------------------------------------------------------------- calls of the printer
 
@@ -175,6 +281,22 @@ read-bytes = bytes-read (example eleven) (lent 300) (after (example eleven) 300)
 equal-bytes : take 299 (after (example eleven) 300) ≡ take 299 (after (example three) 400)
 equal-bytes =
     bytes-equal (example eleven) (example three) (lent 300) (lent 400) (after (example eleven) 300) (after (example three) 400) 299 299 called called-three .1 equal
+
+-- and of what a call writes for names in other alphabets
+foreign-called : EchoContract (Printed 277) foreign (lent 300) (after foreign 300)
+unfolding allMeet named checksum region size foreign after
+foreign-called = refl
+
+elsewhere-called : EchoContract (Printed 277) elsewhere (lent 300) (after elsewhere 300)
+unfolding allMeet named checksum otherRegion size elsewhere after
+elsewhere-called = refl
+
+foreign-bytes-read : Reads (take 277 (after foreign 300)) (reading foreign)
+foreign-bytes-read = bytes-read foreign (lent 300) (after foreign 300) 277 foreign-called (reading foreign) .1 refl
+
+foreign-bytes-differ : take 277 (after foreign 300) ≡ take 277 (after elsewhere 300) → ⊥
+foreign-bytes-differ e =
+    foreign-unequal (bytes-equal foreign elsewhere (lent 300) (lent 300) (after foreign 300) (after elsewhere 300) 277 277 foreign-called elsewhere-called .0 e)
 
 -- ---------------------------------------------------------------- calls of the width pass
 

@@ -84,14 +84,14 @@ pub fn same_bytes(a: &[u8], b: &[u8]) -> bool
 
 // ---------------------------------------------------------------- bytes of a name
 
-// A byte that a name may have: printable ASCII, no bar and no backslash.
+// A byte that a name may have: from 32 on, but for 127, the bar and the backslash. Bytes from 128 on are taken as they come.
 fn byte_ok(c: u8) -> bool
     ensures { λ r. ⌜ r ≡ byteOk c ⌝ }
 {
     if c < 32 {
         return false;
     }
-    if c > 126 {
+    if c == 127 {
         return false;
     }
     if c == b'|' {

@@ -1,5 +1,5 @@
 -- Examples of 2: which names a table may declare.
-use Prim.Native.Nat.{ℕ}
+use Prim.Native.Nat.{ℕ, _+_}
 use Prim.Native.String.{String}
 use mathlib.Core.Path.{_≡_, refl}
 use mathlib.Core.List.{List, [], _∷_, _++_, map}
@@ -9,10 +9,11 @@ use lib.ListN.{length, replicate}
 use Rattle.lists.specs.Bytes.{bytes}
 use Rattle.lists.specs.Tests.{same, distinct}
 use Rattle.lists.specs.Build.{tabulate}
+use Rattle.reading.specs.Trees.{Name}
 use Rattle.echo_spec.specs.Input.{Problem}
 use Rattle.echo_spec.specs.Names.{byteOk, firstOk, rustWords, smtlib27Words, reserved}
 use Rattle.echo_spec.specs.Answers.{Answer, echo-ext-answer}
-use Rattle.echo_spec.specs.Examples.{problem, var, fun, Example, given, wanted, refuses, passes, allMeet}
+use Rattle.echo_spec.specs.Examples.{joined, problem, var, fun, Example, given, wanted, refuses, passes, allMeet}
 
 -- ---------------------------------------------------------------- bytes
 
@@ -43,30 +44,45 @@ nameAt arena start len = record {
 abbrev number : Problem → ℕ
 number p = echo-ext-answer p [] .number
 
--- each byte from 0 to 255: 32 to 126 but for \ (92) and | (124)
+-- each number from 0 to 257: 32 to 255 but for \ (92), | (124) and 127
 abbrev no : ℕ → List Bool
 no n = replicate n false
 
 abbrev yes : ℕ → List Bool
 yes n = replicate n true
 
-name-bytes : tabulate 256 byteOk ≡ no 32 ++ (yes 60 ++ (no 1 ++ (yes 31 ++ (no 1 ++ (yes 2 ++ no 129)))))
+name-bytes : tabulate 258 byteOk ≡ no 32 ++ (yes 60 ++ (no 1 ++ (yes 31 ++ (no 1 ++ (yes 2 ++ (no 1 ++ (yes 128 ++ no 2)))))))
 unfolding byteOk
 name-bytes = refl
 
 -- and as the first byte: any but the full stop (46) and @ (64)
-first-bytes : tabulate 256 (λ c. firstOk (c ∷ [])) ≡ yes 46 ++ (no 1 ++ (yes 17 ++ (no 1 ++ yes 191)))
+first-bytes : tabulate 258 (λ c. firstOk (c ∷ [])) ≡ yes 46 ++ (no 1 ++ (yes 17 ++ (no 1 ++ yes 193)))
 unfolding firstOk
 first-bytes = refl
 
--- the bytes at which the rules change, after a Q and before one; no reserved word is such a name
+-- the bytes at which the rules change, and those that a bar, a backslash, a full stop or an @ would be with their highest bit set
 edges : List ℕ
-edges = 0 ∷ 31 ∷ 32 ∷ 45 ∷ 46 ∷ 47 ∷ 63 ∷ 64 ∷ 65 ∷ 91 ∷ 92 ∷ 93 ∷ 123 ∷ 124 ∷ 125 ∷ 126 ∷ 127 ∷ 128 ∷ 255 ∷ []
+edges =
+    0 ∷ 31 ∷ 32 ∷ 45 ∷ 46 ∷ 47 ∷ 63 ∷ 64 ∷ 65 ∷ 91 ∷ 92 ∷ 93 ∷ 123 ∷ 124 ∷ 125 ∷ 126 ∷ 127 ∷ 128 ∷ 174 ∷ 192 ∷ 220 ∷ 252 ∷ 254 ∷ 255 ∷ 256 ∷ []
 
-edge-bytes : map (λ c. number (nameAt (81 ∷ c ∷ []) 0 2)) edges ++ map (λ c. number (nameAt (c ∷ 81 ∷ []) 0 2)) edges
-    ≡ 2 ∷ 2 ∷ 10 ∷ 10 ∷ 10 ∷ 10 ∷ 10 ∷ 10 ∷ 10 ∷ 10 ∷ 2 ∷ 10 ∷ 10 ∷ 2 ∷ 10 ∷ 10 ∷ 2 ∷ 2 ∷ 2
-    ∷ 2 ∷ 2 ∷ 10 ∷ 10 ∷ 2 ∷ 10 ∷ 10 ∷ 2 ∷ 10 ∷ 10 ∷ 2 ∷ 10 ∷ 10 ∷ 2 ∷ 10 ∷ 10 ∷ 2 ∷ 2 ∷ 2 ∷ []
-unfolding allMeet edges
+-- alone, and before, between and after two letters Q; no reserved word is such a name
+placed : ℕ → List ℕ
+placed c =
+    map (λ n. number (nameAt n 0 (length n))) ((c ∷ []) ∷ (c ∷ 81 ∷ 81 ∷ []) ∷ (81 ∷ c ∷ 81 ∷ []) ∷ (81 ∷ 81 ∷ c ∷ []) ∷ [])
+
+abbrev anywhere : List ℕ
+anywhere = 10 ∷ 10 ∷ 10 ∷ 10 ∷ []
+
+abbrev nowhere : List ℕ
+nowhere = 2 ∷ 2 ∷ 2 ∷ 2 ∷ []
+
+abbrev notFirst : List ℕ
+notFirst = 2 ∷ 2 ∷ 10 ∷ 10 ∷ []
+
+edge-bytes : map placed edges
+    ≡ nowhere ∷ nowhere ∷ anywhere ∷ anywhere ∷ notFirst ∷ anywhere ∷ anywhere ∷ notFirst ∷ anywhere ∷ anywhere ∷ nowhere ∷ anywhere ∷ anywhere
+    ∷ nowhere ∷ anywhere ∷ anywhere ∷ nowhere ∷ anywhere ∷ anywhere ∷ anywhere ∷ anywhere ∷ anywhere ∷ anywhere ∷ anywhere ∷ nowhere ∷ []
+unfolding allMeet edges placed
 edge-bytes = refl
 
 -- ---------------------------------------------------------------- reserved words
@@ -138,6 +154,65 @@ near-words : inTables nearWords
 unfolding allMeet nearWords inTables
 near-words = refl
 
+-- ---------------------------------------------------------------- names in other alphabets
+
+-- where each name starts in an arena of names end to end
+abbrev startsOf : ℕ → List Name → List ℕ
+startsOf k [] = []
+startsOf k (n ∷ ns) = k ∷ startsOf (k + length n) ns
+
+-- variables, arrays and functions of these names, given by their bytes
+abbrev spelt : List Name → List Name → List Name → Problem
+spelt xs ms fs = record {
+  nodes = [];
+  bits = [];
+  side = [];
+  roots = [];
+  names = joined xs;
+  name-start = startsOf 0 xs;
+  name-len = map (λ n. length n) xs;
+  var-node = map (λ n. 0) xs;
+  var-width = map (λ n. 8) xs;
+  anames = joined ms;
+  aname-start = startsOf 0 ms;
+  aname-len = map (λ n. length n) ms;
+  index-width = map (λ n. 32) ms;
+  value-width = map (λ n. 8) ms;
+  fnames = joined fs;
+  fname-start = startsOf 0 fs;
+  fname-len = map (λ n. length n) fs;
+  func-width = map (λ n. 8) fs;
+}
+
+-- the letters b and c with two bytes from 128 on before, between and after them, as vowels with two dots are in UTF-8
+abbrev umlauts : Name
+umlauts = 195 ∷ 188 ∷ 98 ∷ 195 ∷ 164 ∷ 99 ∷ 195 ∷ 182 ∷ []
+
+-- and with one of these bytes changed
+otherFirst : Name
+otherFirst = 194 ∷ 188 ∷ 98 ∷ 195 ∷ 164 ∷ 99 ∷ 195 ∷ 182 ∷ []
+
+otherMiddle : Name
+otherMiddle = 195 ∷ 188 ∷ 98 ∷ 195 ∷ 165 ∷ 99 ∷ 195 ∷ 182 ∷ []
+
+otherLast : Name
+otherLast = 195 ∷ 188 ∷ 98 ∷ 195 ∷ 164 ∷ 99 ∷ 195 ∷ 150 ∷ []
+
+others : List Name
+others = otherFirst ∷ otherMiddle ∷ otherLast ∷ []
+
+-- a name beside another, as the two of one table and of two (a function that is never called is 7)
+beside : Name → Name → List ℕ
+beside n m =
+    number (spelt (n ∷ m ∷ []) [] []) ∷ number (spelt [] (n ∷ m ∷ []) []) ∷ number (spelt [] [] (n ∷ m ∷ []))
+    ∷ number (spelt (n ∷ []) (m ∷ []) []) ∷ number (spelt (n ∷ []) [] (m ∷ [])) ∷ number (spelt [] (n ∷ []) (m ∷ [])) ∷ []
+
+-- 2 where they are equal, and no refusal of a name where they differ in one byte from 128 on
+beside-others : (beside umlauts umlauts ≡ replicate 6 2)
+    × (map (beside umlauts) others ≡ replicate 3 (10 ∷ 10 ∷ 7 ∷ 10 ∷ 7 ∷ 7 ∷ []))
+unfolding allMeet others otherFirst otherMiddle otherLast beside
+beside-others = (refl, refl)
+
 nameCases : List (Example Answer)
 nameCases =
     -- reserved words in the other tables
@@ -171,6 +246,11 @@ nameCases =
     ∷ refuses "2: a variable and an array" 2 (declared ("x" ∷ "y" ∷ []) ("m" ∷ "x" ∷ []) [])
     ∷ refuses "2: a variable and a function" 2 (declared ("x" ∷ "y" ∷ []) [] ("f" ∷ "y" ∷ []))
     ∷ refuses "2: an array and a function" 2 (declared ("x" ∷ []) ("m" ∷ "k" ∷ []) ("m" ∷ []))
+    -- a byte with its highest bit set is another byte
+    ∷ passes "let and a byte from 128 on" (spelt ((108 ∷ 101 ∷ 116 ∷ 128 ∷ []) ∷ (255 ∷ 108 ∷ 101 ∷ 116 ∷ []) ∷ []) ((108 ∷ 229 ∷ 116 ∷ []) ∷ []) [])
+    ∷ passes "x and the byte 128 above it" (spelt ((120 ∷ []) ∷ (248 ∷ []) ∷ []) [] [])
+    -- one letter, u with two dots, as one code point, as two, and in one byte
+    ∷ passes "three spellings of a letter" (spelt ((195 ∷ 188 ∷ []) ∷ (117 ∷ 204 ∷ 136 ∷ []) ∷ (252 ∷ []) ∷ []) [] [])
     ∷ refuses "7, not 2: all names differ" 7 (declared ("x" ∷ "xx" ∷ []) ("m" ∷ "mm" ∷ []) ("f" ∷ "ff" ∷ []))
     ∷ []
 

@@ -9,9 +9,10 @@ use Rattle.lists.specs.Tests.{every, inList}
 use Rattle.reading.specs.Trees.{Name}
 use Rattle.echo_spec.specs.Input.{Dag, nameTable, anameTable, fnameTable}
 
--- `byte_ok`: from 32 to 126, no bar and no backslash
+-- `byte_ok`, and above 127 the bytes that the Rust does not take: from 32 to 255 without 127, no bar (124) and no backslash (92).
+-- A byte is a byte: nothing here knows of an encoding of letters.
 unfoldable pub byteOk : ℕ → Bool
-byteOk c = leb 32 c && (leb c 126 && (not (eqb c 124) && not (eqb c 92)))
+byteOk c = leb 32 c && (not (eqb c 127) && (leb c 255 && (not (eqb c 124) && not (eqb c 92))))
 
 -- `first_ok`: there is a first byte, and it is no @ and no full stop
 unfoldable pub firstOk : Name → Bool

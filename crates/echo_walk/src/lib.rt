@@ -424,7 +424,7 @@ fn operands_at(
 // A place that came back from a writer is taken apart before it is handed on: a struct that is copied whole waits for its two parts to
 // reach the memory.
 
-// A blank, and node i as a term. Ruled out: operands that change places; a call without its arguments.
+// A blank, and node i as a term. Ruled out: operands that change places; a call without its arguments; operands behind the name of a node.
 pub fn echo_node(
     bytes: &[&[u8]; BYTES],
     numbers: &[&[u64]; NUMBERS],

@@ -19,8 +19,7 @@ use Rattle.smtlib.specs.Sorts.{WellSorted}
 use Rattle.echo_spec.specs.Refusals.{unless, _orElse_}
 use Rattle.echo_spec.specs.Input.{Problem, ArrayWidths, withinLimits, encoded, nodesOf, dagOf, queryOf}
 use Rattle.echo_spec.specs.Widths.{arrayWidthsOk, ext-wf, widthsOf}
-use Rattle.echo_spec.specs.Names.{reserved}
-use Rattle.echo_spec.specs.NameLaws.{allNames, word-refused}
+use Rattle.echo_spec.specs.NameLaws.{nameOk, allNames, name-refused}
 use Rattle.echo_spec.specs.Tables.{columnsOk}
 use Rattle.echo_spec.specs.Walk.{refusalWith, refusal}
 use Rattle.echo_spec.specs.Render.{render}
@@ -219,11 +218,11 @@ pub record BeforeNames (p : Problem) : Type 0 where
   pub arrays : T (arrayWidthsOk (dagOf p .array-widths))
   pub widths : T (eqb (length (widthsOf (queryOf p))) (length (dagOf p .nodes)))
 
--- a reserved word in any of the tables is 2, where nothing before is refused
-pub reserved-refused : (p : Problem) (lent : List ℕ) (n : Name) → BeforeNames p → T (inList n reserved) → T (inList n (allNames (dagOf p)))
+-- a name that breaks a rule by itself, in any of the tables, is 2, where nothing before is refused
+pub named-refused : (p : Problem) (lent : List ℕ) (n : Name) → BeforeNames p → (T (nameOk n) → ⊥) → T (inList n (allNames (dagOf p)))
     → echo-ext-answer p lent .number ≡ 2
 unfolding echo-ext-answer endlessRefusal endlessWith refusalWith
-reserved-refused p lent n b w h =
+named-refused p lent n b k h =
     text-told (endlessRefusal p) (printed p) lent 1 (λ e. omega arith) .1
     (rw (
       T→true (withinLimits p) (b .limits),
@@ -231,7 +230,7 @@ reserved-refused p lent n b w h =
       T→true (columnsOk (dagOf p)) (b .columns),
       T→true (arrayWidthsOk (dagOf p .array-widths)) (b .arrays),
       T→true (eqb (length (widthsOf (queryOf p))) (length (dagOf p .nodes))) (b .widths),
-      word-refused (dagOf p) n w h,
+      name-refused (dagOf p) n k h,
     ))
 
 -- ---------------------------------------------------------------- the script of a problem that passes every check

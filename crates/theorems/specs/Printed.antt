@@ -2,10 +2,10 @@
 use Prim.Native.Nat.{ℕ}
 use mathlib.Core.Path.{_≡_, refl, _∙_}
 use mathlib.Core.List.{List, [], _∷_, _++_}
-use mathlib.Core.Bool.{Bool, false, _&&_, _||_, not}
+use mathlib.Core.Bool.{Bool, true, false, _&&_, _||_, not}
 use mathlib.Core.Option.{Option, none as nothing, some}
 use native.Mathlib.Omega.{arith}
-use lib.Dec.{T, leb, ltb, eqb, eqb→eq, le→leb, lt→ltb, not-T, T-not}
+use lib.Dec.{T, leb, ltb, eqb, nleb→lt, eqb→eq, le→leb, lt→ltb, not-T, T-not}
 use lib.ListN.{length, getD}
 use Rattle.lists.specs.Bytes.{bytes}
 use Rattle.lists.specs.Tests.{
@@ -18,6 +18,7 @@ use Rattle.lists.specs.Tests.{
   and-1,
   and-T,
   or-l,
+  or-r,
   or-elim,
   all-weaken,
   by-test,
@@ -44,18 +45,29 @@ use Rattle.echo_spec.specs.Walk.{refusalWith}
 use Rattle.echo_spec.specs.Accepted.{Checked, accepted}
 use Rattle.echo_spec.specs.NodeLaws.{index-bound, value-bound}
 use Rattle.echo_spec.specs.ColumnLaws.{columns-aligned, names-counted}
-use Rattle.echo_spec.specs.NameLaws.{name-byte, nameOk, allNames, names-distinct, names-ok}
+use Rattle.echo_spec.specs.NameLaws.{NameByte, name-byte, nameOk, allNames, names-distinct, names-ok}
 use Rattle.theorems.specs.Terms.{FitsAll}
 use Rattle.theorems.specs.Fitting.{fits}
 use Rattle.theorems.specs.Scripts.{bools, wide, SoundDeclarations, Sound}
 
 -- ---------------------------------------------------------------- names
 
+split : {C : Type 0} (a : Bool) → (T a → C) → (T (not a) → C) → C
+split true f g = f tt
+split false f g = g tt
+
+-- the standard has the printable bytes in two ranges, below 127 and above
+quotable-range : (c : ℕ) → NameByte c → T ((leb 32 c && leb c 126) || ((leb 128 c && leb c 255) || blank c))
+quotable-range c b =
+    split (leb c 126) (λ low. or-l (leb 32 c && leb c 126) _ (and-T (leb 32 c) (leb c 126) (le→leb 32 c (b .printable)) low)) λ high.
+    or-r (leb 32 c && leb c 126) _
+    (or-l (leb 128 c && leb c 255) (blank c)
+    (and-T (leb 128 c) (leb c 255) (le→leb 128 c (omega (arith, nleb→lt c 126 high, b .no-delete))) (le→leb c 255 (b .in-byte))))
+
 pub quotable-byte : (c : ℕ) → T (byteOk c) → T (quotable c)
 quotable-byte c t =
     let b = name-byte c t in
-    and-T ((leb 32 c && leb c 126) || ((leb 128 c && leb c 255) || blank c)) (not (among (124 ∷ 92 ∷ []) c))
-    (or-l (leb 32 c && leb c 126) _ (and-T (leb 32 c) (leb c 126) (le→leb 32 c (b .printable)) (le→leb c 126 (b .ascii))))
+    and-T ((leb 32 c && leb c 126) || ((leb 128 c && leb c 255) || blank c)) (not (among (124 ∷ 92 ∷ []) c)) (quotable-range c b)
     (not-T (among (124 ∷ 92 ∷ []) c) λ q.
     or-elim (eqb c 124) (among (92 ∷ []) c) q (λ e. b .no-bar (eqb→eq c 124 e))
     (λ q. or-elim (eqb c 92) false q (λ e. b .no-backslash (eqb→eq c 92 e)) (λ z. z)))

@@ -3,8 +3,8 @@
 
 use smt_echo::{Problem, Refusal, echo_ext, kind, node};
 
-/// What the output is filled with before a call: no byte of a script, and not 0.
-pub const FILL: u8 = 0xAA;
+/// What the output is filled with before a call: no byte of a script, since no name may have it, and not 0.
+pub const FILL: u8 = 0x7F;
 
 pub const M1_SCRIPT: &str = "(set-logic QF_BV)\n(check-sat)\n";
 
@@ -49,7 +49,7 @@ pub fn script(problem: &Problem<'_>, room: usize) -> String {
     assert_eq!(echo_ext(problem, &mut short), Err(Refusal::Room));
     assert!(short.iter().all(|&b| b == 0), "a refusal zeroes the output");
 
-    String::from_utf8(out).expect("a script is ASCII")
+    String::from_utf8(out).expect("the names are UTF-8")
 }
 
 /// The number of a refused problem, with a check that the whole output is zeroed, for outputs of several lengths.

@@ -1,0 +1,6 @@
+(set-logic QF_AUFBV)
+(declare-const |Prüfsumme| (_ BitVec 8))
+(declare-const |領域| (Array (_ BitVec 32) (_ BitVec 8)))
+(declare-fun |Größe| ((_ BitVec 8)) (_ BitVec 8))
+(assert (distinct (|Größe| |Prüfsumme|) (|Größe| |Prüfsumme|)))
+(check-sat)

@@ -1,0 +1,8 @@
+(set-logic QF_BV)
+(declare-const |ü| (_ BitVec 8))
+(declare-const |ü| (_ BitVec 8))
+(declare-const |�| (_ BitVec 8))
+(assert (distinct |ü| |ü|))
+(assert (distinct |ü| |�|))
+(assert (distinct |ü| |�|))
+(check-sat)
