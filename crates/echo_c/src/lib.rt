@@ -2,81 +2,15 @@
 // include/echo.h. A slice is a pointer and a `size_t`; the answer is a struct of numbers.
 pub mod size;
 
-use echo_kernel::Echo;
-use refusals::ARRAY_WIDTH;
-use refusals::ENCODING;
-use refusals::LIMIT;
-use refusals::MALFORMED;
-use refusals::ROOM;
-use sliver_kernel::Outcome;
+use c_answers::EchoAnswer;
+use c_answers::WidthAnswer;
+use c_answers::echo_answer;
+use c_answers::width_answer;
 ghost use mathlib.Core.Path.{_≡_};
 ghost use Rattle.echo_spec.specs.Input.{arrayColumns};
 ghost use Rattle.echo_spec.specs.Answers.{echo-ext-answer, ext-wf-answer};
 ghost use Rattle.lent.specs.Lent.{problemOf};
-ghost use Rattle.echo_kernel.specs.Outcomes as echo;
-ghost use Rattle.sliver_kernel.specs.Outcomes as widths;
-ghost use Rattle.echo_c.specs.Answered.{printed, passed};
-
-// What the printer answers. Number 0: the script is written, and length is its length. Any other number: a refusal, and length is 0.
-#[repr(C)]
-pub struct EchoAnswer {
-    pub number: u64,
-    pub length: u64,
-}
-
-// What the width pass answers. Number 0: the widths are written, and count is how many. Number 1: count is the node refused, or
-// the node count where the two columns of the array table differ in length. Any other number: count is 0.
-#[repr(C)]
-pub struct WidthAnswer {
-    pub number: u64,
-    pub count: u64,
-}
-
-fn echo_answer(r: Echo) -> EchoAnswer
-    ensures { λ a. ⌜ (a .number ≡ echo.number r) × (a .length ≡ echo.count r) ⌝ }
-{
-    match r {
-        Echo::Printed(n) => EchoAnswer {
-            number: 0,
-            length: n as u64,
-        },
-        Echo::Refused(e) => EchoAnswer {
-            number: refusals::number_of(e),
-            length: 0,
-        },
-    }
-}
-
-fn width_answer(r: Outcome) -> WidthAnswer
-    ensures { λ a. ⌜ (a .number ≡ widths.number r) × (a .count ≡ widths.count r) ⌝ }
-{
-    match r {
-        Outcome::Accepted(n) => WidthAnswer {
-            number: 0,
-            count: n as u64,
-        },
-        Outcome::Refused(n) => WidthAnswer {
-            number: MALFORMED,
-            count: n as u64,
-        },
-        Outcome::Encoding => WidthAnswer {
-            number: ENCODING,
-            count: 0,
-        },
-        Outcome::Limit => WidthAnswer {
-            number: LIMIT,
-            count: 0,
-        },
-        Outcome::Room => WidthAnswer {
-            number: ROOM,
-            count: 0,
-        },
-        Outcome::ArrayWidth => WidthAnswer {
-            number: ARRAY_WIDTH,
-            count: 0,
-        },
-    }
-}
+ghost use Rattle.c_answers.specs.Answered.{printed, passed};
 
 // The printer.
 #[no_mangle]

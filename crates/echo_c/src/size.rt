@@ -1,36 +1,10 @@
 // The size of a script, for C.
-use echo_size::Size;
+use c_answers::SizeAnswer;
+use c_answers::size_answer;
 ghost use mathlib.Core.Path.{_≡_};
 ghost use Rattle.lent.specs.Lent.{problemOf};
 ghost use Rattle.sizes.specs.Size.{echo-size-answer};
-ghost use Rattle.echo_size.specs.Sized as sized;
-ghost use Rattle.echo_c.specs.Answered.{told};
-
-// What is told of a script. Number 0: length is the script's length, and terms is how many terms the walk enters. Any other number: a
-// refusal, and both are 0.
-#[repr(C)]
-pub struct SizeAnswer {
-    pub number: u64,
-    pub length: u64,
-    pub terms: u64,
-}
-
-fn size_answer(r: Size) -> SizeAnswer
-    ensures { λ a. ⌜ (a .number ≡ sized.number r) × (a .length ≡ sized.length r) × (a .terms ≡ sized.terms r) ⌝ }
-{
-    match r {
-        Size::Script(n, t) => SizeAnswer {
-            number: 0,
-            length: n as u64,
-            terms: t,
-        },
-        Size::Refused(e) => SizeAnswer {
-            number: refusals::number_of(e),
-            length: 0,
-            terms: 0,
-        },
-    }
-}
+ghost use Rattle.c_answers.specs.Answered.{told};
 
 // The size of the script that the printer prints where there is room.
 #[no_mangle]

@@ -3,9 +3,9 @@ use Prim.Native.Nat.{ℕ}
 use mathlib.Core.List.{List}
 use Rattle.echo_spec.specs.Answers.{Answer}
 use Rattle.sizes.specs.Size as sizes
-use Rattle.echo_c.specs.declared.EchoAnswer.{EchoAnswer}
-use Rattle.echo_c.specs.declared.WidthAnswer.{WidthAnswer}
-use Rattle.echo_c.specs.declared.size.SizeAnswer.{SizeAnswer}
+use Rattle.c_answers.specs.declared.EchoAnswer.{EchoAnswer}
+use Rattle.c_answers.specs.declared.WidthAnswer.{WidthAnswer}
+use Rattle.c_answers.specs.declared.SizeAnswer.{SizeAnswer}
 
 abbrev pub printed : EchoAnswer → List ℕ → Answer
 printed r out = record { number = r .number; count = r .length; output = out }
