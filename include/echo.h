@@ -1,5 +1,6 @@
 /*
- * The printer `echo_ext`, the size of its script `echo_size`, and the width pass `ext_wf`, for C and C++.
+ * The printer `echo_ext`, the same with constants hidden `echo_hidden`, the size of a script `echo_size`, and the width pass `ext_wf`,
+ * for C and C++.
  *
  * The library is target/staticlib/libecho_c.a, written by `rt staticlib echo_c`. It is for x86-64 with the System V calling
  * convention. It allocates nothing, keeps nothing between calls and needs only memcpy and memset of the C library.
@@ -43,7 +44,7 @@ enum {
 };
 
 /*
- * The numbers that are answered. echo_ext answers any of them, echo_size any but ECHO_ROOM. ext_wf answers ECHO_ACCEPTED,
+ * The numbers that are answered. echo_ext and echo_hidden answer any of them, echo_size any but ECHO_ROOM. ext_wf answers ECHO_ACCEPTED,
  * ECHO_MALFORMED, ECHO_ENCODING, ECHO_LIMIT, ECHO_ROOM or ECHO_ARRAY_WIDTH. If several things are wrong, the order is 9, 8, 1 (columns),
  * 12, 1 (width pass), 2, 6, 4 and 7 (declarations), then what the walk over the roots meets first, and 10 last.
  */
@@ -164,7 +165,7 @@ enum {
     ECHO_KIND_CALL = 38        /* function, width, side start, n: n arguments in side */
 };
 
-/* What echo_ext answers. */
+/* What echo_ext and echo_hidden answer. */
 struct echo_answer {
     uint64_t number; /* ECHO_ACCEPTED, or why the problem is refused */
     uint64_t length; /* the length of the script; 0 with a refusal */
@@ -227,11 +228,49 @@ struct echo_answer echo_ext(
     uint8_t *out, size_t out_len);
 
 /*
+ * Prints a problem as echo_ext does, but each constant shows zeros in its width, so that a script can be sent on without the addresses
+ * that are in it. It takes what echo_ext takes.
+ *
+ * Number and length are those of echo_ext with the same inputs and an output of the same length: the hidden script is refused as the plain
+ * one is, and as long. Accepted or refused, the output is as echo_ext says. It is as recursive as echo_ext.
+ *
+ * Two problems that differ in bits alone, each of them 0 or 1, and in none that lies in the constant of some rotation's amount, reached or
+ * not, have one answer: the same number, the same length, the same script.
+ *
+ * What a hidden script still shows: every name, every width, the amount of each rotation modulo its width, the numbers of extracts and
+ * extensions, and the shape of the terms, with the places where constants stand and how wide they are. While the call runs the output
+ * holds the plain script; when it is back it does not.
+ *
+ * Nothing is promised about equal problems: two problems with one hidden script may be told apart by any constant. A solver's answer to
+ * a hidden script says nothing about the problem.
+ */
+struct echo_answer echo_hidden(
+    const uint8_t *nodes, size_t nodes_len,
+    const uint8_t *bits, size_t bits_len,
+    const uint64_t *side, size_t side_len,
+    const uint64_t *roots, size_t roots_len,
+    const uint8_t *names, size_t names_len,
+    const uint64_t *name_start, size_t name_start_len,
+    const uint64_t *name_len, size_t name_len_len,
+    const uint64_t *var_node, size_t var_node_len,
+    const uint64_t *var_width, size_t var_width_len,
+    const uint8_t *anames, size_t anames_len,
+    const uint64_t *aname_start, size_t aname_start_len,
+    const uint64_t *aname_len, size_t aname_len_len,
+    const uint64_t *index_width, size_t index_width_len,
+    const uint64_t *value_width, size_t value_width_len,
+    const uint8_t *fnames, size_t fnames_len,
+    const uint64_t *fname_start, size_t fname_start_len,
+    const uint64_t *fname_len, size_t fname_len_len,
+    const uint64_t *func_width, size_t func_width_len,
+    uint8_t *out, size_t out_len);
+
+/*
  * Tells the size of the script that echo_ext prints, so that the output can be set aside beforehand. It takes the inputs of echo_ext and
  * writes nothing.
  *
  * Accepted: number is ECHO_ACCEPTED, and length is the length of the script: echo_ext accepts with an output of that length or a longer
- * one, and answers ECHO_ROOM with a shorter one. terms is how many terms the walk over the roots enters: variables, constants and
+ * one, and answers ECHO_ROOM with a shorter one; echo_hidden likewise. terms is how many terms the walk over the roots enters: variables, constants and
  * operators, each as often as it stands there. A rotation's amount is none; a select is one, with its index and the index and value of
  * each store. Terms other than variables and constants are no more than there are nodes.
  *

@@ -102,6 +102,24 @@ fn sized(label: &str, p: &Problem) {
     );
 }
 
+/// The script with constants hidden, beside the plain one.
+fn hidden(label: &str, p: &Problem, out: &mut [u8]) {
+    let Answer(number, length) = problem::echo(p, out);
+    assert_eq!((number, problem::hidden(p, out)), (0, Answer(0, length)), "{label}");
+    let mut other = vec![0u8; length as usize];
+    let t = pairs(&mut || { black_box(problem::echo(p, out)); }, &mut || {
+        black_box(problem::hidden(p, &mut other));
+    });
+    println!(
+        "| {label} | {length} | {:.1} | {:.1} | {:.2} | {:.2} to {:.2} |",
+        t.rust * 1e6,
+        t.port * 1e6,
+        t.ratio[0],
+        t.ratio[1],
+        t.ratio[2]
+    );
+}
+
 fn main() {
     let wanted = std::env::args().nth(1).unwrap_or_default();
     let all: Vec<_> = shapes::all().into_iter().filter(|s| s.0.contains(&wanted)).collect();
@@ -139,10 +157,18 @@ fn main() {
         assert_eq!(problem::size(p).1, Decoded::of(p).echo().unwrap().len() as u64, "{label}");
         sized(label, p);
     }
+    if wanted.is_empty() {
+        sized("the longest script", &shapes::longest());
+    }
+    println!();
+    println!("| hidden, port alone | script bytes | plain us | hidden us | ratio | 10th to 90th |");
+    println!("|---|---|---|---|---|---|");
+    for (label, p) in &all {
+        hidden(label, p, &mut out);
+    }
     if !wanted.is_empty() {
         return;
     }
-    sized("the longest script", &shapes::longest());
     println!();
     println!("| refusal, port alone | number | buffer bytes | us | 10th to 90th |");
     println!("|---|---|---|---|---|");

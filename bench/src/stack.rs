@@ -195,6 +195,7 @@ fn main() {
     println!("| problem | nodes | side entries | Rust, KB | port, KB |");
     println!("|---|---|---|---|---|");
     let mut worst = (0, 0);
+    let mut hidden = 0;
     for (label, p) in &all {
         let d = Decoded::of(p);
         let mut script = Err(0);
@@ -206,8 +207,10 @@ fn main() {
         assert!(out[..script.len()] == script[..], "{label}: the bytes differ");
         println!("| {label} | {} | {} | {} | {} |", p.count(), p.side.len(), rust.div_ceil(1000), port.div_ceil(1000));
         worst = (worst.0.max(rust), worst.1.max(port));
+        hidden = hidden.max(used(stack, &mut || assert_eq!(problem::hidden(p, &mut out), answer)));
     }
     println!("| the largest | | | {} | {} |", worst.0.div_ceil(1000), worst.1.div_ceil(1000));
+    println!("| the largest, with constants hidden | | | | {} |", hidden.div_ceil(1000));
     let mut ws = vec![0u64; 2048];
     let p = shapes::balanced(8);
     let d = Decoded::of(&p);

@@ -1,10 +1,12 @@
-//! Makes the recorded lists: `record widths OUT`, `record printer OUT` and `record sizes OUT`. The problems follow from a seed; the answers
+//! Makes the recorded lists: `record LIST OUT`, where LIST is widths, printer, sizes or hidden. The problems follow from a seed; the answers
 //! are the Rust's (oracle.rs), with what documents 01 and 02 add around it (added.rs), and with names that it takes in the place of those
-//! with bytes from 128 on (spelling.rs). Sizes are those of the Rust's scripts.
+//! with bytes from 128 on (spelling.rs). Sizes are those of the Rust's scripts, and hidden scripts are put together from two of them (hidden.rs).
 mod added;
 mod alphabets;
 mod arrays;
 mod both;
+mod hidden;
+mod hidden_problems;
 mod list;
 mod oracle;
 mod printer;
@@ -106,6 +108,18 @@ fn check_spelling(p: &problem::Problem) {
 /// What the replay fills the lent bytes with beforehand.
 const FILL_BYTE: u8 = 127;
 
+/// How much is lent, by the length of the script.
+fn room_for(p: &problem::Problem, room: printer::Room) -> usize {
+    let len = added::script_len(p).unwrap_or(64);
+    match room {
+        printer::Room::Exact => len,
+        printer::Room::OneShort => len - 1,
+        printer::Room::Empty => 0,
+        printer::Room::Longer(n) => len + n,
+        printer::Room::Fixed(n) => n,
+    }
+}
+
 fn record_printer(out: &str, long: bool) {
     check_added_words();
     check_high_bytes();
@@ -114,14 +128,7 @@ fn record_printer(out: &str, long: bool) {
     let mut accepted = 0;
     for c in printer::all().into_iter().chain(arrays::of_printer()) {
         check_spelling(&c.problem);
-        let len = added::script_len(&c.problem).unwrap_or(64);
-        let room = match c.room {
-            printer::Room::Exact => len,
-            printer::Room::OneShort => len - 1,
-            printer::Room::Empty => 0,
-            printer::Room::Longer(n) => len + n,
-            printer::Room::Fixed(n) => n,
-        };
+        let room = room_for(&c.problem, c.room);
         let a = added::print_answer(&c.problem, room);
         assert!(!a.result.contains(&FILL_BYTE), "a script has the byte that the replay fills with");
         accepted += (a.number == 0) as usize;
@@ -157,6 +164,42 @@ fn record_sizes(out: &str, long: bool) {
     finish(&list, &tally, out, long);
 }
 
+/// Problems of its own, and of the printer's those that print a constant, each once, and every tenth of the others.
+fn record_hidden(out: &str, long: bool) {
+    let mut list = list::List::new(b"HIDDEN 2");
+    let mut tally = Tally::default();
+    let mut seen = HashSet::new();
+    let mut changed = 0;
+    for (label, p, room) in hidden_problems::all() {
+        let room = room_for(&p, room);
+        let a = hidden::answer(&p, room);
+        changed += (a.number == 0 && a.result != added::print_answer(&p, room).result) as usize;
+        tally.note(label, None, a.number);
+        list.add(&list::of_script(&p, room, &a));
+    }
+    let mut others = 0;
+    for c in printer::all().into_iter().chain(arrays::of_printer()) {
+        let room = room_for(&c.problem, c.room);
+        let plain = added::print_answer(&c.problem, room);
+        if !seen.insert(list::of_script(&c.problem, room, &plain)) {
+            continue;
+        }
+        if !plain.result.contains(&b'#') || plain.result.len() > 40_000 {
+            others += 1;
+            if others % 10 != 0 {
+                continue;
+            }
+        }
+        let a = hidden::answer(&c.problem, room);
+        assert!(!a.result.contains(&FILL_BYTE), "a script has the byte that the replay fills with");
+        changed += (a.number == 0 && a.result != plain.result) as usize;
+        tally.note(&c.label, c.want, a.number);
+        list.add(&list::of_script(&c.problem, room, &a));
+    }
+    println!("scripts other than the plain ones: {changed}");
+    finish(&list, &tally, out, long);
+}
+
 fn run() {
     let words: Vec<String> = std::env::args().skip(1).collect();
     let long = words.iter().any(|w| w == "--clauses");
@@ -164,8 +207,9 @@ fn run() {
         (Some("widths"), Some(out)) => record_widths(out, long),
         (Some("printer"), Some(out)) => record_printer(out, long),
         (Some("sizes"), Some(out)) => record_sizes(out, long),
+        (Some("hidden"), Some(out)) => record_hidden(out, long),
         _ => {
-            eprintln!("record widths|printer|sizes OUT [--clauses]");
+            eprintln!("record widths|printer|sizes|hidden OUT [--clauses]");
             std::process::exit(2);
         }
     }

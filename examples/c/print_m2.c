@@ -1,6 +1,7 @@
 /*
  * Prints one problem: is there an 8-bit x with x + 5 = x? It is the marked case M2. The output is set aside by the length that
- * echo_size tells; the first line has the label, the number, the length and how many terms the walk enters. The script follows.
+ * echo_size tells; the first line has the label, the number, the length and how many terms the walk enters. The script follows, and then
+ * the same script with its constant hidden, which is as long.
  */
 #include <stdio.h>
 #include <stdlib.h>
@@ -72,7 +73,18 @@ int main(void)
 
     printf("M2 %llu %llu %llu\n", (unsigned long long)answer.number, (unsigned long long)answer.length, (unsigned long long)size.terms);
     /* The script has no byte 0 at its end: its length says where it ends. */
-    const int written = answer.number == ECHO_ACCEPTED && fwrite(out, 1, room, stdout) == room && fflush(stdout) == 0;
+    int written = answer.number == ECHO_ACCEPTED && fwrite(out, 1, room, stdout) == room;
+
+    const struct echo_answer hidden = echo_hidden(
+        nodes, sizeof nodes,
+        bits, 8,
+        no_numbers, 0, /* side */
+        roots, 1,
+        names, 1, name_start, 1, name_len, 1, var_node, 1, var_width, 1,
+        no_bytes, 0, no_numbers, 0, no_numbers, 0, no_numbers, 0, no_numbers, 0, /* arrays */
+        no_bytes, 0, no_numbers, 0, no_numbers, 0, no_numbers, 0,                /* functions */
+        out, room);
+    written = written && hidden.number == ECHO_ACCEPTED && hidden.length == size.length && fwrite(out, 1, room, stdout) == room && fflush(stdout) == 0;
     free(out);
     return written ? 0 : 2;
 }

@@ -1,7 +1,7 @@
 //! A printer of SMT-LIB scripts, proved: a problem over bit-vectors, arrays and functions is printed whole or refused by a number.
 //!
-//! This package is a thin, safe layer over the proved library. [`echo_ext`] prints a [`Problem`], [`echo_size`] tells beforehand how long
-//! its script is, and [`ext_wf`] is the width pass alone.
+//! This package is a thin, safe layer over the proved library. [`echo_ext`] prints a [`Problem`], [`echo_hidden`] prints it with constants
+//! hidden, [`echo_size`] tells beforehand how long its script is, and [`ext_wf`] is the width pass alone.
 //! Terms are node records ([`node`], [`kind`]), and every input is a slice that is lent for the call.
 //!
 //! Is there an 8-bit `x` with `x + 5 = x`?
@@ -163,11 +163,57 @@ pub fn node(kind: u8, operands: [u32; 4]) -> [u8; NODE_BYTES] {
 ///
 /// The walk is recursive: see [Stack](crate#stack).
 pub fn echo_ext(problem: &Problem<'_>, out: &mut [u8]) -> Result<usize, Refusal> {
-    let answer = raw::echo_ext(problem, out);
+    length_of(raw::echo_ext(problem, out))
+}
+
+fn length_of(answer: raw::EchoAnswer) -> Result<usize, Refusal> {
     match answer.number {
         0 => Ok(answer.length as usize),
         n => Err(refusal::of_number(n)),
     }
+}
+
+/// Prints a problem as [`echo_ext`] does, but each constant shows zeros in its width: a script that can be sent on without the addresses
+/// that are in it.
+///
+/// The length or the refusal is the one that [`echo_ext`] answers with a buffer of the same length, and `out` is treated alike. Two
+/// problems that differ in bits alone, each 0 or 1, and in none that lies in the constant of some rotation's amount, reached or not, have
+/// the same answer and the same script.
+///
+/// A hidden script still shows names, widths, the amounts of rotations, the numbers of extracts and extensions, and the shape of the
+/// terms. Nothing is promised about equal problems: two problems with one hidden script may differ in any constant, and a solver's answer
+/// to a hidden script says nothing about the problem. While the call runs `out` holds the plain script; when it is back it does not.
+///
+/// ```
+/// use smt_echo::{Problem, echo_hidden, kind, node};
+///
+/// let nodes = [
+///     node(kind::VAR, [8, 0, 0, 0]),
+///     node(kind::CONST, [0, 8, 0, 0]),
+///     node(kind::ROTL, [0, 1, 0, 0]), // by the constant, 3
+///     node(kind::EQ, [2, 1, 0, 0]),
+/// ]
+/// .concat();
+/// let problem = Problem {
+///     nodes: &nodes,
+///     bits: &[1, 1, 0, 0, 0, 0, 0, 0],
+///     roots: &[3],
+///     names: b"x",
+///     name_start: &[0],
+///     name_len: &[1],
+///     var_node: &[0],
+///     var_width: &[8],
+///     ..Problem::default()
+/// };
+/// let mut out = [0; 200];
+/// let length = echo_hidden(&problem, &mut out)?;
+/// assert!(out[..length].ends_with(b"(assert (= ((_ rotate_left 3) |x|) #b00000000))\n(check-sat)\n"));
+/// # Ok::<(), Box<dyn std::error::Error>>(())
+/// ```
+///
+/// The walk is recursive: see [Stack](crate#stack).
+pub fn echo_hidden(problem: &Problem<'_>, out: &mut [u8]) -> Result<usize, Refusal> {
+    length_of(raw::echo_hidden(problem, out))
 }
 
 /// What [`echo_size`] tells of a script.

@@ -94,6 +94,10 @@ pub fn script(p: &Problem, want: &Answer<u8>, room: usize, fill: u8, lent: &mut 
     run(p, want, room, fill, lent, port::script)
 }
 
+pub fn hidden(p: &Problem, want: &Answer<u8>, room: usize, fill: u8, lent: &mut Vec<u8>) -> Option<Found<u8>> {
+    run(p, want, room, fill, lent, port::hidden)
+}
+
 /// What the port has to tell beforehand of the Rust's answer with endless room; a refusal has no length and no terms.
 pub fn expected_size(full: &Answer<u8>) -> Size {
     Size { number: full.number as u64, length: full.result.len() as u64, terms: terms::of_script(&full.result) }

@@ -5,6 +5,8 @@
 mod added;
 mod check;
 mod clauses;
+#[path = "../hidden.rs"]
+mod hidden;
 mod lay;
 #[path = "../oracle.rs"]
 mod oracle;
@@ -189,16 +191,22 @@ impl Tally {
     }
 }
 
-fn report_script(p: &Problem, room: usize, fill: u8) {
+/// A script's answer by the Rust, and the port's beside it.
+type Asked = (fn(&Problem, usize) -> Answer<u8>, fn(&Problem, &Answer<u8>, usize, u8, &mut Vec<u8>) -> Option<check::Found<u8>>);
+
+const PLAIN: Asked = (added::print_answer, check::script);
+const HIDDEN: Asked = (hidden::answer, check::hidden);
+
+fn report_script((ask, check): Asked, what: &str, p: &Problem, room: usize, fill: u8) {
     let differs = |q: &Problem, room: usize| {
-        let want = added::print_answer(q, room);
-        check::script(&q.clone(), &want, room, fill, &mut vec![]).is_some()
+        let want = ask(q, room);
+        check(&q.clone(), &want, room, fill, &mut vec![]).is_some()
     };
-    println!("the printers differ on a problem of {} nodes; made smaller:", p.count());
+    println!("the {what} scripts differ on a problem of {} nodes; made smaller:", p.count());
     let (q, room) = reduce::reduce(p, room, Duration::from_secs(60), &differs, &added::script_len);
     show::problem(&q);
-    let want = added::print_answer(&q, room);
-    let found = check::script(&q, &want, room, fill, &mut vec![]).expect("the smaller problem differs too");
+    let want = ask(&q, room);
+    let found = check(&q, &want, room, fill, &mut vec![]).expect("the smaller problem differs too");
     show::answers(&want, room, &found, show::bytes);
 }
 
@@ -259,7 +267,12 @@ fn compare(count: u64, seed: u64) -> bool {
         if check::script(&p, &want, lent, fill, &mut bytes).is_some() {
             println!("problem {i} of seed {seed}");
             // made again, in case the port changed it
-            report_script(&problem_of(&all, i, &mut numbers_of(seed, i)).0, lent, fill);
+            report_script(PLAIN, "plain", &problem_of(&all, i, &mut numbers_of(seed, i)).0, lent, fill);
+            return false;
+        }
+        if check::hidden(&p, &hidden::answer(&p, lent), lent, fill, &mut bytes).is_some() {
+            println!("problem {i} of seed {seed}");
+            report_script(HIDDEN, "hidden", &problem_of(&all, i, &mut numbers_of(seed, i)).0, lent, fill);
             return false;
         }
 

@@ -1,8 +1,11 @@
 pub mod WidthAnswers
 pub mod SizeAnswers
+pub mod HiddenAnswers
 pub mod Claims
 pub mod ArrayClaims
 pub mod ArrayInstances
 pub mod SizeClaims
+pub mod HiddenClaims
 pub mod Instances
 pub mod SizeInstances
+pub mod HiddenInstances

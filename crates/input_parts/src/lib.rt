@@ -1,5 +1,5 @@
 // The printer's eighteen inputs as parts of one byte string, by the number of the input, from 0: where the elements of each begin and how
-// many there are. Who has a problem in bytes finds the places, and this calls the printer, or asks for the size, with what lies there.
+// many there are. Who has a problem in bytes finds the places, and this calls the printer, hides constants, or asks for the size, with what lies there.
 // Under "Ruled out" stand wrong programs that a public function's contract refuses.
 use echo_kernel::Echo;
 use echo_size::Size;
@@ -12,6 +12,7 @@ ghost use Prim.Native.Nat.{_+_, _*_, _≤_, _<_};
 ghost use lib.ListN.{length, take, getD};
 ghost use Rattle.echo_spec.specs.Answers.{atFront, echo-ext-answer};
 ghost use Rattle.sizes.specs.Size.{echo-size-answer};
+ghost use Rattle.hidden.specs.Hidden.{echo-hidden-answer};
 ghost use Rattle.echo_kernel.specs.Outcomes.{answered};
 ghost use Rattle.echo_size.specs.Sized as sized;
 ghost use Rattle.input_parts.specs.Parts as parts;
@@ -125,10 +126,11 @@ pub fn taken<'a>(counts: &[usize; INPUTS], k: usize, column: &'a [u64]) -> &'a [
 
 // ---------------------------------------------------------------- all inputs
 
-// What is asked of a problem: its script, or the script's size.
+// What is asked of a problem: its script, the script's size, or the script with its constants hidden.
 enum Asked {
     Print,
     Measure,
+    Hide,
 }
 
 // What is told of it; of the two, what was not asked for is some refusal.
@@ -227,6 +229,30 @@ fn tell<'a>(
                 fw,
             ),
         },
+        Asked::Hide => Told {
+            echo: echo_hidden::echo_hidden(
+                nodes,
+                bits,
+                entries,
+                asserted,
+                names,
+                ns,
+                nl,
+                vn,
+                vw,
+                anames,
+                ans,
+                anl,
+                iw,
+                vws,
+                fnames,
+                fns,
+                fnl,
+                fw,
+                out,
+            ),
+            size: Size::Refused(EchoError::Limit),
+        },
     }
 }
 
@@ -316,6 +342,20 @@ pub fn print_parts(
     ensures { λ r. ⌜ answered r (now (out .exit)) ≡ echo-ext-answer (parts.problemFrom (now (s .entry)) (now (starts .entry)) (now (counts .entry))) (now (out .entry)) ⌝ }
 {
     let t = ask_parts(s, starts, counts, Asked::Print, out);
+    t.echo
+}
+
+// The same with constants hidden. Ruled out: the plain script; a column that keeps its zeros.
+pub fn hidden_parts(
+    s: &[u8],
+    starts: &[usize; INPUTS],
+    counts: &[usize; INPUTS],
+    out: &mut [u8],
+) -> Echo
+    requires { ⌜ Inside (now s) (now starts) (now counts) ⌝ }
+    ensures { λ r. ⌜ answered r (now (out .exit)) ≡ echo-hidden-answer (parts.problemFrom (now (s .entry)) (now (starts .entry)) (now (counts .entry))) (now (out .entry)) ⌝ }
+{
+    let t = ask_parts(s, starts, counts, Asked::Hide, out);
     t.echo
 }
 

@@ -3,7 +3,7 @@ use borrow.Author.Needs.{needs}
 use mathlib.Core.Path.{refl}
 use native.Mathlib.Omega.{arith}
 use Rattle.input_parts.specs.Parts.{sizes, sizeOf}
-use Rattle.input_parts.proofs.Laws.{parts-are, printed-told, measured-told}
+use Rattle.input_parts.proofs.Laws.{parts-are, printed-told, measured-told, hidden-told}
 use Rattle.input_parts.proofs.tell.Statement.{statement}
 use Rattle.input_parts.proofs.tell.Tie as tie
 
@@ -110,6 +110,12 @@ enum-told-2 c = search needs
 echo-size-requires : tie.Need-echo-size-requires
 echo-size-requires c κs = search needs
 
+enum-told-3 : tie.Need-enum-told-3
+enum-told-3 c = search needs
+
+echo-hidden-requires : tie.Need-echo-hidden-requires
+echo-hidden-requires c κs = search needs
+
 same-length : tie.Need-same-length
 same-length c = search needs
 
@@ -163,6 +169,34 @@ returns-2 c =
     let echo-size = c .echo-size in
     measured-told _ _ _ (enum-told2 .given .1) (echo-size .ensures) (parts-are (bytes-of .ensures) (bytes-of2 .ensures) (taken .ensures) (taken2 .ensures) (bytes-of3 .ensures) (taken3 .ensures) (taken4 .ensures) (taken5 .ensures) (taken6 .ensures) (bytes-of4 .ensures) (taken7 .ensures) (taken8 .ensures) (taken9 .ensures) (taken10 .ensures) (bytes-of5 .ensures) (taken11 .ensures) (taken12 .ensures) (taken13 .ensures) (start .pre .1))
 
+same-length-2 : tie.Need-same-length-2
+same-length-2 c = search needs
+
+returns-3 : tie.Need-returns-3
+returns-3 c =
+    let start = c .before .before .before .before .before .before .before .before .before .before .before .before .before .before .before .before .before .before .before .before .before .before .before .before .before .before .before .before .before .before .before .before .before .before .before .before .before .before .before in
+    let bytes-of = c .before .before .before .before .before .before .before .before .before .before .before .before .before .before .before .before .before .before .before .before .before .before .before .bytes-of in
+    let bytes-of2 = c .before .before .before .before .before .before .before .before .before .before .before .before .before .before .before .before .before .before .before .before .before .before .bytes-of2 in
+    let taken = c .before .before .before .before .before .before .before .before .before .before .before .before .before .before .before .before .before .before .before .before .before .taken in
+    let taken2 = c .before .before .before .before .before .before .before .before .before .before .before .before .before .before .before .before .before .before .before .before .taken2 in
+    let bytes-of3 = c .before .before .before .before .before .before .before .before .before .before .before .before .before .before .before .before .before .before .before .bytes-of3 in
+    let taken3 = c .before .before .before .before .before .before .before .before .before .before .before .before .before .before .before .before .before .before .taken3 in
+    let taken4 = c .before .before .before .before .before .before .before .before .before .before .before .before .before .before .before .before .before .taken4 in
+    let taken5 = c .before .before .before .before .before .before .before .before .before .before .before .before .before .before .before .before .taken5 in
+    let taken6 = c .before .before .before .before .before .before .before .before .before .before .before .before .before .before .before .taken6 in
+    let bytes-of4 = c .before .before .before .before .before .before .before .before .before .before .before .before .before .before .bytes-of4 in
+    let taken7 = c .before .before .before .before .before .before .before .before .before .before .before .before .before .taken7 in
+    let taken8 = c .before .before .before .before .before .before .before .before .before .before .before .before .taken8 in
+    let taken9 = c .before .before .before .before .before .before .before .before .before .before .before .taken9 in
+    let taken10 = c .before .before .before .before .before .before .before .before .before .before .taken10 in
+    let bytes-of5 = c .before .before .before .before .before .before .before .before .before .bytes-of5 in
+    let taken11 = c .before .before .before .before .before .before .before .before .taken11 in
+    let taken12 = c .before .before .before .before .before .before .before .taken12 in
+    let taken13 = c .before .before .before .before .before .before .taken13 in
+    let enum-told3 = c .before .before .before .before .enum-told3 in
+    let echo-hidden = c .before .before .echo-hidden in
+    hidden-told _ _ _ (enum-told3 .given .1) (echo-hidden .ensures) (parts-are (bytes-of .ensures) (bytes-of2 .ensures) (taken .ensures) (taken2 .ensures) (bytes-of3 .ensures) (taken3 .ensures) (taken4 .ensures) (taken5 .ensures) (taken6 .ensures) (bytes-of4 .ensures) (taken7 .ensures) (taken8 .ensures) (taken9 .ensures) (taken10 .ensures) (bytes-of5 .ensures) (taken11 .ensures) (taken12 .ensures) (taken13 .ensures) (start .pre .1))
+
 pub tell-spec : {M : Type 1} → statement M
 tell-spec =
     tie.close
@@ -189,6 +223,10 @@ tell-spec =
     echo-ext-requires
     enum-told-2
     echo-size-requires
+    enum-told-3
+    echo-hidden-requires
     same-length
     returns
-    returns-2)
+    returns-2
+    same-length-2
+    returns-3)
