@@ -1,6 +1,6 @@
 /*
- * The printer `echo_ext`, the same with constants hidden `echo_hidden`, the size of a script `echo_size`, and the width pass `ext_wf`,
- * for C and C++.
+ * The printer `echo_ext`, the same with constants hidden `echo_hidden`, the same with shared terms bound by let `echo_let`, the size of a
+ * script `echo_size`, and the width pass `ext_wf`, for C and C++.
  *
  * The library is target/staticlib/libecho_c.a, written by `rt staticlib echo_c`. It is for x86-64 with the System V calling
  * convention. It allocates nothing, keeps nothing between calls and needs only memcpy and memset of the C library.
@@ -44,9 +44,10 @@ enum {
 };
 
 /*
- * The numbers that are answered. echo_ext and echo_hidden answer any of them, echo_size any but ECHO_ROOM. ext_wf answers ECHO_ACCEPTED,
+ * The numbers that are answered. echo_ext and echo_hidden answer any of them but ECHO_CLASH, echo_let any but ECHO_SHARED, echo_size any but
+ * ECHO_ROOM and ECHO_CLASH. ext_wf answers ECHO_ACCEPTED,
  * ECHO_MALFORMED, ECHO_ENCODING, ECHO_LIMIT, ECHO_ROOM or ECHO_ARRAY_WIDTH. If several things are wrong, the order is 9, 8, 1 (columns),
- * 12, 1 (width pass), 2, 6, 4 and 7 (declarations), then what the walk over the roots meets first, and 10 last.
+ * 12, 1 (width pass), 2, 6 or for echo_let 11, 4 and 7 (declarations), then what the walk over the roots meets first, and 10 last.
  */
 enum {
     /* The result is at the front of the output. */
@@ -87,7 +88,7 @@ enum {
 
     /*
      * A node that is neither variable nor constant is used twice or more, by operands, side entries and roots together, reached or
-     * not. Repeat the node for each use: the script is a tree.
+     * not. Repeat the node for each use, since the script is a tree, or print with echo_let.
      */
     ECHO_SHARED = 6,
 
@@ -112,6 +113,12 @@ enum {
      * here; echo_size tells the length to set aside, and a problem within the limits can need more than a machine has.
      */
     ECHO_ROOM = 10,
+
+    /*
+     * Of echo_let alone: a declared name, in any table, is the letter d and the number of a node, in decimal without leading zeros, that
+     * ECHO_SHARED would be about, reached or not. Rename it.
+     */
+    ECHO_CLASH = 11,
 
     /* An element of index_width or value_width is 0 or above ECHO_MAX_ARRAY_WIDTH, whether a node names the array or not. */
     ECHO_ARRAY_WIDTH = 12
@@ -165,7 +172,7 @@ enum {
     ECHO_KIND_CALL = 38        /* function, width, side start, n: n arguments in side */
 };
 
-/* What echo_ext and echo_hidden answer. */
+/* What echo_ext, echo_hidden and echo_let answer. */
 struct echo_answer {
     uint64_t number; /* ECHO_ACCEPTED, or why the problem is refused */
     uint64_t length; /* the length of the script; 0 with a refusal */
@@ -245,6 +252,40 @@ struct echo_answer echo_ext(
  * a hidden script says nothing about the problem.
  */
 struct echo_answer echo_hidden(
+    const uint8_t *nodes, size_t nodes_len,
+    const uint8_t *bits, size_t bits_len,
+    const uint64_t *side, size_t side_len,
+    const uint64_t *roots, size_t roots_len,
+    const uint8_t *names, size_t names_len,
+    const uint64_t *name_start, size_t name_start_len,
+    const uint64_t *name_len, size_t name_len_len,
+    const uint64_t *var_node, size_t var_node_len,
+    const uint64_t *var_width, size_t var_width_len,
+    const uint8_t *anames, size_t anames_len,
+    const uint64_t *aname_start, size_t aname_start_len,
+    const uint64_t *aname_len, size_t aname_len_len,
+    const uint64_t *index_width, size_t index_width_len,
+    const uint64_t *value_width, size_t value_width_len,
+    const uint8_t *fnames, size_t fnames_len,
+    const uint64_t *fname_start, size_t fname_start_len,
+    const uint64_t *fname_len, size_t fname_len_len,
+    const uint64_t *func_width, size_t func_width_len,
+    uint8_t *out, size_t out_len);
+
+/*
+ * Prints a problem as echo_ext does, but in each assertion every node that is neither variable nor constant, is reached from the root and is
+ * used twice or more is bound by let, the lowest node outermost, under the name d and its number: (let ((|d2| T)) B). Uses are
+ * counted as for ECHO_SHARED, over all nodes, side entries and roots; a rotation's amount is a use and is not reached. It takes what
+ * echo_ext takes.
+ *
+ * ECHO_SHARED does not occur. In its place a declared name that is a shared node's is ECHO_CLASH. In each assertion the bound terms are
+ * checked first, the lowest first and each with its own sort, and then the root. Accepted or refused, the output is as echo_ext says.
+ *
+ * With the lets unfolded the script says the problem's declarations and trees. Equal scripts mean equal trees; equal trees may have
+ * different scripts. A problem without shared nodes is answered as by echo_ext, byte for byte. echo_size speaks of echo_ext and not of
+ * this script. It needs up to 60 KB more stack than echo_ext.
+ */
+struct echo_answer echo_let(
     const uint8_t *nodes, size_t nodes_len,
     const uint8_t *bits, size_t bits_len,
     const uint64_t *side, size_t side_len,

@@ -120,6 +120,42 @@ fn hidden(label: &str, p: &Problem, out: &mut [u8]) {
     );
 }
 
+/// The script with shared terms bound by `let`, beside the plain one, where nothing is shared.
+fn bound(label: &str, p: &Problem, out: &mut [u8]) {
+    let Answer(number, length) = problem::echo(p, out);
+    assert_eq!((number, problem::lets(p, out)), (0, Answer(0, length)), "{label}");
+    let mut other = vec![0u8; length as usize];
+    let t = pairs(&mut || { black_box(problem::echo(p, out)); }, &mut || {
+        black_box(problem::lets(p, &mut other));
+    });
+    println!(
+        "| {label} | {length} | {:.1} | {:.1} | {:.2} | {:.2} to {:.2} |",
+        t.rust * 1e6,
+        t.port * 1e6,
+        t.ratio[0],
+        t.ratio[1],
+        t.ratio[2]
+    );
+}
+
+/// The same where operators are shared, which the plain printer refuses.
+fn bound_alone(label: &str, p: &Problem) {
+    let mut out = vec![0u8; 100_000_000];
+    assert_eq!(problem::echo(p, &mut []), Answer(6, 0), "{label}");
+    let Answer(number, length) = problem::lets(p, &mut out);
+    assert_eq!(number, 0, "{label}");
+    out.truncate(length as usize);
+    let mut call = || {
+        black_box(problem::lets(p, &mut out));
+    };
+    let once = seconds(2, &mut call);
+    let calls = ((0.0002 / once) as usize).max(1);
+    let rounds = ((0.5 / (once * calls as f64)) as usize).clamp(5, 501);
+    let ts = sorted((0..rounds).map(|_| 1e6 * seconds(calls, &mut call)).collect());
+    let ns = 1000.0 * at(&ts, 0.5) / length as f64;
+    println!("| {label} | {length} | {:.1} | {:.1} to {:.1} | {ns:.2} |", at(&ts, 0.5), at(&ts, 0.1), at(&ts, 0.9));
+}
+
 fn main() {
     let wanted = std::env::args().nth(1).unwrap_or_default();
     let all: Vec<_> = shapes::all().into_iter().filter(|s| s.0.contains(&wanted)).collect();
@@ -165,6 +201,18 @@ fn main() {
     println!("|---|---|---|---|---|---|");
     for (label, p) in &all {
         hidden(label, p, &mut out);
+    }
+    println!();
+    println!("| let, nothing shared, port alone | script bytes | plain us | let us | ratio | 10th to 90th |");
+    println!("|---|---|---|---|---|---|");
+    for (label, p) in &all {
+        bound(label, p, &mut out);
+    }
+    println!();
+    println!("| let, port alone | script bytes | us | 10th to 90th | ns a byte |");
+    println!("|---|---|---|---|---|");
+    for (label, p) in &shapes::shared() {
+        bound_alone(label, p);
     }
     if !wanted.is_empty() {
         return;

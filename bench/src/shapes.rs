@@ -311,3 +311,40 @@ pub fn all() -> Vec<(&'static str, Problem)> {
         ("512 widths of 20 digits", declarations(u64::MAX, 12_345_678_901_234_567)),
     ]
 }
+
+/// Problems with shared operators, for the printer with `let`.
+pub fn shared() -> Vec<(&'static str, Problem)> {
+    let mut out = Vec::new();
+    // 2,000 sums, each of the one before it twice
+    let mut p = Problem::default();
+    let x = p.var(b"x", 32);
+    let mut last = p.node(kind::ADD, &[x, x]);
+    for _ in 1..2000 {
+        last = p.node(kind::ADD, &[last, last]);
+    }
+    p.root_eq(last, last);
+    out.push(("2,000 doublings", p));
+    // 256 roots over one shared part of 1,500 sums
+    let mut p = Problem::default();
+    let x = p.var(b"x", 32);
+    let mut last = p.node(kind::ADD, &[x, x]);
+    for _ in 1..1500 {
+        last = p.node(kind::ADD, &[last, last]);
+    }
+    for _ in 0..256 {
+        p.root_eq(last, x);
+    }
+    out.push(("256 roots over 1,500 shared nodes", p));
+    // 256 short roots behind 1,700 nodes that none reaches
+    let mut p = Problem::default();
+    let x = p.var(b"x", 32);
+    let mut last = p.node(kind::ADD, &[x, x]);
+    for _ in 1..1700 {
+        last = p.node(kind::ADD, &[last, last]);
+    }
+    for _ in 0..256 {
+        p.root_eq(x, x);
+    }
+    out.push(("256 short roots, 1,700 shared nodes not reached", p));
+    out
+}

@@ -196,6 +196,7 @@ fn main() {
     println!("|---|---|---|---|---|");
     let mut worst = (0, 0);
     let mut hidden = 0;
+    let (mut lets, mut shared) = (0, 0);
     for (label, p) in &all {
         let d = Decoded::of(p);
         let mut script = Err(0);
@@ -208,9 +209,17 @@ fn main() {
         println!("| {label} | {} | {} | {} | {} |", p.count(), p.side.len(), rust.div_ceil(1000), port.div_ceil(1000));
         worst = (worst.0.max(rust), worst.1.max(port));
         hidden = hidden.max(used(stack, &mut || assert_eq!(problem::hidden(p, &mut out), answer)));
+        lets = lets.max(used(stack, &mut || assert_eq!(problem::lets(p, &mut out), answer)));
+        // the same with its root given twice, so that it is bound
+        let mut twice = p.clone();
+        let root = twice.roots[0];
+        twice.roots.push(root);
+        shared = shared.max(used(stack, &mut || assert_eq!(problem::lets(&twice, &mut out).0, 0)));
     }
     println!("| the largest | | | {} | {} |", worst.0.div_ceil(1000), worst.1.div_ceil(1000));
     println!("| the largest, with constants hidden | | | | {} |", hidden.div_ceil(1000));
+    println!("| the largest, with let and nothing shared | | | | {} |", lets.div_ceil(1000));
+    println!("| the largest, with let and the root bound | | | | {} |", shared.div_ceil(1000));
     let mut ws = vec![0u64; 2048];
     let p = shapes::balanced(8);
     let d = Decoded::of(&p);

@@ -1,12 +1,15 @@
-//! Makes the recorded lists: `record LIST OUT`, where LIST is widths, printer, sizes or hidden. The problems follow from a seed; the answers
+//! Makes the recorded lists: `record LIST OUT`, where LIST is widths, printer, sizes, hidden or let. The problems follow from a seed; the answers
 //! are the Rust's (oracle.rs), with what documents 01 and 02 add around it (added.rs), and with names that it takes in the place of those
 //! with bytes from 128 on (spelling.rs). Sizes are those of the Rust's scripts, and hidden scripts are put together from two of them (hidden.rs).
+//! Scripts with `let` are those of a printer of their own (lets.rs).
 mod added;
 mod alphabets;
 mod arrays;
 mod both;
 mod hidden;
 mod hidden_problems;
+mod lets;
+mod lets_problems;
 mod list;
 mod oracle;
 mod printer;
@@ -200,6 +203,40 @@ fn record_hidden(out: &str, long: bool) {
     finish(&list, &tally, out, long);
 }
 
+/// Problems of its own, and of the printer's those that it refuses for a shared node, each once, and every tenth of the others.
+fn record_let(out: &str, long: bool) {
+    let mut list = list::List::new(b"LET    2");
+    let mut tally = Tally::default();
+    let mut seen = HashSet::new();
+    let (mut bound, mut others) = (0, 0);
+    let own = lets_problems::all().into_iter().map(|(label, p, room)| (label.to_string(), p, room));
+    let printers = printer::all().into_iter().chain(arrays::of_printer()).filter_map(|c| {
+        let plain = added::print_answer(&c.problem, usize::MAX);
+        if !seen.insert(list::of_script(&c.problem, 0, &plain)) || plain.result.len() > 40_000 {
+            return None;
+        }
+        others += (plain.number != 6) as usize;
+        (plain.number == 6 || others % 10 == 0).then_some((c.label, c.problem, c.room))
+    });
+    for (label, p, room) in own.chain(printers) {
+        let len = lets::script_len(&p).unwrap_or(64);
+        let room = match room {
+            printer::Room::Exact => len,
+            printer::Room::OneShort => len - 1,
+            printer::Room::Empty => 0,
+            printer::Room::Longer(n) => len + n,
+            printer::Room::Fixed(n) => n,
+        };
+        let a = lets::answer(&p, room);
+        assert!(!a.result.contains(&FILL_BYTE), "a script has the byte that the replay fills with");
+        bound += a.result.windows(6).any(|w| w == b"(let (") as usize;
+        tally.note(&label, None, a.number);
+        list.add(&list::of_script(&p, room, &a));
+    }
+    println!("scripts that bind: {bound}");
+    finish(&list, &tally, out, long);
+}
+
 fn run() {
     let words: Vec<String> = std::env::args().skip(1).collect();
     let long = words.iter().any(|w| w == "--clauses");
@@ -208,8 +245,9 @@ fn run() {
         (Some("printer"), Some(out)) => record_printer(out, long),
         (Some("sizes"), Some(out)) => record_sizes(out, long),
         (Some("hidden"), Some(out)) => record_hidden(out, long),
+        (Some("let"), Some(out)) => record_let(out, long),
         _ => {
-            eprintln!("record widths|printer|sizes|hidden OUT [--clauses]");
+            eprintln!("record widths|printer|sizes|hidden|let OUT [--clauses]");
             std::process::exit(2);
         }
     }

@@ -1,7 +1,7 @@
 //! A printer of SMT-LIB scripts, proved: a problem over bit-vectors, arrays and functions is printed whole or refused by a number.
 //!
 //! This package is a thin, safe layer over the proved library. [`echo_ext`] prints a [`Problem`], [`echo_hidden`] prints it with constants
-//! hidden, [`echo_size`] tells beforehand how long its script is, and [`ext_wf`] is the width pass alone.
+//! hidden, [`echo_let`] prints it with shared terms bound by `let`, [`echo_size`] tells beforehand how long its script is, and [`ext_wf`] is the width pass alone.
 //! Terms are node records ([`node`], [`kind`]), and every input is a slice that is lent for the call.
 //!
 //! Is there an 8-bit `x` with `x + 5 = x`?
@@ -214,6 +214,41 @@ fn length_of(answer: raw::EchoAnswer) -> Result<usize, Refusal> {
 /// The walk is recursive: see [Stack](crate#stack).
 pub fn echo_hidden(problem: &Problem<'_>, out: &mut [u8]) -> Result<usize, Refusal> {
     length_of(raw::echo_hidden(problem, out))
+}
+
+/// Prints a problem as [`echo_ext`] does, with each shared term bound by `let`: in each assertion every node that is no variable and no
+/// constant, is reached from the root and is used twice or more is bound under the name `d` and its number, the lowest node outermost.
+///
+/// Uses are counted as for [`Refusal::Shared`], which does not occur here; a declared name that is a shared node's is [`Refusal::Clash`] in
+/// its place. Equal scripts mean equal trees; equal trees may have different scripts. A problem without shared nodes is answered as by
+/// [`echo_ext`], byte for byte. [`echo_size`] speaks of the plain script.
+///
+/// ```
+/// use smt_echo::{Problem, echo_let, kind, node};
+///
+/// let nodes = [
+///     node(kind::VAR, [8, 0, 0, 0]),
+///     node(kind::NEG, [0, 0, 0, 0]), // 1: used twice
+///     node(kind::EQ, [1, 1, 0, 0]),
+/// ]
+/// .concat();
+/// let problem = Problem {
+///     nodes: &nodes,
+///     roots: &[2],
+///     names: b"x",
+///     name_start: &[0],
+///     name_len: &[1],
+///     var_node: &[0],
+///     var_width: &[8],
+///     ..Problem::default()
+/// };
+/// let mut out = [0; 200];
+/// let length = echo_let(&problem, &mut out)?;
+/// assert!(std::str::from_utf8(&out[..length])?.contains("(assert (let ((|d1| (bvneg |x|))) (= |d1| |d1|)))\n"));
+/// # Ok::<(), Box<dyn std::error::Error>>(())
+/// ```
+pub fn echo_let(problem: &Problem<'_>, out: &mut [u8]) -> Result<usize, Refusal> {
+    length_of(raw::echo_let(problem, out))
 }
 
 /// What [`echo_size`] tells of a script.

@@ -3,10 +3,11 @@
 use std::error::Error;
 use std::fmt;
 
-/// Why [`echo_ext`](crate::echo_ext) and [`echo_size`](crate::echo_size) refuse a problem.
+/// Why [`echo_ext`](crate::echo_ext), [`echo_hidden`](crate::echo_hidden), [`echo_let`](crate::echo_let) and [`echo_size`](crate::echo_size)
+/// refuse a problem.
 ///
-/// If several things are wrong the order is: `Limit`, `Encoding`, `Malformed` (columns), `ArrayWidth`, `Malformed` (nodes), `Name`, `Shared`,
-/// `Var` and `Signature` (declarations), then what the walk over the roots meets first, and `Room` last.
+/// If several things are wrong the order is: `Limit`, `Encoding`, `Malformed` (columns), `ArrayWidth`, `Malformed` (nodes), `Name`, `Shared`
+/// or for `echo_let` `Clash`, `Var` and `Signature` (declarations), then what the walk over the roots meets first, and `Room` last.
 ///
 /// ```
 /// use smt_echo::Refusal;
@@ -28,7 +29,7 @@ pub enum Refusal {
     Var,
     /// 5: a rotation below a root is by a term that is no constant node, or its width is above 65,536.
     Rotate,
-    /// 6: a node that is no variable and no constant is used more than once, reached or not.
+    /// 6: a node that is no variable and no constant is used more than once, reached or not. [`echo_let`](crate::echo_let) never answers this.
     Shared,
     /// 7: no node calls a function of the table, its width there is 0, or its first call reads past the side entries; or a call below a
     /// root has another width than the table, or other arguments in number or width than that first call.
@@ -40,13 +41,16 @@ pub enum Refusal {
     /// 10: the script is longer than the buffer, and nothing else is wrong. [`echo_size`](crate::echo_size) tells the length to set aside,
     /// and never answers this.
     Room,
+    /// 11, of [`echo_let`](crate::echo_let) alone: a declared name is `d` and the number of a node that is used more than once, reached or
+    /// not, and is no variable and no constant.
+    Clash,
     /// 12: a width in the array table is 0 or above 65,536, whether a node names the array or not.
-    ArrayWidth = 12,
+    ArrayWidth,
 }
 
 impl Refusal {
-    /// All of them, by number: 1 to 10, and 12.
-    pub const ALL: [Refusal; 11] = [
+    /// All of them, by number: 1 to 12.
+    pub const ALL: [Refusal; 12] = [
         Refusal::Malformed,
         Refusal::Name,
         Refusal::Sort,
@@ -57,10 +61,11 @@ impl Refusal {
         Refusal::Encoding,
         Refusal::Limit,
         Refusal::Room,
+        Refusal::Clash,
         Refusal::ArrayWidth,
     ];
 
-    /// Its number: 1 to 10, or 12.
+    /// Its number: 1 to 12.
     pub const fn number(self) -> u64 {
         self as u64
     }
@@ -91,7 +96,7 @@ impl fmt::Display for Refusal {
             }
             Refusal::Shared => {
                 "a node that is no variable and no constant is used more than once, by operands, side entries and roots together: \
-                 repeat it for each use"
+                 repeat it for each use, or print with echo_let"
             }
             Refusal::Signature => {
                 "no node calls a function of the table, its func_width is 0, or its first call reads past the side entries; or a call \
@@ -103,6 +108,9 @@ impl fmt::Display for Refusal {
                  16,384 bytes an arena"
             }
             Refusal::Room => "the script is longer than the buffer, and nothing else is wrong: call again with a longer one",
+            Refusal::Clash => {
+                "a declared name is d and the number of a node that is used more than once: rename it, in names, anames or fnames"
+            }
             Refusal::ArrayWidth => ARRAY_WIDTH,
         };
         write!(f, "{} {self:?}: {text}", self.number())
@@ -189,6 +197,7 @@ pub(crate) fn of_number(n: u64) -> Refusal {
         8 => Refusal::Encoding,
         9 => Refusal::Limit,
         10 => Refusal::Room,
+        11 => Refusal::Clash,
         12 => Refusal::ArrayWidth,
         n => unreachable!("echo_ext answered {n}, which its contract rules out"),
     }

@@ -49,5 +49,5 @@ fn limits_numbers_and_kinds() {
 
     let there: BTreeMap<String, u64> = header().into_iter().map(|(name, value)| (name.to_string(), value)).collect();
     assert_eq!(here, there);
-    assert_eq!(here.len(), 9 + 12 + 39);
+    assert_eq!(here.len(), 9 + 13 + 39);
 }

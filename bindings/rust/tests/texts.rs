@@ -7,7 +7,7 @@ use std::error::Error;
 #[test]
 fn texts_begin_with_their_number_and_differ() {
     let mut texts = HashSet::new();
-    let numbers = [1, 2, 3, 4, 5, 6, 7, 8, 9, 10, 12];
+    let numbers = [1, 2, 3, 4, 5, 6, 7, 8, 9, 10, 11, 12];
     assert_eq!(Refusal::ALL.map(Refusal::number), numbers);
     for (n, refusal) in numbers.into_iter().zip(Refusal::ALL) {
         let text = refusal.to_string();

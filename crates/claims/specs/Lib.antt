@@ -9,3 +9,5 @@ pub mod HiddenClaims
 pub mod Instances
 pub mod SizeInstances
 pub mod HiddenInstances
+pub mod LetClaims
+pub mod LetInstances

@@ -113,4 +113,4 @@ unfolding endlessNumber
 listed p {text} w {x} f =
     let t = told (endlessRefusal p) text w f in
     let m : T (endlessNumber x) = subst (λ (k : ℕ). T (endlessNumber k)) (t .0) (endless-number p) in
-    (t .1, leb→le x 12 (among-every (λ k. leb k 12) (0 ∷ 1 ∷ 2 ∷ 3 ∷ 4 ∷ 5 ∷ 6 ∷ 7 ∷ 8 ∷ 9 ∷ 12 ∷ []) tt x m), λ e. subst (λ (k : ℕ). T (endlessNumber k)) e m)
+    (t .1, leb→le x 12 (among-every (λ k. leb k 12) (0 ∷ 1 ∷ 2 ∷ 3 ∷ 4 ∷ 5 ∷ 6 ∷ 7 ∷ 8 ∷ 9 ∷ 12 ∷ []) tt x m))

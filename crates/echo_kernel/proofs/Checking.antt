@@ -6,25 +6,27 @@ use mathlib.Core.List.{List}
 use native.Mathlib.Omega.{arith}
 use borrow.Author.Tests.{eq-eqb, ne-eqb}
 use lib.Dec.{T, leb, eqb}
-use lib.ListN.{length, take}
-use Rattle.lists.specs.Tests.{every, and-1, true→T}
-use Rattle.echo_spec.specs.Input.{Problem, arrayWidths, withinLimits, nodeEncoded, encoded, nodesOf, dagOf, queryOf}
-use Rattle.echo_spec.specs.Widths.{arrayWidthsOk}
+use lib.ListN.{length}
+use Rattle.lists.specs.Tests.{every, and-1, true→T, T→true}
+use Rattle.echo_spec.specs.Refusals.{unless}
+use Rattle.echo_spec.specs.Input.{Problem, Dag, arrayWidths, withinLimits, nodeEncoded, encoded, nodesOf, dagOf, queryOf}
+use Rattle.echo_spec.specs.Widths.{arrayWidthsOk, ext-wf}
 use Rattle.echo_spec.specs.Names.{namesOk}
 use Rattle.echo_spec.specs.Sharing.{unshared}
 use Rattle.echo_spec.specs.Tables.{columnsOk, decl-vars-ok, decl-funcs-ok}
 use Rattle.echo_spec.specs.Trees.{readingOf}
-use Rattle.echo_spec.specs.Walk.{walkRoots, refusalWith}
+use Rattle.echo_spec.specs.Walk.{walkRoots, tableChecks, checks, refusalWith}
 use Rattle.echo_spec.specs.Render.{render}
 use Rattle.echo_spec.specs.Answers.{script, endlessWith, endlessRefusal}
 use Rattle.echo_bytes.specs.declared.Place.{Place}
 use Rattle.echo_bytes.specs.Page.{Page, page, written}
-use Rattle.sliver_kernel.specs.Pass.{Passed, ext-wf-short}
+use Rattle.lent.specs.Lent.{Slice, dagAt}
+use Rattle.sliver_kernel.specs.Pass.{Passed, ext-wf-short, passed-within}
 use Rattle.echo_kernel.specs.declared.Out.{Out}
 use Rattle.echo_kernel.specs.declared.Out.the-variants.{Done, Refused}
-use Rattle.echo_kernel.specs.Scripts.{plainScript, tablesRefusal}
+use Rattle.echo_kernel.specs.Scripts.{plainScript, declaredChecks, tablesRefusal}
 use Rattle.echo_kernel.specs.Outcomes.{Wrote}
-use Rattle.echo_kernel.specs.Prepared.{WellFormed}
+use Rattle.echo_kernel.specs.Prepared.{WellFormed, Filled, Filling, Measure}
 
 pub bits-binary : (p : Problem) → T (encoded (p .nodes) (p .bits)) → T (every (λ b. leb b 1) (p .bits))
 unfolding encoded
@@ -34,10 +36,37 @@ bits-binary p h =
     let B : Bool = every (λ b. leb b 1) (p .bits) in
     and-1 F B (and-1 E (F && B) h)
 
--- ---------------------------------------------------------------- from the names on
+-- ---------------------------------------------------------------- one refusal
+
+-- a number that is refused, or a text that is written
+pub wrote-refused : (n : ℕ) {r : ℕ} → n ≡ r → 0 < r → {text : List ℕ} {pg : Page} {l : List ℕ} → Wrote n text pg (Refused r) l
+wrote-refused zero e h = absurd (omega arith)
+wrote-refused (suc n) e h = record { told = ap Refused (sym e) }
+
+pub wrote-done : (n : ℕ) → n ≡ 0 → {q : Place} {text : List ℕ} {pg : Page} {l : List ℕ} → page q l ≡ written pg text → Wrote n text pg (Done q) l
+wrote-done zero e w = record { told = (ap (λ (x : Page). Done (x .place)) w, ap (λ (x : Page). x .bytes) w) }
+wrote-done (suc n) e w = absurd (omega arith)
+
+pub wrote-as : {n m : ℕ} {text : List ℕ} {pg : Page} {o : Out} {l : List ℕ} → n ≡ m → Wrote n text pg o l → Wrote m text pg o l
+wrote-as {text = text} {pg = pg} {o = o} {l = l} e w = subst (λ (k : ℕ). Wrote k text pg o l) e w
 
 pub walked : {e w : ℕ} → e ≡ w → e ≤ 0 → w ≡ 0
 walked q h = omega arith
+
+-- ---------------------------------------------------------------- what is declared
+
+module _ (B N : List Slice) (ws : List ℕ) {entries codes first : List ℕ} where
+  pub filling-variables : decl-vars-ok (dagAt B N) ≡ false → Filling B N ws 4 entries codes first
+  filling-variables e = record { refused = λ h w. rw e refl; passed = λ h. absurd (omega arith); filled = λ h. absurd (omega arith) }
+
+  module _ (v : decl-vars-ok (dagAt B N) ≡ true) where
+    pub filling-functions : decl-funcs-ok (dagAt B N) ws ≡ false → Filling B N ws 7 entries codes first
+    filling-functions e = record { refused = λ h w. rw (v, e) refl; passed = λ h. absurd (omega arith); filled = λ h. absurd (omega arith) }
+
+    pub filling-done : decl-funcs-ok (dagAt B N) ws ≡ true → Filled B N ws entries codes first → Filling B N ws 0 entries codes first
+    filling-done f h = record { refused = λ z. absurd (omega arith); passed = λ z w. rw (v, f) refl; filled = λ z. h }
+
+-- ---------------------------------------------------------------- from the names on
 
 module _ (p : Problem) (ws : List ℕ) where
   pub bad-names : namesOk (dagOf p) ≡ false → {text : List ℕ} {pg : Page} {l : List ℕ} → Wrote (tablesRefusal p ws) text pg (Refused 2) l
@@ -49,75 +78,73 @@ module _ (p : Problem) (ws : List ℕ) where
     unfolding tablesRefusal dagOf
     shared-node e = rw (n, e) (record { told = refl })
 
-    module _ (s : unshared (nodesOf (p .nodes)) (p .side) (p .roots) ≡ true) where
-      pub bad-variables : decl-vars-ok (dagOf p) ≡ false → {text : List ℕ} {pg : Page} {l : List ℕ} → Wrote (tablesRefusal p ws) text pg (Refused 4) l
-      unfolding tablesRefusal dagOf
-      bad-variables e = rw (n, s, e) (record { told = refl })
-
-      module _ (v : decl-vars-ok (dagOf p) ≡ true) where
-        pub bad-functions : decl-funcs-ok (dagOf p) ws ≡ false → {text : List ℕ} {pg : Page} {l : List ℕ} → Wrote (tablesRefusal p ws) text pg (Refused 7) l
-        unfolding tablesRefusal dagOf
-        bad-functions e = rw (n, s, v, e) (record { told = refl })
-
-        module _ (f : decl-funcs-ok (dagOf p) ws ≡ true) where
-          all-passed : tablesRefusal p ws ≡ walkRoots (dagOf p) ws (p .roots)
-          unfolding tablesRefusal dagOf
-          all-passed = rw (n, s, v, f) refl
-
-          pub bad-root : (e : ℕ) → e ≡ walkRoots (dagOf p) ws (p .roots) → 0 < e → {text : List ℕ} {pg : Page} {l : List ℕ} → Wrote (tablesRefusal p ws) text pg (Refused e) l
-          bad-root zero q h = absurd (omega arith)
-          bad-root (suc e) q h = rw (all-passed, ← q) (record { told = refl })
-
-          pub tables-passed : (e : ℕ) → e ≡ walkRoots (dagOf p) ws (p .roots) → e ≤ 0 → {q : Place} {text : List ℕ} {pg : Page} {l : List ℕ}
-              → page q l ≡ written pg text → Wrote (tablesRefusal p ws) text pg (Done q) l
-          tables-passed zero r h w = rw (all-passed, ← r) (record { told = (ap (λ (x : Page). Done (x .place)) w, ap (λ (x : Page). x .bytes) w) })
-          tables-passed (suc e) r h w = absurd (omega arith)
+    pub names-passed : unshared (nodesOf (p .nodes)) (p .side) (p .roots) ≡ true → {text : List ℕ} {pg : Page} {o : Out} {l : List ℕ}
+        → Wrote (declaredChecks (dagOf p) ws (walkRoots (dagOf p) ws (p .roots))) text pg o l → Wrote (tablesRefusal p ws) text pg o l
+    unfolding tablesRefusal dagOf
+    names-passed s w = rw (n, s) w
 
 -- ---------------------------------------------------------------- from the limits on
 
-module _ (p : Problem) {n : ℕ} {ws : List ℕ} (h : Passed (length (p .bits)) (arrayWidths p) (p .side) (nodesOf (p .nodes)) n ws) (m : length (nodesOf (p .nodes)) ≤ n) where
-  all-formed : n ≡ length (nodesOf (p .nodes))
-  all-formed = omega (arith, h .count, ext-wf-short (length (p .bits)) (arrayWidths p) (p .side) (nodesOf (p .nodes)))
-
-  pub formed : withinLimits p ≡ true → encoded (p .nodes) (p .bits) ≡ true → columnsOk (dagOf p) ≡ true → arrayWidthsOk (arrayWidths p) ≡ true → WellFormed p (take n ws)
-  formed w c k a = record {
-    within = true→T w;
-    encodes = true→T c;
-    columns = true→T k;
-    arrays = true→T a;
-    widths = h .table;
-    counted = ap length (h .table) ∙ sym (h .count) ∙ all-formed;
-  }
-
-module _ (p : Problem) where
-  pub over-limit : withinLimits p ≡ false → {text : List ℕ} {pg : Page} {l : List ℕ} → Wrote (endlessRefusal p) text pg (Refused 9) l
-  unfolding endlessRefusal endlessWith
-  over-limit e = rw e (record { told = refl })
+module _ (p : Problem) {ws : List ℕ} where
+  pub over-limit : withinLimits p ≡ false → Measure p 9 ws
+  unfolding endlessWith
+  over-limit e = record { refused = λ h s w. rw e refl; passed = λ h. absurd (omega arith); long = λ h. absurd (omega arith) }
 
   module _ (w : withinLimits p ≡ true) where
-    pub ill-encoded : encoded (p .nodes) (p .bits) ≡ false → {text : List ℕ} {pg : Page} {l : List ℕ} → Wrote (endlessRefusal p) text pg (Refused 8) l
-    unfolding endlessRefusal endlessWith
-    ill-encoded e = rw (w, e) (record { told = refl })
+    pub ill-encoded : encoded (p .nodes) (p .bits) ≡ false → Measure p 8 ws
+    unfolding endlessWith
+    ill-encoded e = record { refused = λ h s t. rw (w, e) refl; passed = λ h. absurd (omega arith); long = λ h. absurd (omega arith) }
 
     module _ (c : encoded (p .nodes) (p .bits) ≡ true) where
-      pub bad-columns : columnsOk (dagOf p) ≡ false → {text : List ℕ} {pg : Page} {l : List ℕ} → Wrote (endlessRefusal p) text pg (Refused 1) l
-      unfolding endlessRefusal endlessWith refusalWith
-      bad-columns e = rw (w, c, e) (record { told = refl })
+      pub bad-columns : columnsOk (dagOf p) ≡ false → Measure p 1 ws
+      unfolding endlessWith
+      bad-columns e = record { refused = λ h s t. rw (w, c, e) refl; passed = λ h. absurd (omega arith); long = λ h. absurd (omega arith) }
 
       module _ (k : columnsOk (dagOf p) ≡ true) where
-        pub bad-widths : arrayWidthsOk (arrayWidths p) ≡ false → {text : List ℕ} {pg : Page} {l : List ℕ} → Wrote (endlessRefusal p) text pg (Refused 12) l
-        unfolding endlessRefusal endlessWith refusalWith dagOf
-        bad-widths e = rw (w, c, k, e) (record { told = refl })
+        pub bad-widths : arrayWidthsOk (arrayWidths p) ≡ false → Measure p 12 ws
+        unfolding endlessWith dagOf
+        bad-widths e = record { refused = λ h s t. rw (w, c, k, e) refl; passed = λ h. absurd (omega arith); long = λ h. absurd (omega arith) }
 
-        module _ (a : arrayWidthsOk (arrayWidths p) ≡ true) {n : ℕ} {ws : List ℕ} (h : Passed (length (p .bits)) (arrayWidths p) (p .side) (nodesOf (p .nodes)) n ws) where
-          pub ill-formed : n < length (nodesOf (p .nodes)) → {text : List ℕ} {pg : Page} {l : List ℕ} → Wrote (endlessRefusal p) text pg (Refused 1) l
-          unfolding endlessRefusal endlessWith refusalWith dagOf
-          ill-formed m =
-              rw (w, c, k, a, ← h .count, ne-eqb n (length (nodesOf (p .nodes))) (λ q. omega arith)) (record { told = refl })
+        module _ (a : arrayWidthsOk (arrayWidths p) ≡ true) {n : ℕ} (h : Passed (length (p .bits)) (arrayWidths p) (p .side) (nodesOf (p .nodes)) n ws) where
+          pub ill-formed : n < length (nodesOf (p .nodes)) → Measure p 1 ws
+          unfolding endlessWith dagOf
+          ill-formed m = record {
+            refused = λ z s t. rw (w, c, k, a, ← h .count, ne-eqb n (length (nodesOf (p .nodes))) (λ q. omega arith)) refl;
+            passed = λ z. absurd (omega arith);
+            long = λ z. absurd (omega arith);
+          }
 
-          pub checks-passed : length (nodesOf (p .nodes)) ≤ n → {pg : Page} {o : Out} {l : List ℕ} → Wrote (tablesRefusal p (take n ws)) (plainScript p (take n ws)) pg o l
-              → Wrote (endlessRefusal p) (script (queryOf p)) pg o l
-          unfolding endlessRefusal endlessWith refusalWith tablesRefusal script readingOf render dagOf
-          checks-passed m {pg} {o} {l} t =
-              rw (w, c, k, a, ← h .count, eq-eqb n (length (nodesOf (p .nodes))) (all-formed p h m))
-              (subst (λ (z : List ℕ). Wrote (tablesRefusal p z) (plainScript p z) pg o l) (h .table) t)
+          pub measured : length (nodesOf (p .nodes)) ≤ n → Measure p 0 ws
+          measured m =
+              let e : n ≡ length (nodesOf (p .nodes)) = omega (arith, h .count, ext-wf-short (length (p .bits)) (arrayWidths p) (p .side) (nodesOf (p .nodes))) in
+              record {
+                refused = λ z. absurd (omega arith);
+                passed = λ z. rw (← e) (record { within = true→T w; encodes = true→T c; columns = true→T k; arrays = true→T a; widths = h .table; counted = ap length (h .table) ∙ sym (h .count) ∙ e });
+                long = λ z. omega (arith, passed-within h);
+              }
+
+-- what is left of the checks once the nodes are well formed
+pub measured-checks : (p : Problem) (ws : List ℕ) → WellFormed p ws → (s t : ℕ)
+    → endlessWith p (checks (dagOf p) (ext-wf (length (p .bits)) (arrayWidths p) (p .side) (nodesOf (p .nodes))) s t) ≡ tableChecks (dagOf p) ws s t
+unfolding endlessWith dagOf
+measured-checks p ws h s t =
+    rw (
+      T→true (withinLimits p) (h .within),
+      T→true (encoded (p .nodes) (p .bits)) (h .encodes),
+      T→true (columnsOk (dagOf p)) (h .columns),
+      T→true (arrayWidthsOk (arrayWidths p)) (h .arrays),
+      ← h .widths,
+      eq-eqb (length ws) (length (nodesOf (p .nodes))) (h .counted),
+    )
+
+-- the plain script
+module _ (p : Problem) where
+  pub checked-refused : {r : ℕ} {ws : List ℕ} → Measure p r ws → 0 < r → {text : List ℕ} {pg : Page} {l : List ℕ} → Wrote (endlessRefusal p) text pg (Refused r) l
+  unfolding endlessRefusal refusalWith dagOf
+  checked-refused m h = wrote-refused (endlessRefusal p) (m .refused h (unless (unshared (dagOf p .nodes) (dagOf p .side) (p .roots)) 6) (walkRoots (dagOf p) (ext-wf (length (p .bits)) (arrayWidths p) (p .side) (nodesOf (p .nodes))) (p .roots))) h
+
+  pub checked-passed : {ws : List ℕ} → WellFormed p ws → {pg : Page} {o : Out} {l : List ℕ} → Wrote (tablesRefusal p ws) (plainScript p ws) pg o l
+      → Wrote (endlessRefusal p) (script (queryOf p)) pg o l
+  unfolding endlessRefusal refusalWith tablesRefusal script readingOf render dagOf
+  checked-passed {ws} h {pg} {o} {l} w =
+      subst (λ (z : List ℕ). Wrote (endlessRefusal p) (plainScript p z) pg o l) (h .widths) (wrote-as (sym (measured-checks p ws h (unless (unshared (dagOf p .nodes) (dagOf p .side) (p .roots)) 6) (walkRoots (dagOf p) ws (p .roots))) ∙ ap (λ (z : List ℕ). endlessWith p (checks (dagOf p) (ext-wf (length (p .bits)) (arrayWidths p) (p .side) (nodesOf (p .nodes))) (unless (unshared (dagOf p .nodes) (dagOf p .side) (p .roots)) 6) (walkRoots (dagOf p) z (p .roots)))) (h .widths)) w)

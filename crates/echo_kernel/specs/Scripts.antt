@@ -5,10 +5,10 @@ use mathlib.Core.Path.{_≡_, refl, ap, sym, _∙_}
 use mathlib.Core.List.{List, [], _∷_, _++_, append-assoc}
 use lib.ListN.{length, getD}
 use Rattle.lists.specs.Bytes.{bytes}
-use Rattle.echo_spec.specs.Refusals.{unless}
+use Rattle.echo_spec.specs.Refusals.{unless, _orElse_}
 use Rattle.echo_spec.specs.Input.{Problem, Dag, dagOf}
 use Rattle.echo_spec.specs.Sharing.{unshared}
-use Rattle.echo_spec.specs.Tables.{declarationsOf}
+use Rattle.echo_spec.specs.Tables.{declarationsOf, decl-vars-ok, decl-funcs-ok}
 use Rattle.echo_spec.specs.Trees.{treesOver, treeOf}
 use Rattle.echo_spec.specs.Walk.{walkRoots, tableChecks}
 use Rattle.echo_spec.specs.Render.{term, assertionsText, frame}
@@ -45,6 +45,10 @@ roots-are g d ws bits (r ∷ rs) h =
 -- over the widths ws
 abbrev pub plainScript : Problem → List ℕ → List ℕ
 plainScript p ws = frame (declarationsOf (dagOf p) ws) (assertionsText (treesOver (treeOf (dagOf p) ws (p .bits)) (p .roots)))
+
+-- the checks after that of sharing
+abbrev pub declaredChecks : Dag → List ℕ → ℕ → ℕ
+declaredChecks d ws walked = unless (decl-vars-ok d) 4 orElse unless (decl-funcs-ok d ws) 7 orElse walked
 
 unfoldable pub tablesRefusal : Problem → List ℕ → ℕ
 tablesRefusal p ws = tableChecks (dagOf p) ws (unless (unshared (dagOf p .nodes) (dagOf p .side) (p .roots)) 6) (walkRoots (dagOf p) ws (p .roots))

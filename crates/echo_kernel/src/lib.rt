@@ -34,15 +34,18 @@ ghost use Rattle.lent.specs.Lent.{problemAt, dagAt, problemOf};
 ghost use Rattle.echo_bytes.specs.Page.{page, start, after, written};
 ghost use Rattle.echo_walk.specs.Ready.{textAt, Ready, Fine};
 ghost use Rattle.echo_spec.specs.Input.{queryOf};
+ghost use Rattle.echo_spec.specs.Walk.{walkRoots};
+ghost use Rattle.lent.specs.Clearing.{Zeros};
 ghost use Rattle.echo_spec.specs.Answers.{script, endlessRefusal, echo-ext-answer};
-ghost use Rattle.echo_kernel.specs.Scripts.{rootText, rootsText, AllFine, plainScript, tablesRefusal};
+ghost use Rattle.echo_kernel.specs.Scripts.{rootText, rootsText, AllFine, plainScript, declaredChecks, tablesRefusal};
 ghost use Rattle.echo_kernel.specs.Outcomes.{Wrote, answered};
-ghost use Rattle.echo_kernel.specs.Prepared.{Prepared, WellFormed};
+ghost use Rattle.echo_kernel.specs.Prepared.{Prepared, WellFormed, Filling, Measure};
 
 // ---------------------------------------------------------------- roots
 
-// A place in the rest of the buffer from p on, as a place in the whole.
-fn place_after(p: Place, q: Place) -> Place
+// A place in the rest of the buffer from p on, as a place in the whole. Ruled out: the place in the rest itself; a length that forgets what
+// was written before.
+pub fn place_after(p: Place, q: Place) -> Place
     requires { ⌜ p .at + q .at < 18446744073709551616 ⌝ }
     ensures { λ r. ⌜ r ≡ after p q ⌝ }
 {
@@ -71,8 +74,8 @@ fn echo_root(
     echo_lines::close_line(r, out)
 }
 
-// Root k.
-fn root_at(roots: &[u64], k: usize) -> u64
+// Root k. Ruled out: the root after it; the first root for all.
+pub fn root_at(roots: &[u64], k: usize) -> u64
     requires { ⌜ k < length (now roots) ⌝ }
     ensures { λ r. ⌜ r ≡ getD (now (roots .entry)) k 0 ⌝ }
 {
@@ -140,6 +143,56 @@ pub enum Out {
     Refused(u64),
 }
 
+// What is declared, and the tables that the walk looks up: the refusal of a declared variable or function, or 0 with the tables filled.
+// The tables are 0 at first. Ruled out: 7 before 4; a signature from a call that is not the first.
+pub fn fill(
+    bytes: &[&[u8]; BYTES],
+    numbers: &[&[u64]; NUMBERS],
+    ws: &[u64],
+    entries: &mut [u64; MAX_NODES],
+    codes: &mut [u64; MAX_NODES],
+    first: &mut [u64; MAX_ENTRIES],
+) -> u64
+    requires { ⌜ WellFormed (problemAt (now bytes) (now numbers)) (now ws) × Zeros (now codes) ⌝ }
+    ensures { λ r. ⌜ Filling (now (bytes .entry)) (now (numbers .entry)) (now (ws .entry)) r (now (entries .exit)) (now (codes .exit)) (now (first .exit)) ⌝ }
+{
+    if !echo_checks::decl_vars_ok(bytes, numbers) {
+        return VAR;
+    }
+    echo_tables::first_calls(bytes[NODES], first);
+    if !echo_checks::decl_funcs_ok(bytes, numbers, ws, first) {
+        return SIGNATURE;
+    }
+    echo_tables::entries(numbers[VAR_NODE], entries);
+    echo_tables::mark(bytes, numbers, ws, entries, first, codes);
+    0
+}
+
+// The plain script of a problem without shared operators, from the declared variables on. Ruled out: a root's refusal before that of a
+// declared function; a script though a root is refused.
+pub fn printed(
+    bytes: &[&[u8]; BYTES],
+    numbers: &[&[u64]; NUMBERS],
+    ws: &[u64],
+    out: &mut [u8],
+) -> Out
+    requires { ⌜ WellFormed (problemAt (now bytes) (now numbers)) (now ws) ⌝ }
+    ensures { λ r. ⌜ Wrote (declaredChecks (dagAt (now (bytes .entry)) (now (numbers .entry))) (now (ws .entry)) (walkRoots (dagAt (now (bytes .entry)) (now (numbers .entry))) (now (ws .entry)) (problemAt (now (bytes .entry)) (now (numbers .entry)) .roots))) (plainScript (problemAt (now (bytes .entry)) (now (numbers .entry))) (now (ws .entry))) (page start (now (out .entry))) r (now (out .exit)) ⌝ }
+{
+    let mut entries = [0u64; MAX_NODES];
+    let mut codes = [0u64; MAX_NODES];
+    let mut first = [0u64; MAX_ENTRIES];
+    let d = fill(bytes, numbers, ws, &mut entries, &mut codes, &mut first);
+    if d > 0 {
+        return Out::Refused(d);
+    }
+    let e = echo_tables::roots_refused(bytes, numbers, ws, &codes, numbers[ROOTS]);
+    if e > 0 {
+        return Out::Refused(e);
+    }
+    Out::Done(print(bytes, numbers, ws, &entries, &codes, &first, out))
+}
+
 // From the names on: the columns are of one length, and the nodes well formed and of these widths.
 fn tables(bytes: &[&[u8]; BYTES], numbers: &[&[u64]; NUMBERS], ws: &[u64], out: &mut [u8]) -> Out
     requires { ⌜ WellFormed (problemAt (now bytes) (now numbers)) (now ws) ⌝ }
@@ -151,23 +204,42 @@ fn tables(bytes: &[&[u8]; BYTES], numbers: &[&[u64]; NUMBERS], ws: &[u64], out: 
     if !echo_sharing::unshared(bytes[NODES], numbers[SIDE], numbers[ROOTS]) {
         return Out::Refused(SHARED);
     }
-    if !echo_checks::decl_vars_ok(bytes, numbers) {
-        return Out::Refused(VAR);
+    printed(bytes, numbers, ws, out)
+}
+
+// The checks before the names, in order, and the widths of the nodes. Ruled out: a limit told after the encoding; a node that is not well
+// formed let through.
+pub fn measure(
+    bytes: &[&[u8]; BYTES],
+    numbers: &[&[u64]; NUMBERS],
+    ws: &mut [u64; MAX_NODES],
+) -> u64
+    ensures { λ r. ⌜ Measure (problemAt (now (bytes .entry)) (now (numbers .entry))) r (now (ws .exit)) ⌝ }
+{
+    if !echo_checks::within_limits(bytes, numbers) {
+        return LIMIT;
     }
-    let mut first = [0u64; MAX_ENTRIES];
-    echo_tables::first_calls(bytes[NODES], &mut first);
-    if !echo_checks::decl_funcs_ok(bytes, numbers, ws, &first) {
-        return Out::Refused(SIGNATURE);
+    if !blast_kernel::encoded(bytes[NODES], bytes[BITS]) {
+        return ENCODING;
     }
-    let mut entries = [0u64; MAX_NODES];
-    echo_tables::entries(numbers[VAR_NODE], &mut entries);
-    let mut codes = [0u64; MAX_NODES];
-    echo_tables::mark(bytes, numbers, ws, &entries, &first, &mut codes);
-    let e = echo_tables::roots_refused(bytes, numbers, ws, &codes, numbers[ROOTS]);
-    if e > 0 {
-        return Out::Refused(e);
+    if !echo_checks::columns_ok(bytes, numbers) {
+        return MALFORMED;
     }
-    Out::Done(print(bytes, numbers, ws, &entries, &codes, &first, out))
+    if !sliver_kernel::array_widths_ok(numbers[INDEX_WIDTH], numbers[VALUE_WIDTH]) {
+        return ARRAY_WIDTH;
+    }
+    let n = sliver_kernel::widths(
+        bytes[NODES],
+        size(bytes[BITS]),
+        numbers[SIDE],
+        numbers[INDEX_WIDTH],
+        numbers[VALUE_WIDTH],
+        ws,
+    );
+    if n < node_count(bytes[NODES]) {
+        return MALFORMED;
+    }
+    0
 }
 
 // Every check but the one for room, in order, and then the script as far as it fits; the place has the length that is needed.
@@ -175,30 +247,12 @@ fn tables(bytes: &[&[u8]; BYTES], numbers: &[&[u64]; NUMBERS], ws: &[u64], out: 
 pub fn checked(bytes: &[&[u8]; BYTES], numbers: &[&[u64]; NUMBERS], out: &mut [u8]) -> Out
     ensures { λ r. ⌜ Wrote (endlessRefusal (problemAt (now (bytes .entry)) (now (numbers .entry)))) (script (queryOf (problemAt (now (bytes .entry)) (now (numbers .entry))))) (page start (now (out .entry))) r (now (out .exit)) ⌝ }
 {
-    if !echo_checks::within_limits(bytes, numbers) {
-        return Out::Refused(LIMIT);
-    }
-    if !blast_kernel::encoded(bytes[NODES], bytes[BITS]) {
-        return Out::Refused(ENCODING);
-    }
-    if !echo_checks::columns_ok(bytes, numbers) {
-        return Out::Refused(MALFORMED);
-    }
-    if !sliver_kernel::array_widths_ok(numbers[INDEX_WIDTH], numbers[VALUE_WIDTH]) {
-        return Out::Refused(ARRAY_WIDTH);
-    }
     let mut ws = [0u64; MAX_NODES];
-    let n = sliver_kernel::widths(
-        bytes[NODES],
-        size(bytes[BITS]),
-        numbers[SIDE],
-        numbers[INDEX_WIDTH],
-        numbers[VALUE_WIDTH],
-        &mut ws,
-    );
-    if n < node_count(bytes[NODES]) {
-        return Out::Refused(MALFORMED);
+    let e = measure(bytes, numbers, &mut ws);
+    if e > 0 {
+        return Out::Refused(e);
     }
+    let n = node_count(bytes[NODES]);
     tables(bytes, numbers, &ws[..n], out)
 }
 

@@ -173,7 +173,7 @@ everyFrom-same p q a zero h = refl
 everyFrom-same p q a (suc n) h =
     rw (h a (omega arith) (omega arith), everyFrom-same p q (suc a) n (λ k l m. h k (omega arith) (omega arith))) refl
 
-leb-min : (n : ℕ) → leb (min n 2) 1 ≡ leb n 1
+pub leb-min : (n : ℕ) → leb (min n 2) 1 ≡ leb n 1
 leb-min n = go (leb n 1) refl
   where
     go : (b : Bool) → leb n 1 ≡ b → leb (min n 2) 1 ≡ b

@@ -19,17 +19,18 @@ use blast_kernel::VAR;
 use lent::Node;
 use refusals::MAX_NODES;
 ghost use mathlib.Core.Path.{_≡_};
-ghost use mathlib.Core.Bool.{_||_};
+ghost use mathlib.Core.Bool.{_||_, not};
 ghost use mathlib.Core.List.{[], _∷_};
 ghost use Prim.Native.Nat.{_*_, _≤_, min};
-ghost use lib.Dec.{leb};
-ghost use lib.ListN.{length, take, drop};
+ghost use lib.Dec.{leb, eqb};
+ghost use lib.ListN.{length, take, drop, replicate};
 ghost use Rattle.lists.specs.Tests.{everyFrom};
 ghost use Rattle.echo_spec.specs.Shapes.{shapeOf, isLeaf};
 ghost use Rattle.echo_spec.specs.Input.{shape, nodesOf};
 ghost use Rattle.echo_spec.specs.Sharing.{usesAs, usesOfAll, unshared as «unshared-of»};
 ghost use Rattle.lent.specs.Records.{nodeOf};
 ghost use Rattle.echo_sharing.specs.Counts.{bumped, counted, onceIn};
+ghost use Rattle.echo_sharing.specs.Flags.{Flags, SharedIn};
 
 // ---------------------------------------------------------------- counting
 
@@ -205,4 +206,43 @@ pub fn unshared(nodes: &[u8], side: &[u64], roots: &[u64]) -> bool
     count_operands(&mut uses, nodes, side);
     count_roots(&mut uses, roots);
     no_shared(&uses, nodes)
+}
+
+// ---------------------------------------------------------------- the table of shared operators
+
+// 0 for what is used once at most, 1 for the rest.
+fn flag(once: bool) -> u8
+    ensures { λ r. ⌜ eqb r 1 ≡ not once ⌝ }
+{
+    if once { 0 } else { 1 }
+}
+
+// 1 for each operator node that is used twice or more, in place of the counts.
+fn keep_shared(uses: &mut [u8], nodes: &[u8])
+    requires { ⌜ length (nodesOf (now nodes)) ≤ length (now uses) ⌝ }
+    ensures { λ _. ⌜ Flags (λ j. not (onceIn (now (uses .entry)) (nodesOf (now (nodes .entry))) j)) (length (nodesOf (now (nodes .entry)))) (now (uses .exit)) ⌝ }
+{
+    let n = lent::node_count(nodes);
+    let mut i = 0;
+    while i < n {
+        let node = lent::node_at(nodes, i);
+        let f = flag(used_once(node.kind, uses[i]));
+        uses[i] = f;
+        i += 1;
+    }
+}
+
+// Is some operator node used twice or more, and which are. The table is 0 at first; where there is none it may hold anything.
+// Ruled out: a node that is reached twice and used once taken for shared; a call without arguments left out; the table of another problem.
+pub fn shared_nodes(nodes: &[u8], side: &[u64], roots: &[u64], table: &mut [u8; MAX_NODES]) -> bool
+    requires { ⌜ (length (now nodes) ≤ 34816) × (now table ≡ replicate 2048 0) ⌝ }
+    ensures { λ r. ⌜ SharedIn (nodesOf (now (nodes .entry))) (now (side .entry)) (now (roots .entry)) r (now (table .exit)) ⌝ }
+{
+    count_operands(table, nodes, side);
+    count_roots(table, roots);
+    if no_shared(table, nodes) {
+        return false;
+    }
+    keep_shared(table, nodes);
+    true
 }

@@ -98,7 +98,7 @@ module _ (d : Dag) (lower : (i : ℕ) → i < length (d .nodes) → (j : ℕ) �
 
 -- ---------------------------------------------------------------- the operands of a well-formed node are lower
 
-low-among : (i : ℕ) (os : List Operand) → Low i os → (j : ℕ) → T (among (map (λ o. o .node) os) j) → j < i
+pub low-among : (i : ℕ) (os : List Operand) → Low i os → (j : ℕ) → T (among (map (λ o. o .node) os) j) → j < i
 low-among i [] h j t = absurd t
 low-among i (o ∷ os) h j t =
     or-elim (eqb j (o .node)) (among (map (λ o. o .node) os) j) t

@@ -3,3 +3,4 @@ pub mod Texts
 pub mod Ready
 pub mod StyleLaws
 pub mod StyleExamples
+pub mod LetTexts

@@ -170,7 +170,7 @@ module _ (trees : ℕ → Tree) (g : ℕ → List ℕ) (i : ℕ) (agree : (j : �
     select-text a j s n l = rw (stores-text (d .side) a s n (l .1), agree j (l .0)) (simp append-assoc)
 
     -- a node that is well formed: its head, and then its form
-    form-text : (n : Node) (s : Shape) (nbits : ℕ) → Formed ws i nbits (d .array-widths) (d .side) n s → FormBelow i (d .side) (formAs n s)
+    pub form-text : (n : Node) (s : Shape) (nbits : ℕ) → Formed ws i nbits (d .array-widths) (d .side) n s → FormBelow i (d .side) (formAs n s)
         → term (treeAs d ws bits trees i n s) ≡ headAs d ws bits i n s ++ formText g (d .side) (formAs n s)
     unfolding treeAs headAs formAs formText term operatorText bytes
     form-text n var nbits f l = sym (append-nil (quoted (variableName d i)))
@@ -195,7 +195,7 @@ module _ (d : Dag) (nbits : ℕ) (ws bits : List ℕ) (widths : ws ≡ ext-wf nb
   abbrev node : ℕ → Node
   node i = getD (d .nodes) i no-node
 
-  node-facts : (i : ℕ) → i < length ws → Facts nbits (d .array-widths) (d .side) ws i (node i)
+  pub node-facts : (i : ℕ) → i < length ws → Facts nbits (d .array-widths) (d .side) ws i (node i)
   node-facts i h = rw widths (facts nbits (d .array-widths) (d .side) (d .nodes) i (rw widths at h))
 
   pub own-below : (i : ℕ) → i < length ws → FormBelow i (d .side) (formAs (node i) (shape (node i)))

@@ -346,8 +346,8 @@ fn own_head(
     }
 }
 
-// The name of node i: `|d2|` for node 2.
-fn push_named(p: Place, i: u64, out: &mut [u8]) -> Place
+// The name of node i: `|d2|` for node 2. Ruled out: the number without the letter; a name without its bars.
+pub fn push_named(p: Place, i: u64, out: &mut [u8]) -> Place
     ensures { λ r. ⌜ page r (now (out .exit)) ≡ written (page p (now (out .entry))) (named i) ⌝ }
 {
     let a = p.byte(out, 124);

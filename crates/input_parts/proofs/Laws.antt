@@ -16,10 +16,11 @@ use Rattle.echo_spec.specs.Answers.{atFront, echo-ext-answer}
 use Rattle.lent.specs.Lent.{problemOf}
 use Rattle.sizes.specs.Size.{echo-size-answer}
 use Rattle.hidden.specs.Hidden.{echo-hidden-answer}
+use Rattle.echo_spec.specs.Lets.{echo-let-answer}
 use Rattle.echo_kernel.specs.Outcomes.{answered}
 use Rattle.echo_size.specs.Sized as sized
 use Rattle.input_parts.specs.declared.Asked.{Asked}
-use Rattle.input_parts.specs.declared.Asked.the-variants.{Print, Measure, Hide}
+use Rattle.input_parts.specs.declared.Asked.the-variants.{Print, Measure, Hide, Bind}
 use Rattle.input_parts.specs.declared.Told.{Told}
 use Rattle.input_parts.specs.Parts.{sizes, sizeOf, rooms, roomOf, bytesPart, numbersPart, problemFrom}
 use Rattle.input_parts.specs.Lying.{Lies, Column, Columns}
@@ -124,3 +125,6 @@ module _ (r : Told) (lent out : List ℕ) {asked : Asked} {q p : Problem} where
 
   pub hidden-told : asked ≡ Hide → answered (r .echo) out ≡ echo-hidden-answer q lent → q ≡ p → Answers asked r p lent out
   hidden-told e a s = subst (λ (x : Asked). Answers x r p lent out) (sym e) (a ∙ ap (λ (z : Problem). echo-hidden-answer z lent) s)
+
+  pub bound-told : asked ≡ Bind → answered (r .echo) out ≡ echo-let-answer q lent → q ≡ p → Answers asked r p lent out
+  bound-told e a s = subst (λ (x : Asked). Answers x r p lent out) (sym e) (a ∙ ap (λ (z : Problem). echo-let-answer z lent) s)

@@ -6,14 +6,16 @@ use Rattle.echo_spec.specs.Input.{Problem}
 use Rattle.echo_spec.specs.Answers.{echo-ext-answer}
 use Rattle.sizes.specs.Size.{echo-size-answer}
 use Rattle.hidden.specs.Hidden.{echo-hidden-answer}
+use Rattle.echo_spec.specs.Lets.{echo-let-answer}
 use Rattle.echo_kernel.specs.Outcomes.{answered}
 use Rattle.echo_size.specs.Sized as sized
 use Rattle.input_parts.specs.declared.Asked.{Asked}
-use Rattle.input_parts.specs.declared.Asked.the-variants.{Print, Measure, Hide}
+use Rattle.input_parts.specs.declared.Asked.the-variants.{Print, Measure, Hide, Bind}
 use Rattle.input_parts.specs.declared.Told.{Told}
 
--- the script, written into what is lent; its size; or its hidden form
+-- the script, written into what is lent; its size; its hidden form; or the script with `let`
 abbrev pub Answers : Asked → Told → Problem → List ℕ → List ℕ → Type 0
 Answers Print r p lent out = answered (r .echo) out ≡ echo-ext-answer p lent
 Answers Measure r p lent out = sized.answered (r .size) ≡ echo-size-answer p
 Answers Hide r p lent out = answered (r .echo) out ≡ echo-hidden-answer p lent
+Answers Bind r p lent out = answered (r .echo) out ≡ echo-let-answer p lent

@@ -13,6 +13,7 @@ ghost use lib.ListN.{length, take, getD};
 ghost use Rattle.echo_spec.specs.Answers.{atFront, echo-ext-answer};
 ghost use Rattle.sizes.specs.Size.{echo-size-answer};
 ghost use Rattle.hidden.specs.Hidden.{echo-hidden-answer};
+ghost use Rattle.echo_spec.specs.Lets.{echo-let-answer};
 ghost use Rattle.echo_kernel.specs.Outcomes.{answered};
 ghost use Rattle.echo_size.specs.Sized as sized;
 ghost use Rattle.input_parts.specs.Parts as parts;
@@ -131,6 +132,8 @@ enum Asked {
     Print,
     Measure,
     Hide,
+    // its script with shared terms bound by `let`
+    Bind,
 }
 
 // What is told of it; of the two, what was not asked for is some refusal.
@@ -231,6 +234,30 @@ fn tell<'a>(
         },
         Asked::Hide => Told {
             echo: echo_hidden::echo_hidden(
+                nodes,
+                bits,
+                entries,
+                asserted,
+                names,
+                ns,
+                nl,
+                vn,
+                vw,
+                anames,
+                ans,
+                anl,
+                iw,
+                vws,
+                fnames,
+                fns,
+                fnl,
+                fw,
+                out,
+            ),
+            size: Size::Refused(EchoError::Limit),
+        },
+        Asked::Bind => Told {
+            echo: echo_let::echo_let(
                 nodes,
                 bits,
                 entries,
@@ -356,6 +383,20 @@ pub fn hidden_parts(
     ensures { λ r. ⌜ answered r (now (out .exit)) ≡ echo-hidden-answer (parts.problemFrom (now (s .entry)) (now (starts .entry)) (now (counts .entry))) (now (out .entry)) ⌝ }
 {
     let t = ask_parts(s, starts, counts, Asked::Hide, out);
+    t.echo
+}
+
+// The script with shared terms bound by `let`. Ruled out: the plain script; the problem of other parts.
+pub fn let_parts(
+    s: &[u8],
+    starts: &[usize; INPUTS],
+    counts: &[usize; INPUTS],
+    out: &mut [u8],
+) -> Echo
+    requires { ⌜ Inside (now s) (now starts) (now counts) ⌝ }
+    ensures { λ r. ⌜ answered r (now (out .exit)) ≡ echo-let-answer (parts.problemFrom (now (s .entry)) (now (starts .entry)) (now (counts .entry))) (now (out .entry)) ⌝ }
+{
+    let t = ask_parts(s, starts, counts, Asked::Bind, out);
     t.echo
 }
 

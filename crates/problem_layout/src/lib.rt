@@ -126,9 +126,9 @@ fn answer(input: &[u8], out: &mut [u8]) -> Said
 
 // ---------------------------------------------------------------- lines
 
-// The lines of the refusals, one behind the other; that with number n goes from end n to end n + 1, and 11 has none. (One array and no arm for each:
+// The lines of the refusals, one behind the other; that with number n goes from end n to end n + 1. (One array and no arm for each:
 // in the proof of a `match` every arm carries every text of the function.)
-const REFUSALS: [u8; 1047] =
+const REFUSALS: [u8; 1150] =
     *b"refused: 1 Malformed: a node is not well formed, the columns of a table differ in length, or a root, array or function is not there\n\
     refused: 2 Name: a name is empty or outside its arena, reserved, given twice, starts with @ or ., or has a byte that no quoted symbol has\n\
     refused: 3 Sort: a Bool stands where a bit-vector is wanted, or a bit-vector where a Bool is\n\
@@ -139,6 +139,7 @@ const REFUSALS: [u8; 1047] =
     refused: 8 Encoding: the node bytes are no whole records, a kind is unknown, an unused operand is not 0, or a bit is not 0 or 1\n\
     refused: 9 Limit: an input is over its limit\n\
     refused: 10 Room: nothing is wrong with the problem, but its script is longer than the buffer for it\n\
+    refused: 11 Clash: a declared name is d and the number of an operator node that is used more than once\n\
     refused: 12 ArrayWidth: a width in the array table is 0 or over 65536\n";
 
 const REFUSAL_ENDS: [usize; 14] = [
@@ -154,8 +155,8 @@ const REFUSAL_ENDS: [usize; 14] = [
     831,
     876,
     977,
-    977,
-    1047,
+    1080,
+    1150,
 ];
 
 // The line of a refusal.

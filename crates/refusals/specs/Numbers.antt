@@ -1,12 +1,11 @@
 -- The number of a refusal, and the refusal with a number.
 use Prim.Native.Nat.{ℕ, suc, _-_, _≤_, _<_}
-use mathlib.Core.Logic.{_≢_}
 use mathlib.Core.Path.{_≡_, refl}
 use mathlib.Core.List.{[], _∷_}
 use native.Mathlib.Omega.{arith}
 use lib.ListN.{getD}
 use Rattle.refusals.specs.declared.EchoError.{EchoError}
-use Rattle.refusals.specs.declared.EchoError.the-variants.{Malformed, Name, Sort, Var, Rotate, Shared, Signature, Encoding, Limit, Room, ArrayWidth}
+use Rattle.refusals.specs.declared.EchoError.the-variants.{Malformed, Name, Sort, Var, Rotate, Shared, Signature, Encoding, Limit, Room, Clash, ArrayWidth}
 
 abbrev pub errorNumber : EchoError → ℕ
 errorNumber Malformed = 1
@@ -19,15 +18,16 @@ errorNumber Signature = 7
 errorNumber Encoding = 8
 errorNumber Limit = 9
 errorNumber Room = 10
+errorNumber Clash = 11
 errorNumber ArrayWidth = 12
 
--- the refusal with this number, from 1 to 10 or 12; 11 is that of another way to print, which no entry point has yet
+-- the refusal with this number, from 1 to 12
 abbrev pub errorOf : ℕ → EchoError
-errorOf n = getD (Malformed ∷ Name ∷ Sort ∷ Var ∷ Rotate ∷ Shared ∷ Signature ∷ Encoding ∷ Limit ∷ Room ∷ ArrayWidth ∷ ArrayWidth ∷ []) (n - 1) ArrayWidth
+errorOf n = getD (Malformed ∷ Name ∷ Sort ∷ Var ∷ Rotate ∷ Shared ∷ Signature ∷ Encoding ∷ Limit ∷ Room ∷ Clash ∷ ArrayWidth ∷ []) (n - 1) ArrayWidth
 
 -- the numbers that there are
 abbrev pub Numbered : ℕ → Type 0
-Numbered n = (0 < n) × (n ≤ 12) × (n ≢ 11)
+Numbered n = (0 < n) × (n ≤ 12)
 
 -- ---------------------------------------------------------------- laws
 
@@ -43,6 +43,7 @@ error-number Signature = refl
 error-number Encoding = refl
 error-number Limit = refl
 error-number Room = refl
+error-number Clash = refl
 error-number ArrayWidth = refl
 
 pub error-small : (e : EchoError) → errorNumber e ≤ 12
@@ -56,6 +57,7 @@ error-small Signature = omega arith
 error-small Encoding = omega arith
 error-small Limit = omega arith
 error-small Room = omega arith
+error-small Clash = omega arith
 error-small ArrayWidth = omega arith
 
 -- each refusal is the one with its number
@@ -70,4 +72,5 @@ error-at Signature = refl
 error-at Encoding = refl
 error-at Limit = refl
 error-at Room = refl
+error-at Clash = refl
 error-at ArrayWidth = refl

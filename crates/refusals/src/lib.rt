@@ -5,7 +5,7 @@ ghost use Rattle.refusals.specs.Numbers.{errorNumber, Numbered};
 
 // ---------------------------------------------------------------- refusals
 
-// Why a problem is refused: the Rust's seven, and four more.
+// Why a problem is refused: the Rust's seven, and five more.
 pub enum EchoError {
     // A node is not well formed, columns of a table differ in length, a root is not a node, or a select or call is of none in the tables.
     Malformed,
@@ -27,6 +27,8 @@ pub enum EchoError {
     Limit,
     // The script is longer than the lent buffer.
     Room,
+    // A declared name is one that a `let` would give to an operator with two uses or more.
+    Clash,
     // A width in the array table is 0 or over 65,536.
     ArrayWidth,
 }
@@ -52,6 +54,8 @@ pub const LIMIT: u64 = 9;
 
 pub const ROOM: u64 = 10;
 
+pub const CLASH: u64 = 11;
+
 pub const ARRAY_WIDTH: u64 = 12;
 
 // A refusal's number. Ruled out: numbers from 0 on; 8 and 9 the other way about.
@@ -69,6 +73,7 @@ pub fn number_of(e: EchoError) -> u64
         EchoError::Encoding => ENCODING,
         EchoError::Limit => LIMIT,
         EchoError::Room => ROOM,
+        EchoError::Clash => CLASH,
         EchoError::ArrayWidth => ARRAY_WIDTH,
     }
 }
@@ -89,6 +94,7 @@ pub fn error_of(n: u64) -> EchoError
         ENCODING => EchoError::Encoding,
         LIMIT => EchoError::Limit,
         ROOM => EchoError::Room,
+        CLASH => EchoError::Clash,
         _ => EchoError::ArrayWidth,
     }
 }

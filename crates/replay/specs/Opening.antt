@@ -8,7 +8,7 @@ use lib.ListN.{length}
 use Rattle.echo_spec.specs.Input.{word32}
 use Rattle.input_parts.specs.Parts.{sizeOf, roomOf}
 use Rattle.replay.specs.declared.Recorded.{Recorded}
-use Rattle.replay.specs.declared.Recorded.the-variants.{Widths, Printer, Sizes, Hidden}
+use Rattle.replay.specs.declared.Recorded.the-variants.{Widths, Printer, Sizes, Hidden, Let}
 use Rattle.replay.specs.declared.Head.{Head}
 use Rattle.replay.specs.declared.Opened.{Opened}
 use Rattle.replay.specs.declared.Opened.the-variants.{Whole, Damaged}
@@ -20,6 +20,7 @@ inputsOf Widths = 14
 inputsOf Printer = 18
 inputsOf Sizes = 18
 inputsOf Hidden = 18
+inputsOf Let = 18
 
 -- the bytes of an acceptance's result: a number for each node, the script, or the terms as one number
 abbrev pub acceptedBytes : Recorded → ℕ → ℕ
@@ -27,6 +28,7 @@ acceptedBytes Widths count = 8 * count
 acceptedBytes Printer count = count
 acceptedBytes Sizes count = 8
 acceptedBytes Hidden count = count
+acceptedBytes Let count = count
 
 abbrev pub resultBytes : Recorded → ℕ → ℕ → ℕ
 resultBytes list number count = pick (eqb number 0) (acceptedBytes list count) 0

@@ -49,6 +49,8 @@ use Rattle.echo_spec.specs.Lets.{
   endlessLet,
   echo-let-answer,
 }
+use Rattle.lets.specs.Numbers.{roots-number, queryNumber, query-number, endlessNumber, endless-let-number}
+use Rattle.lets.specs.Plain.{binds-none, text-plain, roots-plain, clear-unshared}
 use Rattle.theorems.specs.Answered.{text-acceptance, text-refused, text-accepted, text-room, text-told, text-listed, endless-passes, endless-listed, endless-told}
 use Rattle.theorems.specs.LetPrinted.{LetWhole, letPrinted}
 
@@ -76,60 +78,6 @@ let-accepted-exactly p lent =
     (λ e. let h = a .0 e in (endless-let-whole p .0 (h .0), h .1), λ h. a .1 (endless-let-whole p .1 (h .0), h .1))
 
 -- ---------------------------------------------------------------- the numbers
-
-used-number : (d : Dag) (bound : ℕ → Bool) (below : ℕ → Bool → ℕ) → WalkNumbers below → WalkNumbers (usedAs d bound below)
-unfolding usedAs walkNumber
-used-number d bound below h j b = by-bound (bound j)
-  where
-    by-bound : (t : Bool) → T (walkNumber (cond t (unless (sortOk b (boolAt d j)) 3) (below j b)))
-    by-bound true = in-unless walkNumber (sortOk b (boolAt d j)) 3 tt tt
-    by-bound false = h j b
-
-module _ (d : Dag) (ws : List ℕ) (bound : ℕ → Bool) where
-  let-step-number : (below : ℕ → Bool → ℕ) → WalkNumbers below → WalkNumbers (letStep d ws bound below)
-  unfolding letStep
-  let-step-number below h = step-number d ws (usedAs d bound below) (used-number d bound below h)
-
-  walk-number : WalkNumbers (letWalk d ws bound)
-  unfolding letWalk walkNumber
-  walk-number i =
-      let-step-number (letWalksBelow d ws bound i)
-      (upto-all (λ (f : Bool → ℕ). (b : Bool) → T (walkNumber (f b))) (letStep d ws bound) (λ _. 1) (λ b. tt) let-step-number i) i
-
-  assertion-number : (root : ℕ) → T (walkNumber (assertionRefusal d ws bound root))
-  unfolding assertionRefusal
-  assertion-number root =
-      in-orElse walkNumber _ _ (all-number (letWalk d ws bound) walk-number _) (used-number d bound (letWalk d ws bound) walk-number root true)
-
-roots-number : (d : Dag) (ws us roots : List ℕ) → T (walkNumber (letRoots d ws us roots))
-unfolding letRoots walkNumber
-roots-number d ws us [] = tt
-roots-number d ws us (r ∷ rs) =
-    in-orElse walkNumber (assertionRefusal d ws (binds d us r) r) (letRoots d ws us rs) (assertion-number d ws (binds d us r) r) (roots-number d ws us rs)
-
--- what the query can be refused with
-abbrev pub queryNumber : ℕ → Bool
-queryNumber n = among (0 ∷ 1 ∷ 2 ∷ 3 ∷ 4 ∷ 5 ∷ 7 ∷ 11 ∷ 12 ∷ []) n
-
-widen : (n : ℕ) → T (walkNumber n) → T (queryNumber n)
-unfolding walkNumber
-widen n h = among-every queryNumber (0 ∷ 1 ∷ 3 ∷ 4 ∷ 5 ∷ 7 ∷ []) tt n h
-
-pub query-number : (d : Dag) (ws roots : List ℕ) → T (queryNumber (letRefusalWith d ws roots))
-unfolding letRefusalWith
-query-number d ws roots =
-    checks-number queryNumber d ws (unless (namesClear d (usesIn d roots)) 11) (letRoots d ws (usesIn d roots) roots) tt
-    (in-unless queryNumber (namesClear d (usesIn d roots)) 11 tt tt) (widen _ (roots-number d ws (usesIn d roots) roots))
-
--- what the problem can be refused with, given endless room
-abbrev pub endlessNumber : ℕ → Bool
-endlessNumber n = among (0 ∷ 1 ∷ 2 ∷ 3 ∷ 4 ∷ 5 ∷ 7 ∷ 8 ∷ 9 ∷ 11 ∷ 12 ∷ []) n
-
-pub endless-let-number : (p : Problem) → T (endlessNumber (endlessLet p))
-unfolding endlessLet
-endless-let-number p =
-    let r : ℕ = letRefusal (dagOf p) (length (p .bits)) (p .roots) in
-    endless-listed endlessNumber p r tt tt tt (among-every endlessNumber (0 ∷ 1 ∷ 2 ∷ 3 ∷ 4 ∷ 5 ∷ 7 ∷ 11 ∷ 12 ∷ []) tt r (query-number (dagOf p) _ (p .roots)))
 
 -- 6 does not occur, and no number above 12
 pub let-number : (p : Problem) (lent : List ℕ) → T (among (0 ∷ 1 ∷ 2 ∷ 3 ∷ 4 ∷ 5 ∷ 7 ∷ 8 ∷ 9 ∷ 10 ∷ 11 ∷ 12 ∷ []) (echo-let-answer p lent .number))
@@ -191,56 +139,6 @@ clash-query d ws roots = (there, λ h. back (h .0) (h .1))
         )
 
 -- ---------------------------------------------------------------- without shared operators
-
-shared-none : (d : Dag) (roots : List ℕ) → T (unshared (d .nodes) (d .side) roots) → (i : ℕ) → shared d (usesIn d roots) i ≡ false
-unfolding shared usesIn unshared
-shared-none d roots h i =
-    no→false (shared d (usesIn d roots) i) λ t.
-    let us : List ℕ = usesOfAll (d .side) (d .nodes) ++ roots in
-    let l : i < length (d .nodes) = ltb→lt i (length (d .nodes)) (and-0 (ltb i (length (d .nodes))) (not (usedOnce (d .nodes) us i)) t) in
-    T-not (usedOnce (d .nodes) us i) (and-1 (ltb i (length (d .nodes))) (not (usedOnce (d .nodes) us i)) t)
-    (every-at (usedOnce (d .nodes) us) 0 (length (d .nodes)) h i (omega arith) (omega arith))
-
-binds-none : (d : Dag) (roots : List ℕ) → T (unshared (d .nodes) (d .side) roots) → (r : ℕ) → binds d (usesIn d roots) r ≡ (λ _. false)
-unfolding binds
-binds-none d roots h r = λ k i. (ap (λ (b : Bool). b && among (reached d r) i) (shared-none d roots h i)) k
-
-rising-none : (a n : ℕ) → rising (λ _. false) a n ≡ []
-unfolding rising
-rising-none a zero = refl
-rising-none a (suc n) = rising-none (suc a) n
-
-module _ (d : Dag) (bits ws : List ℕ) where
-  body-plain : (r : ℕ) → named (λ _. false) (namedOf d ws bits (λ _. false)) r ≡ treeOf d ws bits r
-  unfolding named namedOf namedStep treeOf
-  body-plain r = refl
-
-  assertion-plain : (r : ℕ) → letText (assertionOf d ws bits (λ _. false) r .bindings) (term (assertionOf d ws bits (λ _. false) r .body)) ≡ term (treeOf d ws bits r)
-  unfolding assertionOf letText
-  assertion-plain r = rw (rising-none 0 (length (d .nodes)), letText) (ap term (body-plain r))
-
-  walk-plain : (r : ℕ) → assertionRefusal d ws (λ _. false) r ≡ walk d ws r true
-  unfolding assertionRefusal usedAs letWalk letStep walk walkAll
-  walk-plain r = rw (rising-none 0 (length (d .nodes)), walkAll) refl
-
-  module _ (us : List ℕ) (nothing-bound : (r : ℕ) → binds d us r ≡ (λ _. false)) where
-    text-plain : (roots : List ℕ) → letAssertionsText (assertionsOf d ws bits us roots) ≡ assertionsText (treesOver (treeOf d ws bits) roots)
-    unfolding letAssertionsText assertionsOf assertionsText treesOver
-    text-plain [] = refl
-    text-plain (r ∷ rs) = rw (nothing-bound r, assertion-plain r, text-plain rs)
-
-    roots-plain : (roots : List ℕ) → letRoots d ws us roots ≡ walkRoots d ws roots
-    unfolding letRoots walkRoots walkAll
-    roots-plain [] = refl
-    roots-plain (r ∷ rs) = rw (nothing-bound r, walk-plain r, roots-plain rs)
-
-clear-unshared : (d : Dag) (roots : List ℕ) → T (unshared (d .nodes) (d .side) roots) → T (namesClear d (usesIn d roots))
-unfolding namesClear
-clear-unshared d roots h = all-clear 0 (length (d .nodes))
-  where
-    all-clear : (a n : ℕ) → T (everyFrom (λ i. not (shared d (usesIn d roots) i && inList (Rattle.echo_spec.specs.Lets.letName i) (nameTable d ++ (anameTable d ++ fnameTable d)))) a n)
-    all-clear a zero = tt
-    all-clear a (suc n) = rw (shared-none d roots h a) (all-clear (suc a) n)
 
 script-plain : (p : Problem) → T (unshared (dagOf p .nodes) (dagOf p .side) (p .roots)) → letScript (queryOf p) ≡ script (queryOf p)
 unfolding letScript script renderLet render readingOf

@@ -1,4 +1,4 @@
--- `refusals::error_of` meets its contract: past the ten cases only 12 is left. Assumes nothing.
+-- `refusals::error_of` meets its contract: past the eleven cases only 12 is left. Assumes nothing.
 use Prim.Native.Nat.{ℕ, zero, suc, _≤_, _<_}
 use mathlib.Core.Path.{_≡_, sym}
 use native.Mathlib.Omega.{arith}
@@ -17,8 +17,8 @@ past-above : (n x : ℕ) → 0 < x → Past n x → n < x
 past-above zero x l t = l
 past-above (suc n) x l t = let h : n < x = past-above n x l (t .0) in lt-of-le-ne h (λ e. t .1 (sym e))
 
-last : (x : ℕ) → Numbered x → Past 10 x → 12 ≡ x
-last x (l, m, n) t = let h : 11 < x = lt-of-le-ne (past-above 10 x l t) (λ e. n (sym e)) in omega arith
+last : (x : ℕ) → Numbered x → Past 11 x → 12 ≡ x
+last x (l, m) t = let h : 11 < x = past-above 11 x l t in omega arith
 
 returns : tie.Need-returns
 returns c = search needs
@@ -51,7 +51,10 @@ returns-10 : tie.Need-returns-10
 returns-10 c = search needs
 
 returns-11 : tie.Need-returns-11
-returns-11 c = last _ (c .before .pre) (c .match .rest)
+returns-11 c = search needs
+
+returns-12 : tie.Need-returns-12
+returns-12 c = last _ (c .before .pre) (c .match .rest)
 
 pub error-of-spec : {M : Type 1} → statement M
 error-of-spec =
@@ -67,4 +70,5 @@ error-of-spec =
     returns-8
     returns-9
     returns-10
-    returns-11)
+    returns-11
+    returns-12)

@@ -1,0 +1,4 @@
+pub mod LetRefused
+pub mod Checking
+pub mod LetLines
+pub mod Plans

@@ -1,0 +1,238 @@
+-- What is known of a lent problem when its script with `let` is written, and that script.
+use Prim.Native.Nat.{ℕ, zero, suc, _+_, _*_, _≤_, _<_}
+use mathlib.Core.Path.{_≡_, refl, sym, ap, _∙_, subst}
+use mathlib.Core.List.{List, [], _∷_, _++_, map, append-assoc}
+use mathlib.Core.Bool.{Bool, true, false, not, cond}
+use native.Mathlib.Omega.{arith}
+use native.Mathlib.Decide.{decLt}
+use borrow.Author.Tests.{lt-ltb, not-true}
+use lib.Dec.{T, leb, ltb, leb→le}
+use lib.ListN.{length, getD}
+use Rattle.lists.specs.Bytes.{bytes}
+use Rattle.lists.specs.Tests.{among-every, true→T, T→true}
+use Rattle.echo_spec.specs.Refusals.{unless, _orElse_}
+use Rattle.echo_spec.specs.Shapes.{isBool}
+use Rattle.echo_spec.specs.Input.{Problem, Dag, Node, arrayWidths, shape, no-node, nodesOf, dagOf, queryOf}
+use Rattle.echo_spec.specs.Widths.{ext-wf}
+use Rattle.echo_spec.specs.Names.{namesOk}
+use Rattle.echo_spec.specs.Sharing.{usesOfAll, usedOnce, unshared}
+use Rattle.echo_spec.specs.Tables.{declarationsOf}
+use Rattle.echo_spec.specs.Trees.{treesOver, treeOf}
+use Rattle.echo_spec.specs.Walk.{formula, sortOk, walkAll, walk, walkRoots, tableChecks, checks}
+use Rattle.echo_spec.specs.Render.{logicText, declarationsText, frame, assertionsText, term}
+use Rattle.echo_spec.specs.Accepted.{orElse-passed}
+use Rattle.echo_spec.specs.Answers.{endlessWith}
+use Rattle.echo_spec.specs.Lets.{usesIn, shared, binds, assertionOf, assertionsOf, letText, letAssertionsText, renderLet, letRoots, namesClear, letRefusalWith, letScript, endlessLet}
+use Rattle.lets.specs.Numbers.{endlessNumber, endless-let-number}
+use Rattle.lets.specs.Plain.{binds-none, text-plain, roots-plain, clear-unshared}
+use Rattle.lent.specs.Lent.{Slice, problemAt, dagAt}
+use Rattle.lent.specs.Records.{nodes-length}
+use Rattle.echo_bytes.specs.declared.Place.{Place}
+use Rattle.echo_bytes.specs.Page.{Page, page, start, written}
+use Rattle.echo_bytes.specs.Laws.{written-then}
+use Rattle.echo_lines.specs.Symbols.{symbolTable}
+use Rattle.echo_tables.specs.Refused.{refusedAt, walk-past, walk-is}
+use Rattle.echo_tables.specs.Asked.{Refusable}
+use Rattle.echo_checks.specs.Limits.{bounds}
+use Rattle.echo_sharing.specs.Flags.{Flags, SharedIn}
+use Rattle.echo_reach.specs.Marks.{Whole}
+use Rattle.echo_bindings.specs.LetRefused as letRefused
+use Rattle.echo_bindings.specs.Checking.{usesAt, Sharing}
+use Rattle.echo_bindings.specs.Plans.{Walkable, Assertable, assertionText}
+use Rattle.refusals.specs.Numbers.{Numbered}
+use Rattle.echo_kernel.specs.declared.Out.{Out}
+use Rattle.echo_kernel.specs.declared.Out.the-variants.{Done, Refused}
+use Rattle.echo_kernel.specs.Scripts.{rootText, rootsText, plainScript, declaredChecks}
+use Rattle.echo_kernel.specs.Outcomes.{Wrote}
+use Rattle.echo_kernel.specs.Prepared.{WellFormed, Filled, Measure}
+use Rattle.echo_kernel.proofs.Checking.{bits-binary, wrote-refused, wrote-done, wrote-as, measured-checks}
+use Rattle.echo_kernel.proofs.Answering.{outcome-refused}
+
+-- ---------------------------------------------------------------- the script, and what it is refused with from the names on
+
+-- over the widths ws
+abbrev pub sharedScript : Problem → List ℕ → List ℕ
+sharedScript p ws = frame (declarationsOf (dagOf p) ws) (letAssertionsText (assertionsOf (dagOf p) ws (p .bits) (usesIn (dagOf p) (p .roots)) (p .roots)))
+
+unfoldable pub letTablesRefusal : Problem → List ℕ → ℕ
+letTablesRefusal p ws = tableChecks (dagOf p) ws (unless (namesClear (dagOf p) (usesIn (dagOf p) (p .roots))) 11) (letRoots (dagOf p) ws (usesIn (dagOf p) (p .roots)) (p .roots))
+
+-- ---------------------------------------------------------------- what is known
+
+-- the table of the shared nodes
+pub record Flagged (B N : List Slice) (table : List ℕ) : Type 0 where
+  pub flags : Flags (shared (dagAt B N) (usesAt B N)) (length (dagAt B N .nodes)) table
+
+-- what the writer of an assertion asks, but for the root
+pub record LetTables (B N : List Slice) (ws entries codes Y table : List ℕ) : Type 0 where
+  pub walkable : Walkable B N ws entries codes Y
+  pub whole : Whole B N
+  pub flags : Flags (shared (dagAt B N) (usesAt B N)) (length (dagAt B N .nodes)) table
+
+-- every root is a node whose whole term is not refused
+pub record RootsFree (B N : List Slice) (ws roots : List ℕ) : Type 0 where
+  pub here : (k : ℕ) → k < length roots → getD roots k 0 < length (dagAt B N .nodes)
+  pub free : (k : ℕ) → k < length roots → refusedAt (dagAt B N) ws (getD roots k 0) ≡ 0
+
+pub record LetPrepared (B N : List Slice) (ws entries codes first table : List ℕ) : Type 0 where
+  pub filled : Filled B N ws entries codes first
+  pub flagged : Flagged B N table
+  pub walked : walkRoots (dagAt B N) ws (problemAt B N .roots) ≡ 0
+
+-- ---------------------------------------------------------------- roots
+
+pub assertable : {B N : List Slice} {ws entries codes Y table roots : List ℕ} → LetTables B N ws entries codes Y table → RootsFree B N ws roots → (k : ℕ) {r : ℕ} → k < length roots
+    → r ≡ getD roots k 0 → Assertable B N ws entries codes Y table r
+assertable t f k l e = record { walkable = t .walkable; whole = t .whole; flags = t .flags; here = rw e (f .here k l); free = rw e (f .free k l) }
+
+pub roots-are : (B N : List Slice) (ws roots : List ℕ) → rootsText (assertionText B N ws) roots ≡ letAssertionsText (assertionsOf (dagAt B N) ws (problemAt B N .bits) (usesAt B N) roots)
+unfolding rootsText rootText letAssertionsText assertionsOf bytes
+roots-are B N ws [] = refl
+roots-are B N ws (r ∷ rs) =
+    ap (λ (t : List ℕ). (bytes "(assert" ++ ((32 ∷ assertionText B N ws r) ++ bytes ")\n")) ++ t) (roots-are B N ws rs)
+    ∙ simp append-assoc
+
+-- ---------------------------------------------------------------- before the script
+
+module _ (B N : List Slice) {ws : List ℕ} (h : WellFormed (problemAt B N) ws) where
+  pub whole : Whole B N
+  unfolding dagOf
+  whole = record { within = bounds (problemAt B N) (h .within) .nodes; formed = rw (← h .widths) (h .counted) }
+
+  few : length ws ≤ 2048
+  few = omega (arith, h .counted, nodes-length (problemAt B N .nodes), bounds (problemAt B N) (h .within) .nodes)
+
+  module _ {entries codes first : List ℕ} (f : Filled B N ws entries codes first) where
+    pub refusable : Refusable B N ws codes
+    unfolding dagOf
+    refusable = record { measured = record { widths = h .widths; counted = h .counted }; marked = f .marked }
+
+    pub walkable : {Y : List ℕ} → Y ≡ symbolTable → Walkable B N ws entries codes Y
+    unfolding dagOf
+    walkable y = record {
+      widths = h .widths;
+      counted = h .counted;
+      few = few;
+      side = bounds (problemAt B N) (h .within) .side;
+      binary = bits-binary (problemAt B N) (h .encodes);
+      coded = λ i l. f .marked .at i (omega (arith, h .counted));
+      past = λ i l. f .marked .past i (omega (arith, h .counted));
+      entered = λ i l. f .entered .at i (omega (arith, few));
+      symbols = y;
+      aligned = f .aligned;
+    }
+
+  module _ {table : List ℕ} (t : Flagged B N table) where
+    pub sharing : {codes : List ℕ} → Refusable B N ws codes → Sharing B N ws codes table
+    sharing r = record { whole = whole; refusable = r; flags = t .flags }
+
+  -- the roots of a problem none of whose terms is refused
+  root-free : (roots : List ℕ) → walkRoots (dagAt B N) ws roots ≡ 0 → (k : ℕ) → k < length roots → (getD roots k 0 < length (dagAt B N .nodes)) × (refusedAt (dagAt B N) ws (getD roots k 0) ≡ 0)
+  unfolding walkRoots walkAll dagOf
+  root-free [] e k l = absurd (omega arith)
+  root-free (r ∷ rs) e (suc k) l = root-free rs (orElse-passed (walk (dagAt B N) ws r true) (walkAll (walk (dagAt B N) ws) (map formula rs)) e .1) k (omega arith)
+  root-free (r ∷ rs) e zero l = by-place (decLt r (length (dagAt B N .nodes)))
+    where
+      own : walk (dagAt B N) ws r true ≡ 0
+      own = orElse-passed (walk (dagAt B N) ws r true) (walkAll (walk (dagAt B N) ws) (map formula rs)) e .0
+
+      by-place : Dec (r < length (dagAt B N .nodes)) → (r < length (dagAt B N .nodes)) × (refusedAt (dagAt B N) ws r ≡ 0)
+      by-place (no m) = let z : _≡_ {A = ℕ} 1 0 = sym (walk-past (dagAt B N) ws r (omega arith) true) ∙ own in absurd (omega arith)
+      by-place (yes m) =
+          (m, orElse-passed (unless (sortOk true (isBool (shape (getD (dagAt B N .nodes) r no-node)))) 3) (refusedAt (dagAt B N) ws r) (sym (walk-is (dagAt B N) ws (length (problemAt B N .bits)) (h .widths) (h .counted) r m true) ∙ own) .1)
+
+  pub roots-free : (roots : List ℕ) → walkRoots (dagAt B N) ws roots ≡ 0 → RootsFree B N ws roots
+  roots-free roots e = record { here = λ k l. root-free roots e k l .0; free = λ k l. root-free roots e k l .1 }
+
+  -- by whether a root's whole term is refused
+  pub let-refused : (w : ℕ) → w ≡ walkRoots (dagAt B N) ws (problemAt B N .roots) → 0 < w → (r : ℕ) → r ≡ letRoots (dagAt B N) ws (usesAt B N) (problemAt B N .roots) → 0 < r
+  unfolding dagOf
+  let-refused w e p zero q =
+      let z = letRefused.roots-refused (dagAt B N) ws (length (problemAt B N .bits)) (h .widths) (h .counted) (usesAt B N) (problemAt B N .roots) (sym q) in
+      absurd (omega arith)
+  let-refused w e p (suc r) q = omega arith
+
+  pub let-free : (w : ℕ) → w ≡ walkRoots (dagAt B N) ws (problemAt B N .roots) → w ≤ 0 → letRoots (dagAt B N) ws (usesAt B N) (problemAt B N .roots) ≡ 0
+  unfolding dagOf
+  let-free w e p = letRefused.roots-free (dagAt B N) ws (length (problemAt B N .bits)) (h .widths) (h .counted) (usesAt B N) (problemAt B N .roots) (omega arith)
+
+  -- from the counts of uses
+  pub flags-of : {table : List ℕ} {some : Bool} → SharedIn (nodesOf (problemAt B N .nodes)) (problemAt B N .side) (problemAt B N .roots) some table → some ≡ true → Flagged B N table
+  unfolding dagOf shared usesIn
+  flags-of s e = record { flags = record { at = λ j l. s .flags e .at j l ∙ rw (lt-ltb j (length (nodesOf (problemAt B N .nodes))) l) refl } }
+
+-- ---------------------------------------------------------------- the script
+
+-- the lines before the roots, the roots, and the last line
+pub print-in : (B N : List Slice) (ws l₀ : List ℕ) {a b c : Page}
+    → a ≡ written (page start l₀) (logicText (declarationsOf (dagAt B N) ws) ++ declarationsText (declarationsOf (dagAt B N) ws))
+    → b ≡ written a (rootsText (assertionText B N ws) (problemAt B N .roots)) → c ≡ written b (bytes "(check-sat)\n")
+    → c ≡ written (page start l₀) (sharedScript (problemAt B N) ws)
+print-in B N ws l₀ {a} {b} {c} e f g =
+    let L : List ℕ = logicText (declarationsOf (dagAt B N) ws) in
+    let D : List ℕ = declarationsText (declarationsOf (dagAt B N) ws) in
+    let A : List ℕ = letAssertionsText (assertionsOf (dagAt B N) ws (problemAt B N .bits) (usesAt B N) (problemAt B N .roots)) in
+    let C : List ℕ = bytes "(check-sat)\n" in
+    let f′ : b ≡ written a A = f ∙ ap (written a) (roots-are B N ws (problemAt B N .roots)) in
+    written-then (page start l₀) (L ++ D) (A ++ C) e (written-then a A C f′ g) ∙ ap (written (page start l₀)) (append-assoc L D (A ++ C))
+
+-- ---------------------------------------------------------------- the checks
+
+module _ (p : Problem) (ws : List ℕ) where
+  pub bad-names : namesOk (dagOf p) ≡ false → {text : List ℕ} {pg : Page} {l : List ℕ} → Wrote (letTablesRefusal p ws) text pg (Refused 2) l
+  unfolding letTablesRefusal
+  bad-names e = rw e (record { told = refl })
+
+  module _ (n : namesOk (dagOf p) ≡ true) where
+    -- no operator is shared
+    pub as-plain : unshared (nodesOf (p .nodes)) (p .side) (p .roots) ≡ true → {pg : Page} {o : Out} {l : List ℕ}
+        → Wrote (declaredChecks (dagOf p) ws (walkRoots (dagOf p) ws (p .roots))) (plainScript p ws) pg o l → Wrote (letTablesRefusal p ws) (sharedScript p ws) pg o l
+    unfolding letTablesRefusal dagOf
+    as-plain u w =
+        let none = binds-none (dagOf p) (p .roots) (true→T u) in
+        rw (
+          n,
+          T→true (namesClear (dagOf p) (usesIn (dagOf p) (p .roots))) (clear-unshared (dagOf p) (p .roots) (true→T u)),
+          roots-plain (dagOf p) (p .bits) ws (usesIn (dagOf p) (p .roots)) none (p .roots),
+          text-plain (dagOf p) (p .bits) ws (usesIn (dagOf p) (p .roots)) none (p .roots),
+        ) w
+
+    pub clashing : namesClear (dagOf p) (usesIn (dagOf p) (p .roots)) ≡ false → {text : List ℕ} {pg : Page} {l : List ℕ} → Wrote (letTablesRefusal p ws) text pg (Refused 11) l
+    unfolding letTablesRefusal
+    clashing e = rw (n, e) (record { told = refl })
+
+    pub cleared : namesClear (dagOf p) (usesIn (dagOf p) (p .roots)) ≡ true → {text : List ℕ} {pg : Page} {o : Out} {l : List ℕ}
+        → Wrote (declaredChecks (dagOf p) ws (letRoots (dagOf p) ws (usesIn (dagOf p) (p .roots)) (p .roots))) text pg o l → Wrote (letTablesRefusal p ws) text pg o l
+    unfolding letTablesRefusal
+    cleared e w = rw (n, e) w
+
+module _ (p : Problem) where
+  pub checked-refused : {r : ℕ} {ws : List ℕ} → Measure p r ws → 0 < r → {text : List ℕ} {pg : Page} {l : List ℕ} → Wrote (endlessLet p) text pg (Refused r) l
+  unfolding endlessLet letRefusalWith dagOf
+  checked-refused m h =
+      wrote-refused (endlessLet p)
+      (m .refused h (unless (namesClear (dagOf p) (usesIn (dagOf p) (p .roots))) 11)
+      (letRoots (dagOf p) (ext-wf (length (p .bits)) (arrayWidths p) (p .side) (nodesOf (p .nodes))) (usesIn (dagOf p) (p .roots)) (p .roots))) h
+
+  pub checked-passed : {ws : List ℕ} → WellFormed p ws → {pg : Page} {o : Out} {l : List ℕ} → Wrote (letTablesRefusal p ws) (sharedScript p ws) pg o l → Wrote (endlessLet p) (letScript (queryOf p)) pg o l
+  unfolding endlessLet letRefusalWith letTablesRefusal letScript renderLet dagOf
+  checked-passed {ws} h {pg} {o} {l} w =
+      subst (λ (z : List ℕ). Wrote (endlessLet p) (sharedScript p z) pg o l) (h .widths)
+      (wrote-as
+      (sym (measured-checks p ws h (unless (namesClear (dagOf p) (usesIn (dagOf p) (p .roots))) 11) (letRoots (dagOf p) ws (usesIn (dagOf p) (p .roots)) (p .roots)))
+      ∙ ap (λ (z : List ℕ). endlessWith p (checks (dagOf p) (ext-wf (length (p .bits)) (arrayWidths p) (p .side) (nodesOf (p .nodes))) (unless (namesClear (dagOf p) (usesIn (dagOf p) (p .roots))) 11) (letRoots (dagOf p) z (usesIn (dagOf p) (p .roots)) (p .roots)))) (h .widths)) w)
+
+  -- its number is listed
+  pub listed : {text lent l : List ℕ} {o : Out} → Wrote (endlessLet p) text (page start lent) o l → {x : ℕ} → o ≡ Refused x → Numbered x
+  listed {text} w {x} f =
+      let t = outcome-refused (endlessLet p) text w f in
+      let m : T (endlessNumber x) = subst (λ (k : ℕ). T (endlessNumber k)) (t .0) (endless-let-number p) in
+      (t .1, leb→le x 12 (among-every (λ k. leb k 12) (0 ∷ 1 ∷ 2 ∷ 3 ∷ 4 ∷ 5 ∷ 7 ∷ 8 ∷ 9 ∷ 11 ∷ 12 ∷ []) tt x m))
+
+-- by the counts of uses no operator is shared
+pub unshared-is : {ns : List Node} {side roots table : List ℕ} {some : Bool} → SharedIn ns side roots some table → some ≡ false → unshared ns side roots ≡ true
+unshared-is {ns} {side} {roots} s e = not-no (unshared ns side roots) (sym (s .is) ∙ e)
+  where
+    not-no : (b : Bool) → not b ≡ false → b ≡ true
+    not-no true q = refl
+    not-no false q = let z : _≡_ {A = ℕ} 1 0 = ap (λ (b : Bool). cond b 1 0) q in absurd (omega arith)

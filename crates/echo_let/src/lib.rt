@@ -1,0 +1,240 @@
+// Shared terms printed with `let` (document 02, L4): the entry point `echo_let` over the inputs of `echo_ext` and an output.
+//
+// A problem without shared operators goes the plain printer's way. For any other the checks and tables are the plain printer's too; the
+// roots' refusals are those of whole terms but for which one is told, and each root is written as an assertion with its bindings.
+use echo_bytes::Place;
+use echo_kernel::Echo;
+use echo_kernel::Out;
+use echo_walk::SYMBOLS;
+use lent::BYTES;
+use lent::NODES;
+use lent::NUMBERS;
+use lent::ROOTS;
+use lent::SIDE;
+use lent::clear_bytes;
+use lent::node_count;
+use refusals::CLASH;
+use refusals::EchoError;
+use refusals::MAX_ENTRIES;
+use refusals::MAX_NODES;
+use refusals::NAME;
+ghost use mathlib.Core.Path.{_≡_};
+ghost use Prim.Native.Nat.{_+_, _≤_, _<_};
+ghost use lib.ListN.{length, getD};
+ghost use Rattle.lent.specs.Lent.{problemAt, dagAt, problemOf};
+ghost use Rattle.echo_bytes.specs.Page.{page, start, written};
+ghost use Rattle.echo_spec.specs.Input.{queryOf};
+ghost use Rattle.echo_spec.specs.Lets.{letRoots, letScript, endlessLet, echo-let-answer};
+ghost use Rattle.echo_bindings.specs.Checking.{usesAt};
+ghost use Rattle.echo_bindings.specs.Plans.{assertionText};
+ghost use Rattle.echo_kernel.specs.Scripts.{rootsText, declaredChecks};
+ghost use Rattle.echo_kernel.specs.Outcomes.{Wrote, answered};
+ghost use Rattle.echo_kernel.specs.Prepared.{WellFormed};
+ghost use Rattle.echo_let.specs.Printing.{LetPrepared, LetTables, RootsFree, Flagged, sharedScript, letTablesRefusal};
+
+// ---------------------------------------------------------------- the script
+
+// The roots in order, each written into the rest of the buffer. A full buffer stops nothing.
+fn let_roots<'a>(
+    bytes: &[&[u8]; BYTES],
+    numbers: &[&[u64]; NUMBERS],
+    ws: &'a [u64],
+    entries: &'a [u64; MAX_NODES],
+    codes: &[u64; MAX_NODES],
+    shared: &[u8; MAX_NODES],
+    symbols: &[u8; SYMBOLS],
+    roots: &[u64],
+    p: Place,
+    out: &mut [u8],
+) -> Place
+    requires { ⌜ LetTables (now bytes) (now numbers) (now ws) (now entries) (now codes) (now symbols) (now shared) × RootsFree (now bytes) (now numbers) (now ws) (now roots) × (p .at ≤ length (now out)) ⌝ }
+    ensures { λ r. ⌜ page r (now (out .exit)) ≡ written (page p (now (out .entry))) (rootsText (assertionText (now (bytes .entry)) (now (numbers .entry)) (now (ws .entry))) (now (roots .entry))) ⌝ }
+{
+    let mut q = p;
+    let mut k = 0;
+    while k < roots.len() {
+        let at = q.at;
+        let r = echo_bindings::echo_assertion(
+            bytes,
+            numbers,
+            ws,
+            entries,
+            codes,
+            shared,
+            symbols,
+            echo_kernel::root_at(roots, k),
+            &mut out[at..],
+        );
+        q = echo_kernel::place_after(q, r);
+        k += 1;
+    }
+    q
+}
+
+// The script of a problem with shared operators that passed every check but the one for room.
+fn print_let<'a>(
+    bytes: &[&[u8]; BYTES],
+    numbers: &[&[u64]; NUMBERS],
+    ws: &'a [u64],
+    entries: &'a [u64; MAX_NODES],
+    codes: &[u64; MAX_NODES],
+    first: &[u64; MAX_ENTRIES],
+    shared: &[u8; MAX_NODES],
+    out: &mut [u8],
+) -> Place
+    requires { ⌜ LetPrepared (now bytes) (now numbers) (now ws) (now entries) (now codes) (now first) (now shared) ⌝ }
+    ensures { λ r. ⌜ page r (now (out .exit)) ≡ written (page start (now (out .entry))) (sharedScript (problemAt (now (bytes .entry)) (now (numbers .entry))) (now (ws .entry))) ⌝ }
+{
+    let symbols = echo_lines::symbol_table();
+    let p = echo_decls::declare(bytes, numbers, ws, first, out);
+    let roots = numbers[ROOTS];
+    let q = let_roots(
+        bytes,
+        numbers,
+        ws,
+        entries,
+        codes,
+        shared,
+        &symbols,
+        roots,
+        p,
+        out,
+    );
+    echo_lines::check_sat(q, out)
+}
+
+// ---------------------------------------------------------------- the checks
+
+// From the declared variables on, where some operator is shared.
+fn let_shared(
+    bytes: &[&[u8]; BYTES],
+    numbers: &[&[u64]; NUMBERS],
+    ws: &[u64],
+    shared: &[u8; MAX_NODES],
+    out: &mut [u8],
+) -> Out
+    requires { ⌜ WellFormed (problemAt (now bytes) (now numbers)) (now ws) × Flagged (now bytes) (now numbers) (now shared) ⌝ }
+    ensures { λ r. ⌜ Wrote (declaredChecks (dagAt (now (bytes .entry)) (now (numbers .entry))) (now (ws .entry)) (letRoots (dagAt (now (bytes .entry)) (now (numbers .entry))) (now (ws .entry)) (usesAt (now (bytes .entry)) (now (numbers .entry))) (problemAt (now (bytes .entry)) (now (numbers .entry)) .roots))) (sharedScript (problemAt (now (bytes .entry)) (now (numbers .entry))) (now (ws .entry))) (page start (now (out .entry))) r (now (out .exit)) ⌝ }
+{
+    let mut entries = [0u64; MAX_NODES];
+    let mut codes = [0u64; MAX_NODES];
+    let mut first = [0u64; MAX_ENTRIES];
+    let d = echo_kernel::fill(bytes, numbers, ws, &mut entries, &mut codes, &mut first);
+    if d > 0 {
+        return Out::Refused(d);
+    }
+    let roots = numbers[ROOTS];
+    let e = echo_tables::roots_refused(bytes, numbers, ws, &codes, roots);
+    if e > 0 {
+        return Out::Refused(echo_bindings::roots_refused(
+            bytes,
+            numbers,
+            ws,
+            &codes,
+            shared,
+            roots,
+        ));
+    }
+    Out::Done(print_let(bytes, numbers, ws, &entries, &codes, &first, shared, out))
+}
+
+// From the names on.
+fn let_tables(
+    bytes: &[&[u8]; BYTES],
+    numbers: &[&[u64]; NUMBERS],
+    ws: &[u64],
+    out: &mut [u8],
+) -> Out
+    requires { ⌜ WellFormed (problemAt (now bytes) (now numbers)) (now ws) ⌝ }
+    ensures { λ r. ⌜ Wrote (letTablesRefusal (problemAt (now (bytes .entry)) (now (numbers .entry))) (now (ws .entry))) (sharedScript (problemAt (now (bytes .entry)) (now (numbers .entry))) (now (ws .entry))) (page start (now (out .entry))) r (now (out .exit)) ⌝ }
+{
+    if !echo_checks::names_ok(bytes, numbers) {
+        return Out::Refused(NAME);
+    }
+    let mut shared = [0u8; MAX_NODES];
+    if !echo_sharing::shared_nodes(bytes[NODES], numbers[SIDE], numbers[ROOTS], &mut shared) {
+        return echo_kernel::printed(bytes, numbers, ws, out);
+    }
+    if !echo_clash::names_clear(bytes, numbers, &shared, node_count(bytes[NODES])) {
+        return Out::Refused(CLASH);
+    }
+    let_shared(bytes, numbers, ws, &shared, out)
+}
+
+// Every check but the one for room, in order, and then the script as far as it fits; the place has the length that is needed.
+fn let_checked(bytes: &[&[u8]; BYTES], numbers: &[&[u64]; NUMBERS], out: &mut [u8]) -> Out
+    ensures { λ r. ⌜ Wrote (endlessLet (problemAt (now (bytes .entry)) (now (numbers .entry)))) (letScript (queryOf (problemAt (now (bytes .entry)) (now (numbers .entry))))) (page start (now (out .entry))) r (now (out .exit)) ⌝ }
+{
+    let mut ws = [0u64; MAX_NODES];
+    let e = echo_kernel::measure(bytes, numbers, &mut ws);
+    if e > 0 {
+        return Out::Refused(e);
+    }
+    let n = node_count(bytes[NODES]);
+    let_tables(bytes, numbers, &ws[..n], out)
+}
+
+// ---------------------------------------------------------------- the entry point
+
+// The script with `let` of a lent problem.
+fn let_of(bytes: &[&[u8]; BYTES], numbers: &[&[u64]; NUMBERS], out: &mut [u8]) -> Echo
+    ensures { λ r. ⌜ answered r (now (out .exit)) ≡ echo-let-answer (problemAt (now (bytes .entry)) (now (numbers .entry))) (now (out .entry)) ⌝ }
+{
+    match let_checked(bytes, numbers, out) {
+        Out::Refused(e) => {
+            clear_bytes(out);
+            Echo::Refused(refusals::error_of(e))
+        }
+        Out::Done(p) => {
+            if p.need > out.len() {
+                clear_bytes(out);
+                return Echo::Refused(EchoError::Room);
+            }
+            Echo::Printed(p.need)
+        }
+    }
+}
+
+// THE PRINTER WITH LET. In each assertion every operator that its root reaches and that has two uses or more is bound, the lowest node outermost.
+// An acceptance writes the script and leaves the rest of the buffer as it was; a refusal clears the buffer.
+pub fn echo_let<'a>(
+    nodes: &'a [u8],
+    bits: &'a [u8],
+    side: &'a [u64],
+    roots: &'a [u64],
+    names: &'a [u8],
+    name_start: &'a [u64],
+    name_len: &'a [u64],
+    var_node: &'a [u64],
+    var_width: &'a [u64],
+    anames: &'a [u8],
+    aname_start: &'a [u64],
+    aname_len: &'a [u64],
+    index_width: &'a [u64],
+    value_width: &'a [u64],
+    fnames: &'a [u8],
+    fname_start: &'a [u64],
+    fname_len: &'a [u64],
+    func_width: &'a [u64],
+    out: &mut [u8],
+) -> Echo
+    ensures { λ r. ⌜ answered r (now (out .exit)) ≡ echo-let-answer (problemOf (now (nodes .entry)) (now (bits .entry)) (now (side .entry)) (now (roots .entry)) (now (names .entry)) (now («name_start» .entry)) (now («name_len» .entry)) (now («var_node» .entry)) (now («var_width» .entry)) (now (anames .entry)) (now («aname_start» .entry)) (now («aname_len» .entry)) (now («index_width» .entry)) (now («value_width» .entry)) (now (fnames .entry)) (now («fname_start» .entry)) (now («fname_len» .entry)) (now («func_width» .entry))) (now (out .entry)) ⌝ }
+{
+    let bytes = [nodes, bits, names, anames, fnames];
+    let numbers = [
+        side,
+        roots,
+        name_start,
+        name_len,
+        var_node,
+        var_width,
+        aname_start,
+        aname_len,
+        index_width,
+        value_width,
+        fname_start,
+        fname_len,
+        func_width,
+    ];
+    let_of(&bytes, &numbers, out)
+}

@@ -1,0 +1,138 @@
+// The nodes that are bound in a root's assertion (document 02, L4): marks from the root down, since operands are lower nodes. A node is
+// visited when all that use it were visited, so that its mark can be replaced by whether it is bound, in one table.
+use echo_tables::Form;
+use echo_tables::operands;
+use lent::BYTES;
+use lent::NODES;
+use lent::NUMBERS;
+use lent::SIDE;
+use lent::clear_bytes;
+use lent::node_at;
+use refusals::MAX_NODES;
+ghost use mathlib.Core.Path.{_≡_};
+ghost use mathlib.Core.List.{[], _∷_, map};
+ghost use Prim.Native.Nat.{_+_, _≤_, _<_};
+ghost use lib.Dec.{eqb};
+ghost use lib.ListN.{length, getD, take, drop};
+ghost use Rattle.lists.specs.Tests.{among};
+ghost use Rattle.echo_spec.specs.Lets.{operandsOf, usesIn, shared as «shared-in», binds};
+ghost use Rattle.lent.specs.Lent.{problemAt, dagAt};
+ghost use Rattle.echo_tables.specs.Forms.{formOperands};
+ghost use Rattle.echo_tables.specs.Uses.{FormInside};
+ghost use Rattle.echo_sharing.specs.Flags.{Flags};
+ghost use Rattle.echo_reach.specs.Marks.{Adds, nodesIn, Visited, Exactly, Whole};
+
+// ---------------------------------------------------------------- marks
+
+// Marks node i. A node past the table is not marked.
+fn mark_one(marks: &mut [u8], i: u64)
+    ensures { λ _. ⌜ Adds (among (i ∷ [])) (now (marks .entry)) (now (marks .exit)) ⌝ }
+{
+    let k = i as usize;
+    if k < marks.len() {
+        marks[k] = 1;
+    }
+}
+
+// Marks two nodes.
+fn mark_two(marks: &mut [u8], a: u64, b: u64)
+    ensures { λ _. ⌜ Adds (among (a ∷ b ∷ [])) (now (marks .entry)) (now (marks .exit)) ⌝ }
+{
+    mark_one(marks, a);
+    mark_one(marks, b);
+}
+
+// Marks each node of a list.
+fn mark_each(marks: &mut [u8], xs: &[u64])
+    ensures { λ _. ⌜ Adds (among (now (xs .entry))) (now (marks .entry)) (now (marks .exit)) ⌝ }
+{
+    let mut k = 0;
+    while k < xs.len() {
+        mark_one(marks, xs[k]);
+        k += 1;
+    }
+}
+
+// Marks the nodes of n pairs of side entries from place s on.
+fn mark_pairs(marks: &mut [u8], side: &[u64], s: u64, n: u64)
+    requires { ⌜ n + n ≤ length (drop s (now side)) ⌝ }
+    ensures { λ _. ⌜ Adds (among (take (n + n) (drop s (now (side .entry))))) (now (marks .entry)) (now (marks .exit)) ⌝ }
+{
+    if n == 0 {
+        return;
+    }
+    let from = s as usize;
+    let to = from + (n + n) as usize;
+    mark_each(marks, &side[from..to]);
+}
+
+// Marks the operands of a form.
+fn mark_form(marks: &mut [u8], side: &[u64], f: Form)
+    requires { ⌜ FormInside (now side) f ⌝ }
+    ensures { λ _. ⌜ Adds (among (nodesIn (formOperands (now (side .entry)) f))) (now (marks .entry)) (now (marks .exit)) ⌝ }
+{
+    match f {
+        Form::Leaf => {}
+        Form::One(a, _) => mark_one(marks, a),
+        Form::Two(a, b, _) => mark_two(marks, a, b),
+        Form::Choice(a, b, c) => {
+            mark_one(marks, a);
+            mark_two(marks, b, c);
+        }
+        Form::Chain(j, s, n) => {
+            mark_one(marks, j);
+            mark_pairs(marks, side, s, n);
+        }
+        Form::Arguments(s, n) => {
+            let from = s as usize;
+            let to = from + n as usize;
+            mark_each(marks, &side[from..to]);
+        }
+    }
+}
+
+// ---------------------------------------------------------------- from the root down
+
+// Node i is visited: if it is marked its operands are, and its mark becomes whether it is shared.
+fn visit(
+    bytes: &[&[u8]; BYTES],
+    numbers: &[&[u64]; NUMBERS],
+    shared: u8,
+    i: usize,
+    marks: &mut [u8],
+)
+    requires { ⌜ Whole (now bytes) (now numbers) × (i < length (dagAt (now bytes) (now numbers) .nodes)) × (length (now marks) ≡ 2048) ⌝ }
+    ensures { λ _. ⌜ Visited (operandsOf (dagAt (now (bytes .entry)) (now (numbers .entry))) i) shared i (now (marks .entry)) (now (marks .exit)) ⌝ }
+{
+    if marks[i] != 1 {
+        return;
+    }
+    let nodes = bytes[NODES];
+    let side = numbers[SIDE];
+    let n = node_at(nodes, i);
+    mark_form(marks, side, operands(blast_kernel::shape(n.kind), n));
+    marks[i] = shared;
+}
+
+// For each node whether it is bound in the assertion of a root that is a node: it is shared, and the root reaches it by operands.
+// Ruled out: a rotation's amount reached; a shared node that another root alone reaches; a root with two uses that is not bound.
+pub fn bound_nodes(
+    bytes: &[&[u8]; BYTES],
+    numbers: &[&[u64]; NUMBERS],
+    shared: &[u8; MAX_NODES],
+    root: u64,
+    bound: &mut [u8; MAX_NODES],
+)
+    requires { ⌜ Whole (now bytes) (now numbers) × (root < length (dagAt (now bytes) (now numbers) .nodes)) × Flags («shared-in» (dagAt (now bytes) (now numbers)) (usesIn (dagAt (now bytes) (now numbers)) (problemAt (now bytes) (now numbers) .roots))) (length (dagAt (now bytes) (now numbers) .nodes)) (now shared) ⌝ }
+    ensures { λ _. ⌜ Exactly (binds (dagAt (now (bytes .entry)) (now (numbers .entry))) (usesIn (dagAt (now (bytes .entry)) (now (numbers .entry))) (problemAt (now (bytes .entry)) (now (numbers .entry)) .roots)) root) (now (bound .exit)) ⌝ }
+{
+    clear_bytes(bound);
+    let at = root as usize;
+    bound[at] = 1;
+    let marks = &mut bound[..];
+    let mut i = at + 1;
+    while i > 0 {
+        i -= 1;
+        visit(bytes, numbers, shared[i], i, marks);
+    }
+}
