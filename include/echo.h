@@ -1,6 +1,6 @@
 /*
  * The printer `echo_ext`, the same with constants hidden `echo_hidden`, the same with shared terms bound by let `echo_let`, the size of a
- * script `echo_size`, and the width pass `ext_wf`, for C and C++.
+ * script `echo_size`, the width pass `ext_wf`, and `next_script`, which cuts a file of scripts, for C and C++.
  *
  * The library is target/staticlib/libecho_c.a, written by `rt staticlib echo_c`. It is for x86-64 with the System V calling
  * convention. It allocates nothing, keeps nothing between calls and needs only memcpy and memset of the C library.
@@ -192,6 +192,12 @@ struct width_answer {
                         index_width and value_width differ in length; 0 with any other refusal */
 };
 
+/* What next_script answers. */
+struct script_answer {
+    uint64_t found;  /* 1 if there is a script, 0 if not */
+    uint64_t length; /* the length of the first script; 0 if there is none */
+};
+
 /*
  * Prints a problem as an SMT-LIB script.
  *
@@ -359,6 +365,17 @@ struct width_answer ext_wf(
     const uint64_t *index_width, size_t index_width_len,
     const uint64_t *value_width, size_t value_width_len,
     uint64_t *out, size_t out_len);
+
+/*
+ * The first script in a file that joins scripts with nothing between them: file[0] to file[length - 1]. Call again with what follows it.
+ *
+ * A script ends with its check-sat line. That is a whole line: `(check-sat)` and byte 10, at the start of the file or after byte 10. With
+ * found 0 the file has no such line. Any bytes are answered, also such as no printer wrote; only lines are looked at.
+ *
+ * No script that echo_ext prints is the beginning of a longer one, so that a file of scripts is cut in one way. The time is by length, or
+ * by file_len where there is no such line; it is not recursive.
+ */
+struct script_answer next_script(const uint8_t *file, size_t file_len);
 
 #ifdef __cplusplus
 }

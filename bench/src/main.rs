@@ -1,4 +1,5 @@
 //! Times the port beside the Rust, on the same problems in one run. The answers are compared before anything is timed.
+mod cut;
 mod problem;
 mod shapes;
 use problem::{Answer, Decoded, Problem};
@@ -156,6 +157,44 @@ fn bound_alone(label: &str, p: &Problem) {
     println!("| {label} | {length} | {:.1} | {:.1} to {:.1} | {ns:.2} |", at(&ts, 0.5), at(&ts, 0.1), at(&ts, 0.9));
 }
 
+/// A file cut by the port and line by line in Rust.
+fn cutting(label: &str, file: &[u8]) {
+    assert_eq!(cut::port(file), cut::by_memchr(file), "{label}");
+    assert_eq!(cut::port(file), cut::by_lines(file), "{label}");
+    let beside = |f: &dyn Fn(&[u8]) -> cut::Cut| {
+        pairs(&mut || drop(black_box(f(black_box(file)))), &mut || drop(black_box(cut::port(black_box(file)))))
+    };
+    let (m, l) = (beside(&cut::by_memchr), beside(&cut::by_lines));
+    let mbs = |s: f64| file.len() as f64 / s / 1e6;
+    println!(
+        "| {label} | {} | {} | {:.0} | {:.0} | {:.0} | {:.2} | {:.2} |",
+        file.len(),
+        cut::port(file).0,
+        mbs(m.port),
+        mbs(m.rust),
+        mbs(l.rust),
+        m.ratio[0],
+        l.ratio[0]
+    );
+}
+
+fn cuts() {
+    println!();
+    println!("| file of scripts | bytes | scripts | port MB/s | memchr MB/s | lines MB/s | port by memchr | port by lines |");
+    println!("|---|---|---|---|---|---|---|---|");
+    let mut out = vec![0u8; 48 << 20];
+    for (label, p) in shapes::all() {
+        if ["tree, width 32", "512 variables", "512 names of 32 bytes", "256 roots"].contains(&label) {
+            let Answer(number, length) = problem::echo(&p, &mut out);
+            assert_eq!(number, 0, "{label}");
+            cutting(label, &cut::repeated(&out[..length as usize], 4 << 20));
+        }
+    }
+    cutting("no problem at all: 30 bytes each", &cut::repeated(b"(set-logic QF_BV)\n(check-sat)\n", 4 << 20));
+    cutting("lines of `k-` and nothing else", &cut::repeated(b"k-k-k-k-k-k-k-k-k-k-k-k-k-k-k-k-\n", 4 << 20));
+    cutting("one line", &vec![b'('; 4 << 20]);
+}
+
 fn main() {
     let wanted = std::env::args().nth(1).unwrap_or_default();
     let all: Vec<_> = shapes::all().into_iter().filter(|s| s.0.contains(&wanted)).collect();
@@ -201,6 +240,9 @@ fn main() {
     println!("|---|---|---|---|---|---|");
     for (label, p) in &all {
         hidden(label, p, &mut out);
+    }
+    if wanted.is_empty() || wanted == "cut" {
+        cuts();
     }
     println!();
     println!("| let, nothing shared, port alone | script bytes | plain us | let us | ratio | 10th to 90th |");

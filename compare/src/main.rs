@@ -1,7 +1,7 @@
-//! Makes the recorded lists: `record LIST OUT`, where LIST is widths, printer, sizes, hidden or let. The problems follow from a seed; the answers
+//! Makes the recorded lists: `record LIST OUT`, where LIST is widths, printer, sizes, hidden, let or scripts. The problems follow from a seed; the answers
 //! are the Rust's (oracle.rs), with what documents 01 and 02 add around it (added.rs), and with names that it takes in the place of those
 //! with bytes from 128 on (spelling.rs). Sizes are those of the Rust's scripts, and hidden scripts are put together from two of them (hidden.rs).
-//! Scripts with `let` are those of a printer of their own (lets.rs).
+//! Scripts with `let` are those of a printer of their own (lets.rs). Where scripts end in a file is a model's answer (scripts.rs).
 mod added;
 mod alphabets;
 mod arrays;
@@ -14,6 +14,7 @@ mod list;
 mod oracle;
 mod printer;
 mod problem;
+mod scripts;
 mod spelling;
 mod terms;
 mod trees;
@@ -203,6 +204,29 @@ fn record_hidden(out: &str, long: bool) {
     finish(&list, &tally, out, long);
 }
 
+/// Files of scripts end to end, with the length of each script in them.
+fn record_scripts(out: &str, long: bool) {
+    let cases = scripts::all();
+    let mut labels: BTreeMap<&str, usize> = BTreeMap::new();
+    let mut found = 0;
+    for c in &cases {
+        let n = scripts::lengths(&c.file).len();
+        found += n;
+        *labels.entry(c.label).or_default() += 1;
+        if let Some(want) = c.want {
+            assert_eq!(n, want, "{}: {:?}", c.label, String::from_utf8_lossy(&c.file));
+        }
+    }
+    if long {
+        for (label, n) in &labels {
+            println!("{n:5}  {label}");
+        }
+    }
+    let bytes = scripts::bytes(&cases);
+    std::fs::write(out, &bytes).expect("the list is written");
+    println!("{out}: {} files, {found} scripts, {} bytes", cases.len(), bytes.len());
+}
+
 /// Problems of its own, and of the printer's those that it refuses for a shared node, each once, and every tenth of the others.
 fn record_let(out: &str, long: bool) {
     let mut list = list::List::new(b"LET    2");
@@ -246,8 +270,9 @@ fn run() {
         (Some("sizes"), Some(out)) => record_sizes(out, long),
         (Some("hidden"), Some(out)) => record_hidden(out, long),
         (Some("let"), Some(out)) => record_let(out, long),
+        (Some("scripts"), Some(out)) => record_scripts(out, long),
         _ => {
-            eprintln!("record widths|printer|sizes|hidden|let OUT [--clauses]");
+            eprintln!("record widths|printer|sizes|hidden|let|scripts OUT [--clauses]");
             std::process::exit(2);
         }
     }

@@ -1,6 +1,6 @@
 #!/bin/sh
-# Compiles print_m2.c against the library, runs it and compares what it writes with expected.txt. The header is compiled as C++ too, if
-# g++ is there. CC and CXX name other compilers. Exit status: 0 if all is as expected.
+# Compiles print_m2.c and cut_file.c against the library, runs them and compares what they write with expected.txt and cut_file.txt. The
+# header is compiled as C++ too, if g++ is there. CC and CXX name other compilers. Exit status: 0 if all is as expected.
 set -eu
 cd "$(dirname "$0")/../.."
 library=target/staticlib/libecho_c.a
@@ -9,10 +9,14 @@ if [ ! -f "$library" ]; then
     rt staticlib echo_c
 fi
 mkdir -p target/c
-"${CC:-gcc}" -std=c99 -O2 -Wall -Wextra -Wpedantic -Wconversion -Werror -Iinclude -o target/c/print_m2 examples/c/print_m2.c "$library"
-target/c/print_m2 > target/c/print_m2.out
-diff examples/c/expected.txt target/c/print_m2.out
-echo "run.sh: print_m2 wrote what is expected"
+compiled() {
+    "${CC:-gcc}" -std=c99 -O2 -Wall -Wextra -Wpedantic -Wconversion -Werror -Iinclude -o "target/c/$1" "examples/c/$1.c" "$library"
+    "target/c/$1" > "target/c/$1.out"
+    diff "examples/c/$2" "target/c/$1.out"
+    echo "run.sh: $1 wrote what is expected"
+}
+compiled print_m2 expected.txt
+compiled cut_file cut_file.txt
 cxx=${CXX:-g++}
 if command -v "$cxx" > /dev/null; then
     "$cxx" -x c++ -fsyntax-only -Wall -Wextra -Wpedantic -Werror include/echo.h

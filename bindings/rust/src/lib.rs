@@ -1,7 +1,8 @@
 //! A printer of SMT-LIB scripts, proved: a problem over bit-vectors, arrays and functions is printed whole or refused by a number.
 //!
 //! This package is a thin, safe layer over the proved library. [`echo_ext`] prints a [`Problem`], [`echo_hidden`] prints it with constants
-//! hidden, [`echo_let`] prints it with shared terms bound by `let`, [`echo_size`] tells beforehand how long its script is, and [`ext_wf`] is the width pass alone.
+//! hidden, [`echo_let`] with shared terms bound by `let`, [`echo_size`] tells beforehand how long its script is, [`ext_wf`] is the width
+//! pass alone, and [`scripts`] cuts a file that joins scripts.
 //! Terms are node records ([`node`], [`kind`]), and every input is a slice that is lent for the call.
 //!
 //! Is there an 8-bit `x` with `x + 5 = x`?
@@ -51,8 +52,10 @@ pub mod kind;
 #[allow(unsafe_code)]
 mod raw;
 mod refusal;
+mod scripts;
 
 pub use refusal::{Refusal, WidthRefusal};
+pub use scripts::{Scripts, next_script, scripts};
 
 /// Bytes of a node record.
 pub const NODE_BYTES: usize = 17;

@@ -31,8 +31,14 @@ pub struct WidthAnswer {
     pub count: u64,
 }
 
+#[repr(C)]
+pub struct ScriptAnswer {
+    pub found: u64,
+    pub length: u64,
+}
+
 mod c {
-    use super::{EchoAnswer, SizeAnswer, WidthAnswer};
+    use super::{EchoAnswer, ScriptAnswer, SizeAnswer, WidthAnswer};
 
     unsafe extern "C" {
         pub fn echo_ext(
@@ -211,6 +217,8 @@ mod c {
             out: *mut u64,
             out_len: usize,
         ) -> WidthAnswer;
+
+        pub fn next_script(file: *const u8, file_len: usize) -> ScriptAnswer;
     }
 }
 
@@ -414,4 +422,9 @@ pub fn ext_wf(nodes: &[u8], bits: &[u8], side: &[u64], index_width: &[u64], valu
             out.len(),
         )
     }
+}
+
+pub fn next_script(file: &[u8]) -> ScriptAnswer {
+    // SAFETY: the list at the top.
+    unsafe { c::next_script(file.as_ptr(), file.len()) }
 }

@@ -20,6 +20,8 @@ use Rattle.hidden.specs.Hidden.{zeros, hidden, hiddenAll, hiddenStores, hiddenR
 use Rattle.theorems.specs.Terms.{Fits, FitsAll, FitsStores}
 use Rattle.theorems.specs.Scripts.{bools, scriptOf, Sound, lex-script, script-well-sorted, render-reads}
 use Rattle.theorems.specs.Answered.{Whole, sound}
+use Rattle.theorems.specs.ScriptLines.{reading-script}
+use Rattle.script_lines.specs.Lines.{IsScript}
 
 all-zeros : (n : ℕ) → All (λ b. leb b 1) (replicate n 0)
 all-zeros zero = tt
@@ -88,3 +90,7 @@ module _ (p : Problem) (w : Whole p) where
 
   pub hidden-reads-only : (r : Reading) → Reads (hiddenScript (queryOf p)) r → r ≡ readingHidden p
   hidden-reads-only r h = sym (reads-unique (hiddenScript (queryOf p)) (readingHidden p) r hidden-reads h (ok .declarations .apart))
+
+  -- it is lines, the last of them `(check-sat)`
+  pub hidden-lines : IsScript (hiddenScript (queryOf p))
+  hidden-lines = rw text-is (reading-script (readingHidden p) ok)

@@ -1,3 +1,5 @@
+-- What is promised, by subject: the printer and the width pass (`Claims`), array widths (`ArrayClaims`), sizes (`SizeClaims`), the hidden form
+-- (`HiddenClaims`), shared terms with `let` (`LetClaims`), files of scripts (`JoinedScripts`). The files of instances show that each claim speaks of something.
 pub mod WidthAnswers
 pub mod SizeAnswers
 pub mod HiddenAnswers
@@ -11,3 +13,5 @@ pub mod SizeInstances
 pub mod HiddenInstances
 pub mod LetClaims
 pub mod LetInstances
+pub mod JoinedScripts
+pub mod JoinedInstances

@@ -1,7 +1,8 @@
-// The entry points for C, and for Rust over C: `echo_ext`, `ext_wf` and, in files of their own, `echo_size`, `echo_hidden` and `echo_let` under their plain names, as in
-// include/echo.h. A slice is a pointer and a `size_t`; the answer is a struct of numbers.
+// The entry points for C, and for Rust over C, under their plain names, as in include/echo.h: the printer and the width pass here, the others
+// in files of their own. A slice is a pointer and a `size_t`; the answer is a struct of numbers.
 pub mod hidden_form;
 pub mod let_form;
+pub mod scripts;
 pub mod size;
 
 use c_answers::EchoAnswer;

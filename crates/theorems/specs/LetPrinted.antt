@@ -112,13 +112,13 @@ module _ (p : Problem) (w : LetWhole p) where
   passed =
       checks-passed (dagOf p) (widthsOf (queryOf p)) (unless (namesClear (dagOf p) (usesOf p)) 11) (letRoots (dagOf p) (widthsOf (queryOf p)) (usesOf p) (p .roots)) (w .query)
 
-  sound : SoundDeclarations (reading p .declarations)
+  pub sound : SoundDeclarations (reading p .declarations)
   sound = declarations-sound (queryOf p) (passed .0)
 
   clear : T (namesClear (dagOf p) (usesOf p))
   clear = unless-passed (namesClear (dagOf p) (usesOf p)) 10 (passed .1)
 
-  fit : FitsAssertions (reading p .declarations) (letAssertions p)
+  pub fit : FitsAssertions (reading p .declarations) (letAssertions p)
   unfolding readingOf dagOf
   fit =
       roots-fit (queryOf p) (passed .0) (encoded-binary p (w .encoding)) (usesOf p) clear (p .roots) (passed .2)
@@ -128,7 +128,7 @@ module _ (p : Problem) (w : LetWhole p) where
   unfold-to =
       roots-unfold (queryOf p) (passed .0) (encoded-binary p (w .encoding)) (usesOf p) clear (p .roots) (passed .2)
 
-  text-is : letPrinted p ≡ renderLet (reading p .declarations) (letAssertions p)
+  pub text-is : letPrinted p ≡ renderLet (reading p .declarations) (letAssertions p)
   unfolding letScript readingOf dagOf
   text-is = refl
 

@@ -15,5 +15,6 @@ pub mod LetNames
 pub mod LetUnfolding
 pub mod LetFitting
 pub mod LetPrinted
+pub mod ScriptLines
 pub mod LetAnswered
 pub mod LetPlans

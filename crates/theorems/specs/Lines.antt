@@ -46,12 +46,12 @@ shown-no-break s h = not-T (among s 10) (λ m. among-every (leb 32) s (every-all
 pub shown-text : (s : String) → T (every (leb 32) (bytes s)) → Shown (bytes s)
 shown-text s h = record { bytes = by-test (leb 32) (bytes s) h }
 
-shown-none : Shown []
+pub shown-none : Shown []
 shown-none = record { bytes = tt }
 
 -- ---------------------------------------------------------------- parts of terms
 
-shown-decimal : (n : ℕ) → Shown (decimal n)
+pub shown-decimal : (n : ℕ) → Shown (decimal n)
 shown-decimal n = record {
   bytes = all-weaken digit (leb 32) (λ c t. let l = leb→le 48 c (and-0 (leb 48 c) (leb c 57) t) in le→leb 32 c (omega arith)) (decimal n) (decimal-numeral n .digits);
 }
@@ -61,7 +61,7 @@ unfolding binaryDigits
 shown-digits [] = shown-none
 shown-digits (b ∷ bs) = shown-append (shown-digits bs) (record { bytes = (le→leb 32 (48 + b) (omega arith), tt) })
 
-shown-quoted : (n : Name) → All (leb 32) n → Shown (quoted n)
+pub shown-quoted : (n : Name) → All (leb 32) n → Shown (quoted n)
 unfolding quoted bytes
 shown-quoted n h =
     let name : Shown n = record { bytes = h } in

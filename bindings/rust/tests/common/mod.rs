@@ -33,9 +33,15 @@ pub fn m2(nodes: &[u8]) -> Problem<'_> {
     }
 }
 
-/// The script of a problem, with a check of every byte of an output that is longer, exact and one byte short.
+/// The script of a problem whose names are UTF-8.
 #[track_caller]
 pub fn script(problem: &Problem<'_>, room: usize) -> String {
+    String::from_utf8(script_bytes(problem, room)).expect("the names are UTF-8")
+}
+
+/// The script of a problem, with a check of every byte of an output that is longer, exact and one byte short.
+#[track_caller]
+pub fn script_bytes(problem: &Problem<'_>, room: usize) -> Vec<u8> {
     let mut out = vec![FILL; room];
     let length = echo_ext(problem, &mut out).expect("accepted");
     assert!(out[length..].iter().all(|&b| b == FILL), "the rest of the output is as it was");
@@ -49,7 +55,7 @@ pub fn script(problem: &Problem<'_>, room: usize) -> String {
     assert_eq!(echo_ext(problem, &mut short), Err(Refusal::Room));
     assert!(short.iter().all(|&b| b == 0), "a refusal zeroes the output");
 
-    String::from_utf8(out).expect("the names are UTF-8")
+    out
 }
 
 /// The number of a refused problem, with a check that the whole output is zeroed, for outputs of several lengths.
