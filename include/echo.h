@@ -1,6 +1,7 @@
 /*
  * The printer `echo_ext`, the same with constants hidden `echo_hidden`, the same with shared terms bound by let `echo_let`, the size of a
- * script `echo_size`, the width pass `ext_wf`, and `next_script`, which cuts a file of scripts, for C and C++.
+ * script `echo_size`, the width pass `ext_wf`, `next_script`, which cuts a file of scripts, and the conversions of node records
+ * `shorten_records` and `lengthen_records`, for C and C++.
  *
  * The library is target/staticlib/libecho_c.a, written by `rt staticlib echo_c`. It is for x86-64 with the System V calling
  * convention. It allocates nothing, keeps nothing between calls and needs only memcpy and memset of the C library.
@@ -44,8 +45,9 @@ enum {
 };
 
 /*
- * The numbers that are answered. echo_ext and echo_hidden answer any of them but ECHO_CLASH, echo_let any but ECHO_SHARED, echo_size any but
- * ECHO_ROOM and ECHO_CLASH. ext_wf answers ECHO_ACCEPTED,
+ * The numbers that are answered. ECHO_SHORT_RECORD is lengthen_records' alone; the conversions of records have their own lists, further
+ * down. Of the others echo_ext and echo_hidden answer any but ECHO_CLASH, echo_let any but ECHO_SHARED, echo_size any but ECHO_ROOM and
+ * ECHO_CLASH. ext_wf answers ECHO_ACCEPTED,
  * ECHO_MALFORMED, ECHO_ENCODING, ECHO_LIMIT, ECHO_ROOM or ECHO_ARRAY_WIDTH. If several things are wrong, the order is 9, 8, 1 (columns),
  * 12, 1 (width pass), 2, 6 or for echo_let 11, 4 and 7 (declarations), then what the walk over the roots meets first, and 10 last.
  */
@@ -121,7 +123,10 @@ enum {
     ECHO_CLASH = 11,
 
     /* An element of index_width or value_width is 0 or above ECHO_MAX_ARRAY_WIDTH, whether a node names the array or not. */
-    ECHO_ARRAY_WIDTH = 12
+    ECHO_ARRAY_WIDTH = 12,
+
+    /* Shorter records end inside a record, or have a kind above 38. */
+    ECHO_SHORT_RECORD = 16
 };
 
 /*
@@ -183,6 +188,12 @@ struct size_answer {
     uint64_t number; /* ECHO_ACCEPTED, or why the problem is refused; never ECHO_ROOM */
     uint64_t length; /* the length of the script; 0 with a refusal */
     uint64_t terms;  /* how many terms the walk enters; 0 with a refusal */
+};
+
+/* What the conversions of records answer. */
+struct record_answer {
+    uint64_t number; /* ECHO_ACCEPTED, or why the bytes are refused */
+    uint64_t length; /* the length of the result; 0 with a refusal */
 };
 
 /* What ext_wf answers. */
@@ -376,6 +387,35 @@ struct width_answer ext_wf(
  * by file_len where there is no such line; it is not recursive.
  */
 struct script_answer next_script(const uint8_t *file, size_t file_len);
+
+/*
+ * Shorter records: the kind byte of each node and then only the operands that its kind has, each a little-endian number of 4 bytes. The
+ * list of kinds above says which operands a kind has; they are the first ones of its record.
+ *
+ * shorten_records turns records of ECHO_NODE_BYTES bytes into these, lengthen_records turns these into records. Either way round gives back
+ * the bytes begun with. The shorter form has 1 byte a node and 4 an operand, and is never longer than the other.
+ *
+ * Accepted: number is ECHO_ACCEPTED, out[0] to out[length - 1] is the result, and every element of out from out[length] on is what it was
+ * before the call.
+ *
+ * Refused: length is 0, and all out_len elements of out are 0. The numbers are, in this order:
+ *
+ *   shorten_records    ECHO_LIMIT: old_len is above ECHO_MAX_NODES_LEN.
+ *                      ECHO_ENCODING: no whole number of records, a kind above 38, or an operand that the kind does not have is not 0.
+ *                      ECHO_ROOM: the result is longer than the output.
+ *   lengthen_records   ECHO_LIMIT: bytes go on after ECHO_MAX_NODES whole records, whatever they are.
+ *                      ECHO_SHORT_RECORD: before that, the bytes end inside a record, or a kind is above 38.
+ *                      ECHO_ROOM: the result is longer than the output.
+ *
+ * Neither is recursive.
+ */
+struct record_answer shorten_records(
+    const uint8_t *old_nodes, size_t old_len,
+    uint8_t *out, size_t out_len);
+
+struct record_answer lengthen_records(
+    const uint8_t *new_nodes, size_t new_len,
+    uint8_t *out, size_t out_len);
 
 #ifdef __cplusplus
 }

@@ -1,6 +1,7 @@
 //! Times the port beside the Rust, on the same problems in one run. The answers are compared before anything is timed.
 mod cut;
 mod problem;
+mod records;
 mod shapes;
 use problem::{Answer, Decoded, Problem};
 use std::ffi::{c_int, c_long};
@@ -197,6 +198,9 @@ fn cuts() {
 
 fn main() {
     let wanted = std::env::args().nth(1).unwrap_or_default();
+    if wanted == "records" {
+        return records::table();
+    }
     let all: Vec<_> = shapes::all().into_iter().filter(|s| s.0.contains(&wanted)).collect();
     let mut out = vec![0u8; 48 << 20];
     println!("| printer | script bytes | Rust us | port us | ratio | 10th to 90th | Rust MB/s | port MB/s |");
@@ -269,4 +273,6 @@ fn main() {
     alone("over a limit", 0, &shapes::over_limit(), 9);
     alone("over a limit", 4096, &shapes::over_limit(), 9);
     alone("over a limit", 1 << 20, &shapes::over_limit(), 9);
+    println!();
+    records::table();
 }

@@ -1,7 +1,8 @@
-//! Makes the recorded lists: `record LIST OUT`, where LIST is widths, printer, sizes, hidden, let or scripts. The problems follow from a seed; the answers
-//! are the Rust's (oracle.rs), with what documents 01 and 02 add around it (added.rs), and with names that it takes in the place of those
-//! with bytes from 128 on (spelling.rs). Sizes are those of the Rust's scripts, and hidden scripts are put together from two of them (hidden.rs).
-//! Scripts with `let` are those of a printer of their own (lets.rs). Where scripts end in a file is a model's answer (scripts.rs).
+//! Makes the recorded lists: `record LIST OUT`, where LIST is widths, printer, sizes, hidden, let, scripts or records. The problems follow
+//! from a seed; the answers are the Rust's (oracle.rs), with what documents 01 and 02 add around it (added.rs), and with names that it takes
+//! in the place of those with bytes from 128 on (spelling.rs). Sizes are those of the Rust's scripts, and hidden scripts are put together
+//! from two of them (hidden.rs). Scripts with `let` are those of a printer of their own (lets.rs). Where scripts end in a file is a model's
+//! answer (scripts.rs), and so are shorter records (records.rs).
 mod added;
 mod alphabets;
 mod arrays;
@@ -14,6 +15,7 @@ mod list;
 mod oracle;
 mod printer;
 mod problem;
+mod records;
 mod scripts;
 mod spelling;
 mod terms;
@@ -261,6 +263,17 @@ fn record_let(out: &str, long: bool) {
     finish(&list, &tally, out, long);
 }
 
+fn record_records(out: &str, long: bool) {
+    let mut list = list::List::new(b"RECORDS1");
+    let mut tally = Tally::default();
+    for c in records::all() {
+        let a = records::answer(c.way, &c.bytes, c.room);
+        tally.note(&c.label, c.want, a.number);
+        list.add(&list::of_records(c.way, &c.bytes, c.room, &a));
+    }
+    finish(&list, &tally, out, long);
+}
+
 fn run() {
     let words: Vec<String> = std::env::args().skip(1).collect();
     let long = words.iter().any(|w| w == "--clauses");
@@ -271,8 +284,9 @@ fn run() {
         (Some("hidden"), Some(out)) => record_hidden(out, long),
         (Some("let"), Some(out)) => record_let(out, long),
         (Some("scripts"), Some(out)) => record_scripts(out, long),
+        (Some("records"), Some(out)) => record_records(out, long),
         _ => {
-            eprintln!("record widths|printer|sizes|hidden|let|scripts OUT [--clauses]");
+            eprintln!("record widths|printer|sizes|hidden|let|scripts|records OUT [--clauses]");
             std::process::exit(2);
         }
     }

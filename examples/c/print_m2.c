@@ -2,9 +2,11 @@
  * Prints one problem: is there an 8-bit x with x + 5 = x? It is the marked case M2. The output is set aside by the length that
  * echo_size tells; the first line has the label, the number, the length and how many terms the walk enters. The script follows, and then
  * the same script with its constant hidden, which is as long.
+ * Then its node records are made shorter, and made records again.
  */
 #include <stdio.h>
 #include <stdlib.h>
+#include <string.h>
 
 #include "echo.h"
 
@@ -86,5 +88,24 @@ int main(void)
         out, room);
     written = written && hidden.number == ECHO_ACCEPTED && hidden.length == size.length && fwrite(out, 1, room, stdout) == room && fflush(stdout) == 0;
     free(out);
-    return written ? 0 : 2;
+    if (!written) {
+        return 2;
+    }
+
+    /* The same nodes in the shorter form, and back: a variable has one operand, the others have two. */
+    uint8_t shorter[sizeof nodes];
+    uint8_t again[sizeof nodes];
+    const struct record_answer made = shorten_records(nodes, sizeof nodes, shorter, sizeof shorter);
+    if (made.number != ECHO_ACCEPTED) {
+        return 3;
+    }
+    const struct record_answer back = lengthen_records(shorter, (size_t)made.length, again, sizeof again);
+    if (back.number != ECHO_ACCEPTED || back.length != sizeof nodes || memcmp(nodes, again, sizeof nodes) != 0) {
+        return 4;
+    }
+    /* Without its last byte the shorter form ends inside a record. */
+    const struct record_answer cut = lengthen_records(shorter, (size_t)made.length - 1, again, sizeof again);
+    printf("records %zu %llu %llu %llu\n", sizeof nodes, (unsigned long long)made.length, (unsigned long long)back.length,
+        (unsigned long long)cut.number);
+    return cut.number == ECHO_SHORT_RECORD ? 0 : 5;
 }

@@ -2,7 +2,8 @@
 //!
 //! This package is a thin, safe layer over the proved library. [`echo_ext`] prints a [`Problem`], [`echo_hidden`] prints it with constants
 //! hidden, [`echo_let`] with shared terms bound by `let`, [`echo_size`] tells beforehand how long its script is, [`ext_wf`] is the width
-//! pass alone, and [`scripts`] cuts a file that joins scripts.
+//! pass alone, [`scripts`] cuts a file that joins scripts, and [`shorten_records`] and [`lengthen_records`] convert node records into
+//! shorter ones and back.
 //! Terms are node records ([`node`], [`kind`]), and every input is a slice that is lent for the call.
 //!
 //! Is there an 8-bit `x` with `x + 5 = x`?
@@ -51,9 +52,11 @@
 pub mod kind;
 #[allow(unsafe_code)]
 mod raw;
+mod records;
 mod refusal;
 mod scripts;
 
+pub use records::{RecordRefusal, lengthen_records, shorten_records};
 pub use refusal::{Refusal, WidthRefusal};
 pub use scripts::{Scripts, next_script, scripts};
 

@@ -26,6 +26,12 @@ pub struct SizeAnswer {
 }
 
 #[repr(C)]
+pub struct RecordAnswer {
+    pub number: u64,
+    pub length: u64,
+}
+
+#[repr(C)]
 pub struct WidthAnswer {
     pub number: u64,
     pub count: u64,
@@ -38,7 +44,7 @@ pub struct ScriptAnswer {
 }
 
 mod c {
-    use super::{EchoAnswer, ScriptAnswer, SizeAnswer, WidthAnswer};
+    use super::{EchoAnswer, RecordAnswer, ScriptAnswer, SizeAnswer, WidthAnswer};
 
     unsafe extern "C" {
         pub fn echo_ext(
@@ -219,6 +225,10 @@ mod c {
         ) -> WidthAnswer;
 
         pub fn next_script(file: *const u8, file_len: usize) -> ScriptAnswer;
+
+        pub fn shorten_records(old: *const u8, old_len: usize, out: *mut u8, out_len: usize) -> RecordAnswer;
+
+        pub fn lengthen_records(new: *const u8, new_len: usize, out: *mut u8, out_len: usize) -> RecordAnswer;
     }
 }
 
@@ -427,4 +437,14 @@ pub fn ext_wf(nodes: &[u8], bits: &[u8], side: &[u64], index_width: &[u64], valu
 pub fn next_script(file: &[u8]) -> ScriptAnswer {
     // SAFETY: the list at the top.
     unsafe { c::next_script(file.as_ptr(), file.len()) }
+}
+
+pub fn shorten_records(old: &[u8], out: &mut [u8]) -> RecordAnswer {
+    // SAFETY: the list at the top.
+    unsafe { c::shorten_records(old.as_ptr(), old.len(), out.as_mut_ptr(), out.len()) }
+}
+
+pub fn lengthen_records(new: &[u8], out: &mut [u8]) -> RecordAnswer {
+    // SAFETY: the list at the top.
+    unsafe { c::lengthen_records(new.as_ptr(), new.len(), out.as_mut_ptr(), out.len()) }
 }

@@ -36,6 +36,7 @@ fn limits_numbers_and_kinds() {
     ] {
         here.insert(name.into(), value as u64);
     }
+    here.insert("ECHO_SHORT_RECORD".into(), RecordRefusal::ShortRecord.number());
     for refusal in Refusal::ALL {
         // Words of a name are parted by a low line there.
         let name = format!("{refusal:?}").replace("ArrayWidth", "Array_Width");
@@ -49,5 +50,5 @@ fn limits_numbers_and_kinds() {
 
     let there: BTreeMap<String, u64> = header().into_iter().map(|(name, value)| (name.to_string(), value)).collect();
     assert_eq!(here, there);
-    assert_eq!(here.len(), 9 + 13 + 39);
+    assert_eq!(here.len(), 9 + 14 + 39);
 }

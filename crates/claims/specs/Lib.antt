@@ -15,3 +15,5 @@ pub mod LetClaims
 pub mod LetInstances
 pub mod JoinedScripts
 pub mod JoinedInstances
+pub mod RecordClaims
+pub mod RecordInstances

@@ -53,8 +53,8 @@ fn room(size: usize, at: usize) -> usize
     if at >= size { 0 } else { size - at }
 }
 
-// The first k bytes of w, stored from `at` on (`push_range`).
-fn copy(out: &mut [u8], at: usize, w: &[u8], k: usize)
+// The first k bytes of w, stored from `at` on (`push_range`). Ruled out: one byte fewer; stored one place further on.
+pub fn copy(out: &mut [u8], at: usize, w: &[u8], k: usize)
     requires { ⌜ (k ≤ length (now w)) × (k ≤ length (now out) - at) ⌝ }
     ensures { λ _. ⌜ now (out .exit) ≡ paste (now (out .entry)) at (now (w .entry)) k ⌝ }
 {

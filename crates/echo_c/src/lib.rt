@@ -2,6 +2,7 @@
 // in files of their own. A slice is a pointer and a `size_t`; the answer is a struct of numbers.
 pub mod hidden_form;
 pub mod let_form;
+pub mod records;
 pub mod scripts;
 pub mod size;
 

@@ -10,7 +10,7 @@ use lib.ListN.{length, take, drop, getD}
 use Rattle.lists.specs.Bytes.{bytes}
 use Rattle.lists.specs.Tests.{same, same→eq, every-at, and-0, and-1}
 use Rattle.refusals.specs.declared.EchoError.{EchoError}
-use Rattle.refusals.specs.declared.EchoError.the-variants.{Malformed, Name, Sort, Var, Rotate, Shared, Signature, Encoding, Limit, Room, Clash, ArrayWidth}
+use Rattle.refusals.specs.declared.EchoError.the-variants.{Malformed, Name, Sort, Var, Rotate, Shared, Signature, Encoding, Limit, Room, Clash, ArrayWidth, ShortRecord}
 use Rattle.refusals.specs.Numbers.{errorNumber}
 use Rattle.problem_layout.specs.Layout.{inputs, inputAt}
 use Rattle.problem_layout.specs.Lines.{refusedLine}
@@ -55,10 +55,10 @@ refusals =
     ++ (refusedLine Sort
     ++ (refusedLine Var
     ++ (refusedLine Rotate
-    ++ (refusedLine Shared ++ (refusedLine Signature ++ (refusedLine Encoding ++ (refusedLine Limit ++ (refusedLine Room ++ (refusedLine Clash ++ refusedLine ArrayWidth))))))))))
+    ++ (refusedLine Shared ++ (refusedLine Signature ++ (refusedLine Encoding ++ (refusedLine Limit ++ (refusedLine Room ++ (refusedLine Clash ++ (refusedLine ArrayWidth ++ refusedLine ShortRecord)))))))))))
 
 abbrev pub refusal-ends : List ℕ
-refusal-ends = 0 ∷ 0 ∷ 132 ∷ 270 ∷ 363 ∷ 447 ∷ 530 ∷ 589 ∷ 703 ∷ 831 ∷ 876 ∷ 977 ∷ 1080 ∷ 1150 ∷ []
+refusal-ends = 0 ∷ 0 ∷ 132 ∷ 270 ∷ 363 ∷ 447 ∷ 530 ∷ 589 ∷ 703 ∷ 831 ∷ 876 ∷ 977 ∷ 1080 ∷ 1150 ∷ 1150 ∷ 1150 ∷ 1150 ∷ 1237 ∷ []
 
 refusal-tested : (e : EchoError) → T (pieces refusals refusal-ends (λ j. refusedLine e) (errorNumber e))
 unfolding bytes same refusedLine
@@ -74,6 +74,7 @@ refusal-tested Limit = tt
 refusal-tested Room = tt
 refusal-tested Clash = tt
 refusal-tested ArrayWidth = tt
+refusal-tested ShortRecord = tt
 
 pub refusal-piece : {k : ℕ} (e : EchoError) → k ≡ errorNumber e → Piece refusals refusal-ends k (refusedLine e)
 refusal-piece {k} e h = rw h (piece-of refusals refusal-ends (λ j. refusedLine e) (errorNumber e) (refusal-tested e))

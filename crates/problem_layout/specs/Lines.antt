@@ -4,7 +4,7 @@ use mathlib.Core.List.{List, _++_}
 use Rattle.lists.specs.Bytes.{bytes}
 use Rattle.echo_spec.specs.Render.{decimal}
 use Rattle.refusals.specs.declared.EchoError.{EchoError}
-use Rattle.refusals.specs.declared.EchoError.the-variants.{Malformed, Name, Sort, Var, Rotate, Shared, Signature, Encoding, Limit, Room, Clash, ArrayWidth}
+use Rattle.refusals.specs.declared.EchoError.the-variants.{Malformed, Name, Sort, Var, Rotate, Shared, Signature, Encoding, Limit, Room, Clash, ArrayWidth, ShortRecord}
 use Rattle.problem_layout.specs.Layout.{inputAt}
 
 unfoldable pub refusedLine : EchoError → List ℕ
@@ -20,6 +20,7 @@ refusedLine Limit = bytes "refused: 9 Limit: an input is over its limit\n"
 refusedLine Room = bytes "refused: 10 Room: nothing is wrong with the problem, but its script is longer than the buffer for it\n"
 refusedLine Clash = bytes "refused: 11 Clash: a declared name is d and the number of an operator node that is used more than once\n"
 refusedLine ArrayWidth = bytes "refused: 12 ArrayWidth: a width in the array table is 0 or over 65536\n"
+refusedLine ShortRecord = bytes "refused: 16 ShortRecord: the shorter records end inside a record, or a kind is unknown\n"
 
 -- input k by its number, from 1, and its name
 unfoldable pub inputText : ℕ → List ℕ

@@ -126,9 +126,9 @@ fn answer(input: &[u8], out: &mut [u8]) -> Said
 
 // ---------------------------------------------------------------- lines
 
-// The lines of the refusals, one behind the other; that with number n goes from end n to end n + 1. (One array and no arm for each:
-// in the proof of a `match` every arm carries every text of the function.)
-const REFUSALS: [u8; 1150] =
+// The lines of the refusals, one behind the other; that with number n goes from end n to end n + 1, and a number that is no refusal's has
+// none. (One array and no arm for each: in the proof of a `match` every arm carries every text of the function.)
+const REFUSALS: [u8; 1237] =
     *b"refused: 1 Malformed: a node is not well formed, the columns of a table differ in length, or a root, array or function is not there\n\
     refused: 2 Name: a name is empty or outside its arena, reserved, given twice, starts with @ or ., or has a byte that no quoted symbol has\n\
     refused: 3 Sort: a Bool stands where a bit-vector is wanted, or a bit-vector where a Bool is\n\
@@ -140,9 +140,10 @@ const REFUSALS: [u8; 1150] =
     refused: 9 Limit: an input is over its limit\n\
     refused: 10 Room: nothing is wrong with the problem, but its script is longer than the buffer for it\n\
     refused: 11 Clash: a declared name is d and the number of an operator node that is used more than once\n\
-    refused: 12 ArrayWidth: a width in the array table is 0 or over 65536\n";
+    refused: 12 ArrayWidth: a width in the array table is 0 or over 65536\n\
+    refused: 16 ShortRecord: the shorter records end inside a record, or a kind is unknown\n";
 
-const REFUSAL_ENDS: [usize; 14] = [
+const REFUSAL_ENDS: [usize; 18] = [
     0,
     0,
     132,
@@ -157,6 +158,10 @@ const REFUSAL_ENDS: [usize; 14] = [
     977,
     1080,
     1150,
+    1150,
+    1150,
+    1150,
+    1237,
 ];
 
 // The line of a refusal.

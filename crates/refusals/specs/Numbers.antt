@@ -5,7 +5,7 @@ use mathlib.Core.List.{[], _∷_}
 use native.Mathlib.Omega.{arith}
 use lib.ListN.{getD}
 use Rattle.refusals.specs.declared.EchoError.{EchoError}
-use Rattle.refusals.specs.declared.EchoError.the-variants.{Malformed, Name, Sort, Var, Rotate, Shared, Signature, Encoding, Limit, Room, Clash, ArrayWidth}
+use Rattle.refusals.specs.declared.EchoError.the-variants.{Malformed, Name, Sort, Var, Rotate, Shared, Signature, Encoding, Limit, Room, Clash, ArrayWidth, ShortRecord}
 
 abbrev pub errorNumber : EchoError → ℕ
 errorNumber Malformed = 1
@@ -20,12 +20,13 @@ errorNumber Limit = 9
 errorNumber Room = 10
 errorNumber Clash = 11
 errorNumber ArrayWidth = 12
+errorNumber ShortRecord = 16
 
--- the refusal with this number, from 1 to 12
+-- the refusal with this number, from 1 to 12 or 16; the three before 16 are none's
 abbrev pub errorOf : ℕ → EchoError
-errorOf n = getD (Malformed ∷ Name ∷ Sort ∷ Var ∷ Rotate ∷ Shared ∷ Signature ∷ Encoding ∷ Limit ∷ Room ∷ Clash ∷ ArrayWidth ∷ []) (n - 1) ArrayWidth
+errorOf n = getD (Malformed ∷ Name ∷ Sort ∷ Var ∷ Rotate ∷ Shared ∷ Signature ∷ Encoding ∷ Limit ∷ Room ∷ Clash ∷ ArrayWidth ∷ ArrayWidth ∷ ArrayWidth ∷ ArrayWidth ∷ ShortRecord ∷ []) (n - 1) ArrayWidth
 
--- the numbers that there are
+-- the numbers that a problem is refused with
 abbrev pub Numbered : ℕ → Type 0
 Numbered n = (0 < n) × (n ≤ 12)
 
@@ -45,8 +46,9 @@ error-number Limit = refl
 error-number Room = refl
 error-number Clash = refl
 error-number ArrayWidth = refl
+error-number ShortRecord = refl
 
-pub error-small : (e : EchoError) → errorNumber e ≤ 12
+pub error-small : (e : EchoError) → errorNumber e ≤ 16
 error-small Malformed = omega arith
 error-small Name = omega arith
 error-small Sort = omega arith
@@ -59,6 +61,7 @@ error-small Limit = omega arith
 error-small Room = omega arith
 error-small Clash = omega arith
 error-small ArrayWidth = omega arith
+error-small ShortRecord = omega arith
 
 -- each refusal is the one with its number
 pub error-at : (e : EchoError) → errorOf (errorNumber e) ≡ e
@@ -74,3 +77,4 @@ error-at Limit = refl
 error-at Room = refl
 error-at Clash = refl
 error-at ArrayWidth = refl
+error-at ShortRecord = refl

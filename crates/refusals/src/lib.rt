@@ -5,7 +5,7 @@ ghost use Rattle.refusals.specs.Numbers.{errorNumber, Numbered};
 
 // ---------------------------------------------------------------- refusals
 
-// Why a problem is refused: the Rust's seven, and five more.
+// Why a problem is refused: the Rust's seven, and five more; and why shorter records are.
 pub enum EchoError {
     // A node is not well formed, columns of a table differ in length, a root is not a node, or a select or call is of none in the tables.
     Malformed,
@@ -25,12 +25,14 @@ pub enum EchoError {
     Encoding,
     // An input is over its limit.
     Limit,
-    // The script is longer than the lent buffer.
+    // The result is longer than the lent buffer.
     Room,
     // A declared name is one that a `let` would give to an operator with two uses or more.
     Clash,
     // A width in the array table is 0 or over 65,536.
     ArrayWidth,
+    // Shorter records end inside one, or have an unknown kind.
+    ShortRecord,
 }
 
 // Their numbers, which stand for them inside the code and outside the language. 0 is an acceptance.
@@ -58,6 +60,8 @@ pub const CLASH: u64 = 11;
 
 pub const ARRAY_WIDTH: u64 = 12;
 
+pub const SHORT_RECORD: u64 = 16;
+
 // A refusal's number. Ruled out: numbers from 0 on; 8 and 9 the other way about.
 pub fn number_of(e: EchoError) -> u64
     ensures { λ r. ⌜ r ≡ errorNumber e ⌝ }
@@ -75,10 +79,11 @@ pub fn number_of(e: EchoError) -> u64
         EchoError::Room => ROOM,
         EchoError::Clash => CLASH,
         EchoError::ArrayWidth => ARRAY_WIDTH,
+        EchoError::ShortRecord => SHORT_RECORD,
     }
 }
 
-// The refusal with this number. Ruled out: the one with the number before it; one refusal for two numbers.
+// The refusal of a problem with this number. Ruled out: the one with the number before it; one refusal for two numbers.
 pub fn error_of(n: u64) -> EchoError
     requires { ⌜ Numbered n ⌝ }
     ensures { λ r. ⌜ errorNumber r ≡ n ⌝ }

@@ -1,0 +1,3 @@
+mod Shortening
+mod Lengthening
+mod Answering
