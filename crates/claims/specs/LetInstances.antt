@@ -5,7 +5,7 @@ use mathlib.Core.List.{List, [], _∷_}
 use mathlib.Core.Bool.{not}
 use lib.Dec.{T}
 use Rattle.lists.specs.Tests.{same}
-use Rattle.reading.specs.Kinds.{Eq}
+use Rattle.reading.specs.Kinds.{Const, Eq}
 use Rattle.smtlib.specs.Grammar.{Script}
 use Rattle.smtlib.specs.Readings.{Reads}
 use Rattle.smtlib.specs.Sorts.{WellSorted}
@@ -36,6 +36,18 @@ twice-accepted = refl
 equal-trees-other-bytes : (reading once ≡ reading twice) × (letPrinted once ≡ letPrinted twice → ⊥)
 unfolding letsMeet once twice
 equal-trees-other-bytes = (refl, λ e. subst (λ (b : List ℕ). T (not (same (letPrinted once) b))) (sym e) tt)
+
+-- the same sum with another number: the name that it is bound under is another
+later : Problem
+later = over (node Const 0 8 0 0 ∷ sum ∷ node Eq 3 3 0 0 ∷ []) (4 ∷ []) "x"
+
+later-accepted : LetAccepts later (lent 300)
+unfolding letsMeet later
+later-accepted = refl
+
+equal-trees-other-names : (reading later ≡ reading twice) × (letPrinted later ≡ letPrinted twice → ⊥)
+unfolding letsMeet later twice
+equal-trees-other-names = (refl, λ e. subst (λ (b : List ℕ). T (not (same (letPrinted later) b))) (sym e) tt)
 
 -- the plain printer refuses the second with 6
 refused-before : echo-ext-answer twice (lent 300) .number ≡ 6
