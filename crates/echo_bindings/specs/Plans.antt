@@ -38,15 +38,15 @@ use Rattle.echo_bindings.specs.Checking.{usesAt}
 use Rattle.echo_bindings.specs.LetRefused.{reached-free}
 use Rattle.echo_bindings.specs.LetLines.{openText, opening, opensFrom, closesFrom, let-lines, unflagged, flagged-piece}
 
--- what the walk is lent, over plain lists; codes are the numbers of the nodes, without plans
+-- what the walk is lent, over plain lists; codes are the numbers of the nodes, whatever their plans
 pub record Walkable (B N : List Slice) (ws entries codes Y : List ℕ) : Type 0 where
   pub widths : ws ≡ ext-wf (length (problemAt B N .bits)) (dagAt B N .array-widths) (dagAt B N .side) (dagAt B N .nodes)
   pub counted : length ws ≡ length (dagAt B N .nodes)
   pub few : length ws ≤ 2048
   pub side : length (problemAt B N .side) ≤ 8192
   pub binary : T (every (λ b. leb b 1) (problemAt B N .bits))
-  pub coded : (i : ℕ) → i < length ws → getD codes i 0 ≡ codeOf (shape (getD (dagAt B N .nodes) i no-node)) + 16 * refusedAt (dagAt B N) ws i
-  pub past : (i : ℕ) → length ws ≤ i → getD codes i 0 ≡ 0
+  pub coded : (i : ℕ) → i < length ws → getD codes i 0 % 128 ≡ codeOf (shape (getD (dagAt B N .nodes) i no-node)) + 16 * refusedAt (dagAt B N) ws i
+  pub past : (i : ℕ) → length ws ≤ i → getD codes i 0 % 128 ≡ 0
   pub entered : (i : ℕ) → i < length ws → getD entries i 0 ≡ orZero (find-node (problemAt B N .var-node) i)
   pub symbols : Y ≡ symbolTable
   pub aligned : Aligned (dagAt B N)
@@ -60,44 +60,107 @@ pub record Bindable (B N : List Slice) (ws : List ℕ) (bound : ℕ → Bool) : 
 -- the bound nodes below i have the plan to be named, the others none
 pub record PlansTo (codes : List ℕ) (bound : ℕ → Bool) (i : ℕ) (plans : List ℕ) : Type 0 where
   pub size : length plans ≡ 2048
-  pub low : (j : ℕ) → j < i → getD plans j 0 ≡ getD codes j 0 + cond (bound j) 128 0
+  pub low : (j : ℕ) → j < i → getD plans j 0 ≡ getD codes j 0 % 128 + cond (bound j) 128 0
+  pub high : (j : ℕ) → i ≤ j → getD plans j 0 ≡ getD codes j 0 % 128
+
+-- the numbers without their plans
+pub record Unplanned (codes plans : List ℕ) : Type 0 where
+  pub size : length plans ≡ length codes
+  pub at : (j : ℕ) → getD plans j 0 ≡ getD codes j 0 % 128
+
+-- the same numbers but for their plans
+pub record Same (codes plans : List ℕ) : Type 0 where
+  pub at : (j : ℕ) → getD plans j 0 % 128 ≡ getD codes j 0 % 128
+
+pub same-none : (codes : List ℕ) → Same codes codes
+same-none codes = record { at = λ j. refl }
+
+pub same-then : {a b c : List ℕ} → Same a b → Same b c → Same a c
+same-then h g = record { at = λ j. g .at j ∙ h .at j }
+
+-- ---------------------------------------------------------------- plans taken out
+
+-- of the first i numbers
+pub record UnplannedTo (codes : List ℕ) (i : ℕ) (plans : List ℕ) : Type 0 where
+  pub size : length plans ≡ length codes
+  pub low : (j : ℕ) → j < i → getD plans j 0 ≡ getD codes j 0 % 128
   pub high : (j : ℕ) → i ≤ j → getD plans j 0 ≡ getD codes j 0
 
--- the first n numbers are the same
-pub record Copied (codes : List ℕ) (n : ℕ) (plans : List ℕ) : Type 0 where
-  pub at : (j : ℕ) → j < n → getD plans j 0 ≡ getD codes j 0
+pub unplanned-none : (codes : List ℕ) → UnplannedTo codes 0 codes
+unplanned-none codes = record { size = refl; low = λ j l. absurd (omega arith); high = λ j l. refl }
 
-pub copied-none : (codes plans : List ℕ) → Copied codes 0 plans
-copied-none codes plans = record { at = λ j l. absurd (omega arith) }
+module _ {codes plans : List ℕ} {i : ℕ} (h : UnplannedTo codes i plans) where
+  pub unplanned-more : i < length plans → UnplannedTo codes (i + 1) (set plans i (getD plans i 0 % 128))
+  unplanned-more l = record {
+    size = length-set plans i _ ∙ h .size;
+    low = λ j m. by-place j m (eqb j i) refl;
+    high = λ j m. getD-set-other plans i j _ 0 (λ z. let y : j ≡ i = z in omega arith) ∙ h .high j (omega arith);
+  }
+    where
+      by-place : (j : ℕ) → j < i + 1 → (t : Bool) → eqb j i ≡ t → getD (set plans i (getD plans i 0 % 128)) j 0 ≡ getD codes j 0 % 128
+      by-place j m true q = let y : j ≡ i = eqb-true j i q in rw y (getD-set-same plans i _ 0 l ∙ ap (λ (x : ℕ). x % 128) (h .high i (omega arith)))
+      by-place j m false q = let y : j ≢ i = eqb-false j i q in getD-set-other plans i j _ 0 y ∙ h .low j (omega arith)
 
-pub copied-more : {codes plans : List ℕ} {i : ℕ} (v : ℕ) → Copied codes i plans → i < length plans → v ≡ getD codes i 0 → Copied codes (i + 1) (set plans i v)
-copied-more {codes} {plans} {i} v h l e = record { at = λ j m. by-place j m (eqb j i) refl }
-  where
-    by-place : (j : ℕ) → j < i + 1 → (t : Bool) → eqb j i ≡ t → getD (set plans i v) j 0 ≡ getD codes j 0
-    by-place j m true q = let y : j ≡ i = eqb-true j i q in rw (y, getD-set-same plans i v 0 l) e
-    by-place j m false q = let y : j ≢ i = eqb-false j i q in getD-set-other plans i j v 0 y ∙ h .at j (omega arith)
-
-pub copied-all : {codes plans : List ℕ} {i n : ℕ} → Copied codes i plans → n ≤ i → Copied codes n plans
-copied-all h l = record { at = λ j m. h .at j (omega arith) }
+  pub unplanned-all : length plans ≤ i → Unplanned codes plans
+  unplanned-all l = record { size = h .size; at = λ j. by-place j (decLt j i) }
+    where
+      by-place : (j : ℕ) → Dec (j < i) → getD plans j 0 ≡ getD codes j 0 % 128
+      by-place j (yes m) = h .low j m
+      by-place j (no m) =
+          let z : getD codes j 0 ≡ 0 = List·getD-eq-default codes 0 (omega (arith, h .size)) in
+          h .high j (omega arith) ∙ omega (arith, z)
 
 -- ---------------------------------------------------------------- one plan more
 
-pub plans-none : (codes plans : List ℕ) (bound : ℕ → Bool) → length plans ≡ 2048 → Copied codes 2048 plans → ((j : ℕ) → 2048 ≤ j → getD codes j 0 ≡ 0) → PlansTo codes bound 0 plans
-plans-none codes plans bound e c past = record { size = e; low = λ j l. absurd (omega arith); high = λ j l. by-place j (decLt j 2048) }
-  where
-    over : (j : ℕ) → (j < 2048 → ⊥) → length plans ≤ j
-    over j m = omega arith
+pub plans-none : {codes plans : List ℕ} (bound : ℕ → Bool) → length plans ≡ 2048 → Unplanned codes plans → PlansTo codes bound 0 plans
+plans-none bound e c = record { size = e; low = λ j l. absurd (omega arith); high = λ j l. c .at j }
 
-    by-place : (j : ℕ) → Dec (j < 2048) → getD plans j 0 ≡ getD codes j 0
-    by-place j (yes m) = c .at j m
-    by-place j (no m) = List·getD-eq-default plans 0 (over j m) ∙ sym (past j (omega arith))
+pub unplanned-same : {codes plans : List ℕ} → Unplanned codes plans → Same codes plans
+unplanned-same h = record { at = λ j. omega (arith, h .at j) }
+
+-- a table with plans is as the one without
+pub plans-same : {codes plans : List ℕ} {bound : ℕ → Bool} {i : ℕ} → PlansTo codes bound i plans → Same codes plans
+plans-same {codes} {plans} {bound} {i} h = record { at = λ j. by-place j (decLt j i) }
+  where
+    by-plan : (j : ℕ) (t : Bool) → getD plans j 0 ≡ getD codes j 0 % 128 + cond t 128 0 → getD plans j 0 % 128 ≡ getD codes j 0 % 128
+    by-plan j true e = omega (arith, e)
+    by-plan j false e = omega (arith, e)
+
+    by-place : (j : ℕ) → Dec (j < i) → getD plans j 0 % 128 ≡ getD codes j 0 % 128
+    by-place j (yes l) = by-plan j (bound j) (h .low j l)
+    by-place j (no l) = by-plan j false (h .high j (omega arith) ∙ omega arith)
+
+-- over any table that is the same but for plans
+pub plans-over : {a b plans : List ℕ} {bound : ℕ → Bool} {i : ℕ} → Same a b → PlansTo a bound i plans → PlansTo b bound i plans
+plans-over {a} {b} {plans} {bound} s h = record {
+  size = h .size;
+  low = λ j l. h .low j l ∙ ap (λ (x : ℕ). x + cond (bound j) 128 0) (sym (s .at j));
+  high = λ j l. h .high j l ∙ sym (s .at j);
+}
+
+pub plans-under : {a b plans : List ℕ} {bound : ℕ → Bool} {i : ℕ} → Same a b → PlansTo b bound i plans → PlansTo a bound i plans
+plans-under s h = plans-over (record { at = λ j. sym (s .at j) }) h
+
+pub walkable-over : {B N : List Slice} {ws entries a b Y : List ℕ} → Same a b → Walkable B N ws entries a Y → Walkable B N ws entries b Y
+walkable-over s w = record {
+  widths = w .widths;
+  counted = w .counted;
+  few = w .few;
+  side = w .side;
+  binary = w .binary;
+  coded = λ i l. s .at i ∙ w .coded i l;
+  past = λ i l. s .at i ∙ w .past i l;
+  entered = w .entered;
+  symbols = w .symbols;
+  aligned = w .aligned;
+}
 
 module _ {codes plans : List ℕ} {bound : ℕ → Bool} {i : ℕ} (h : PlansTo codes bound i plans) where
-  plan-low : (j : ℕ) → j < i + 1 → (b : Bool) → bound i ≡ b → (p : List ℕ) → ((k : ℕ) → k ≢ i → getD p k 0 ≡ getD plans k 0) → getD p i 0 ≡ getD codes i 0 + cond b 128 0
-      → getD p j 0 ≡ getD codes j 0 + cond (bound j) 128 0
+  plan-low : (j : ℕ) → j < i + 1 → (b : Bool) → bound i ≡ b → (p : List ℕ) → ((k : ℕ) → k ≢ i → getD p k 0 ≡ getD plans k 0) → getD p i 0 ≡ getD codes i 0 % 128 + cond b 128 0
+      → getD p j 0 ≡ getD codes j 0 % 128 + cond (bound j) 128 0
   plan-low j l b q p o s = by-place (eqb j i) refl
     where
-      by-place : (t : Bool) → eqb j i ≡ t → getD p j 0 ≡ getD codes j 0 + cond (bound j) 128 0
+      by-place : (t : Bool) → eqb j i ≡ t → getD p j 0 ≡ getD codes j 0 % 128 + cond (bound j) 128 0
       by-place true z = let y : j ≡ i = eqb-true j i z in rw (y, q) s
       by-place false z = let y : j ≢ i = eqb-false j i z in o j y ∙ h .low j (omega arith)
 
@@ -121,17 +184,10 @@ module _ {B N : List Slice} {ws entries codes Y : List ℕ} (w : Walkable B N ws
   abbrev d : Dag
   d = dagAt B N
 
-  code-fits : (i : ℕ) → getD codes i 0 < 128
-  code-fits i = by-place (decLt i (length ws))
-    where
-      by-place : Dec (i < length ws) → getD codes i 0 < 128
-      by-place (yes l) = omega (arith, w .coded i l, code-small (shape (getD (d .nodes) i no-node)), refused-small d ws i)
-      by-place (no l) = let z = w .past i (omega arith) in omega arith
-
   module _ {bound : ℕ → Bool} (b : Bindable B N ws bound) {plans : List ℕ} {i : ℕ} (h : PlansTo codes bound i plans) where
-    plan-of : (j : ℕ) (t : Bool) → getD plans j 0 ≡ getD codes j 0 + cond t 128 0 → eqb (getD plans j 0 / 128) 1 ≡ t
-    plan-of j true e = let z : getD plans j 0 / 128 ≡ 1 = omega (arith, e, code-fits j) in eq-eqb _ 1 z
-    plan-of j false e = ne-eqb _ 1 (λ z. let y : getD plans j 0 / 128 ≡ 1 = z in omega (arith, e, code-fits j))
+    plan-of : (j : ℕ) (t : Bool) → getD plans j 0 ≡ getD codes j 0 % 128 + cond t 128 0 → eqb (getD plans j 0 / 128) 1 ≡ t
+    plan-of j true e = let z : getD plans j 0 / 128 ≡ 1 = omega (arith, e) in eq-eqb _ 1 z
+    plan-of j false e = ne-eqb _ 1 (λ z. let y : getD plans j 0 / 128 ≡ 1 = z in omega (arith, e))
 
     pub plan-below : (j : ℕ) → j < i → eqb (getD plans j 0 / 128) 1 ≡ bound j
     plan-below j l = plan-of j (bound j) (h .low j l)
@@ -140,20 +196,20 @@ module _ {B N : List Slice} {ws entries codes Y : List ℕ} (w : Walkable B N ws
     plan-above j l = plan-of j false (h .high j l ∙ omega arith)
 
     -- a number of the table is the node's own, with 128 more at most where it is bound
-    plan-value : (j : ℕ) → (t : Bool) × (getD plans j 0 ≡ getD codes j 0 + cond t 128 0) × (T t → T (bound j))
+    plan-value : (j : ℕ) → (t : Bool) × (getD plans j 0 ≡ getD codes j 0 % 128 + cond t 128 0) × (T t → T (bound j))
     plan-value j = by-place (decLt j i)
       where
-        by-place : Dec (j < i) → (t : Bool) × (getD plans j 0 ≡ getD codes j 0 + cond t 128 0) × (T t → T (bound j))
+        by-place : Dec (j < i) → (t : Bool) × (getD plans j 0 ≡ getD codes j 0 % 128 + cond t 128 0) × (T t → T (bound j))
         by-place (yes l) = (bound j, h .low j l, λ t. t)
         by-place (no l) = (false, h .high j (omega arith) ∙ omega arith, λ t. absurd t)
 
-    rest-same : (j : ℕ) (t : Bool) → getD plans j 0 ≡ getD codes j 0 + cond t 128 0 → getD plans j 0 % 128 ≡ getD codes j 0
-    rest-same j true e = omega (arith, e, code-fits j)
-    rest-same j false e = omega (arith, e, code-fits j)
+    rest-same : (j : ℕ) (t : Bool) → getD plans j 0 ≡ getD codes j 0 % 128 + cond t 128 0 → getD plans j 0 % 128 ≡ getD codes j 0 % 128
+    rest-same j true e = omega (arith, e)
+    rest-same j false e = omega (arith, e)
 
-    leaf-free : (j : ℕ) (t : Bool) → getD plans j 0 ≡ getD codes j 0 + cond t 128 0 → (T t → T (bound j)) → codeOf (shape (getD (d .nodes) j no-node)) ≤ 1 → getD plans j 0 / 128 ≡ 0
+    leaf-free : (j : ℕ) (t : Bool) → getD plans j 0 ≡ getD codes j 0 % 128 + cond t 128 0 → (T t → T (bound j)) → codeOf (shape (getD (d .nodes) j no-node)) ≤ 1 → getD plans j 0 / 128 ≡ 0
     leaf-free j true e o l = let z = b .inner j (o tt) in absurd (omega arith)
-    leaf-free j false e o l = omega (arith, e, code-fits j)
+    leaf-free j false e o l = omega (arith, e)
 
     module _ (s e p : Slice) (es : s .now ≡ ws) (ee : e .now ≡ entries) (ep : p .now ≡ plans) where
       abbrev F : List Slice
@@ -207,10 +263,10 @@ pub record Writable (B N : List Slice) (ws entries plans Y : List ℕ) (i : ℕ)
   pub free : refusedAt (dagAt B N) ws i ≡ 0
 
 -- before the binding of node i
-pub record Bound (B N : List Slice) (ws entries codes Y table : List ℕ) (i : ℕ) (plans : List ℕ) : Type 0 where
-  pub walkable : Walkable B N ws entries codes Y
+pub record Bound (B N : List Slice) (ws entries Y table : List ℕ) (i : ℕ) (plans : List ℕ) : Type 0 where
+  pub walkable : Walkable B N ws entries plans Y
   pub bindable : Bindable B N ws (flagged table)
-  pub planned : PlansTo codes (flagged table) i plans
+  pub planned : PlansTo plans (flagged table) i plans
   pub within : i < 2048
 
 -- the binding of node i is written if it is bound, and it has its plan
@@ -225,9 +281,9 @@ pub record BindingsWritten (g : ℕ → List ℕ) (codes : List ℕ) (bound : �
 
 -- ---------------------------------------------------------------- a binding
 
-module _ {B N : List Slice} {ws entries codes Y table plans : List ℕ} {i : ℕ} (h : Bound B N ws entries codes Y table i plans) where
+module _ {B N : List Slice} {ws entries Y table plans : List ℕ} {i : ℕ} (h : Bound B N ws entries Y table i plans) where
   -- node i is not bound
-  pub bind-none : (getD table i 0 ≡ 1 → ⊥) → (p : Page) → p .place .need < 2 ^ 64 → BindingWritten (ownText B N ws (flagged table)) codes (flagged table) i p p plans
+  pub bind-none : (getD table i 0 ≡ 1 → ⊥) → (p : Page) → p .place .need < 2 ^ 64 → BindingWritten (ownText B N ws (flagged table)) plans (flagged table) i p p plans
   bind-none f p l = record {
     text = unflagged (getD table i 0) (openText (ownText B N ws (flagged table)) i) f p l;
     planned = plans-skip (h .planned) (ne-eqb (getD table i 0) 1 f);
@@ -242,7 +298,7 @@ module _ {B N : List Slice} {ws entries codes Y table plans : List ℕ} {i : ℕ
 
     pub bind-writes : Writable B N ws entries plans Y i
     bind-writes = record {
-      codes = codes;
+      codes = plans;
       bound = flagged table;
       upto = i;
       walkable = h .walkable;
@@ -253,11 +309,11 @@ module _ {B N : List Slice} {ws entries codes Y table plans : List ℕ} {i : ℕ
     }
 
     pub bind-fits : getD plans i 0 < 128
-    bind-fits = omega (arith, h .planned .high i (omega arith), code-fits (h .walkable) i)
+    bind-fits = omega (arith, h .planned .high i (omega arith))
 
     pub bind-some : {p q r s : Page} → q ≡ written p (bytes " (let ((" ++ texts.named i)
         → r ≡ written q (32 ∷ textIn (planned (λ j. getD plans j 0 / 128) (plain (dagAt B N) ws (problemAt B N .bits))) i) → s ≡ written r (bytes "))")
-        → BindingWritten (ownText B N ws (flagged table)) codes (flagged table) i p s (set plans i (getD plans i 0 + 128))
+        → BindingWritten (ownText B N ws (flagged table)) plans (flagged table) i p s (set plans i (getD plans i 0 + 128))
     unfolding openText
     bind-some {p} {q} {r} a b c = record {
       text =
@@ -328,13 +384,10 @@ module _ {B N : List Slice} {ws entries codes Y table : List ℕ} {root : ℕ} (
     pub flags-bindable : Bindable B N ws (flagged t)
     flags-bindable = subst (Bindable B N ws) (sym same) root-bindable
 
-    pub begin-bindings : {plans : List ℕ} {n : ℕ} → length plans ≡ 2048 → n ≡ 2048 → Copied codes n plans → Bound B N ws entries codes Y t 0 plans
-    begin-bindings {plans} {n} s e c = record {
-      walkable = h .walkable;
-      bindable = flags-bindable;
-      planned = plans-none codes plans (flagged t) s (subst (λ (k : ℕ). Copied codes k plans) e c) (λ j l. h .walkable .past j (omega (arith, h .walkable .few)));
-      within = omega arith;
-    }
+    pub begin-bindings : {plans : List ℕ} → length codes ≡ 2048 → Unplanned codes plans → Bound B N ws entries Y t 0 plans
+    begin-bindings s c =
+        let p = plans-none (flagged t) (c .size ∙ s) c in
+        record { walkable = walkable-over (plans-same p) (h .walkable); bindable = flags-bindable; planned = plans-over (plans-same p) p; within = omega arith }
 
     module _ {plans : List ℕ} (p : PlansTo codes (flagged t) (length ws) plans) where
       pub root-writes : Writable B N ws entries plans Y root

@@ -2,13 +2,12 @@
 //
 // The table of the nodes' numbers says what a node's whole term is refused with. A bound term is checked before any use of it, so that table
 // serves here too: the bound nodes in rising order, and then the root. While the text is written a bound node gets the plan to be named
-// once its binding is written, in a copy of the table.
+// once its binding is written, in the table itself; the next assertion takes the plans out first.
 use echo_bytes::Place;
 use echo_walk::SYMBOLS;
 use lent::BYTES;
 use lent::NUMBERS;
 use lent::count;
-use lent::get;
 use refusals::MAX_NODES;
 ghost use mathlib.Core.Path.{_≡_};
 ghost use mathlib.Core.Bool.{cond};
@@ -25,7 +24,7 @@ ghost use Rattle.echo_walk.specs.Texts.{plain, planned, textIn, named};
 ghost use Rattle.echo_bindings.specs.LetRefused.{firstFrom, ofBound};
 ghost use Rattle.echo_bindings.specs.Checking.{usesAt, Sharing, tableRefusal};
 ghost use Rattle.echo_bindings.specs.LetLines.{closesFrom};
-ghost use Rattle.echo_bindings.specs.Plans.{Writable, Bound, BindingWritten, BindingsWritten, flagged, ownText, Copied, Assertable, assertionText};
+ghost use Rattle.echo_bindings.specs.Plans.{Writable, Bound, BindingWritten, BindingsWritten, flagged, ownText, Same, Unplanned, Assertable, assertionText};
 
 // ---------------------------------------------------------------- what an assertion is refused with
 
@@ -154,7 +153,6 @@ fn bind<'a>(
     numbers: &[&[u64]; NUMBERS],
     ws: &'a [u64],
     entries: &'a [u64],
-    codes: &[u64; MAX_NODES],
     bound: &[u8; MAX_NODES],
     symbols: &[u8; SYMBOLS],
     p: Place,
@@ -162,8 +160,8 @@ fn bind<'a>(
     plans: &mut [u64],
     out: &mut [u8],
 ) -> Place
-    requires { ⌜ Bound (now bytes) (now numbers) (now ws) (now entries) (now codes) (now symbols) (now bound) i (now plans) ⌝ }
-    ensures { λ r. ⌜ BindingWritten (ownText (now (bytes .entry)) (now (numbers .entry)) (now (ws .entry)) (flagged (now (bound .entry)))) (now (codes .entry)) (flagged (now (bound .entry))) i (page p (now (out .entry))) (page r (now (out .exit))) (now (plans .exit)) ⌝ }
+    requires { ⌜ Bound (now bytes) (now numbers) (now ws) (now entries) (now symbols) (now bound) i (now plans) ⌝ }
+    ensures { λ r. ⌜ BindingWritten (ownText (now (bytes .entry)) (now (numbers .entry)) (now (ws .entry)) (flagged (now (bound .entry)))) (now (plans .entry)) (flagged (now (bound .entry))) i (page p (now (out .entry))) (page r (now (out .exit))) (now (plans .exit)) ⌝ }
 {
     if bound[i] != 1 {
         return p;
@@ -191,15 +189,14 @@ fn bindings<'a>(
     numbers: &[&[u64]; NUMBERS],
     ws: &'a [u64],
     entries: &'a [u64],
-    codes: &[u64; MAX_NODES],
     bound: &[u8; MAX_NODES],
     symbols: &[u8; SYMBOLS],
     p: Place,
     plans: &mut [u64],
     out: &mut [u8],
 ) -> Place
-    requires { ⌜ Bound (now bytes) (now numbers) (now ws) (now entries) (now codes) (now symbols) (now bound) 0 (now plans) ⌝ }
-    ensures { λ r. ⌜ BindingsWritten (ownText (now (bytes .entry)) (now (numbers .entry)) (now (ws .entry)) (flagged (now (bound .entry)))) (now (codes .entry)) (flagged (now (bound .entry))) (length (now (ws .entry))) (page p (now (out .entry))) (page r (now (out .exit))) (now (plans .exit)) ⌝ }
+    requires { ⌜ Bound (now bytes) (now numbers) (now ws) (now entries) (now symbols) (now bound) 0 (now plans) ⌝ }
+    ensures { λ r. ⌜ BindingsWritten (ownText (now (bytes .entry)) (now (numbers .entry)) (now (ws .entry)) (flagged (now (bound .entry)))) (now (plans .entry)) (flagged (now (bound .entry))) (length (now (ws .entry))) (page p (now (out .entry))) (page r (now (out .exit))) (now (plans .exit)) ⌝ }
 {
     let n = ws.len();
     let mut q = p;
@@ -210,7 +207,6 @@ fn bindings<'a>(
             numbers,
             ws,
             entries,
-            codes,
             bound,
             symbols,
             q,
@@ -255,52 +251,51 @@ fn close_bindings(bound: &[u8; MAX_NODES], n: usize, p: Place, out: &mut [u8]) -
     q
 }
 
-// The nodes' numbers, to be given plans.
-fn copy_codes(codes: &[u64], plans: &mut [u64])
-    ensures { λ _. ⌜ Copied (now (codes .entry)) (length (now (plans .exit))) (now (plans .exit)) ⌝ }
+// Takes the plans out of the nodes' numbers.
+fn unplan(plans: &mut [u64])
+    ensures { λ _. ⌜ Unplanned (now (plans .entry)) (now (plans .exit)) ⌝ }
 {
     let mut i = 0;
     while i < plans.len() {
-        plans[i] = get(codes, i as u64);
+        plans[i] = plans[i] % 128;
         i += 1;
     }
 }
 
 // The assertion of a root at the start of what is lent: its bindings, the lowest node outermost, then the root, and the brackets. Ruled out:
-// the highest node outermost; a shared node bound that the root does not reach; the term of a bound node again where it is used.
+// the highest node outermost; a shared node bound that the root does not reach; the term of a bound node again where it is used; a number
+// of the table changed but for its plan.
 pub fn echo_assertion<'a>(
     bytes: &[&[u8]; BYTES],
     numbers: &[&[u64]; NUMBERS],
     ws: &'a [u64],
     entries: &'a [u64; MAX_NODES],
-    codes: &[u64; MAX_NODES],
     shared: &[u8; MAX_NODES],
     symbols: &[u8; SYMBOLS],
     root: u64,
+    plans: &mut [u64; MAX_NODES],
     out: &mut [u8],
 ) -> Place
-    requires { ⌜ Assertable (now bytes) (now numbers) (now ws) (now entries) (now codes) (now symbols) (now shared) root ⌝ }
-    ensures { λ r. ⌜ page r (now (out .exit)) ≡ written (page start (now (out .entry))) (literal "(assert" ++ ((32 ∷ assertionText (now (bytes .entry)) (now (numbers .entry)) (now (ws .entry)) root) ++ literal ")\n")) ⌝ }
+    requires { ⌜ Assertable (now bytes) (now numbers) (now ws) (now entries) (now plans) (now symbols) (now shared) root ⌝ }
+    ensures { λ r. ⌜ (page r (now (out .exit)) ≡ written (page start (now (out .entry))) (literal "(assert" ++ ((32 ∷ assertionText (now (bytes .entry)) (now (numbers .entry)) (now (ws .entry)) root) ++ literal ")\n"))) × Same (now (plans .entry)) (now (plans .exit)) ⌝ }
 {
     let mut bound = [0u8; MAX_NODES];
     echo_reach::bound_nodes(bytes, numbers, shared, root, &mut bound);
-    let mut plans = [0u64; MAX_NODES];
-    copy_codes(codes, &mut plans);
+    unplan(plans);
     let p = echo_bytes::start();
     let q = echo_lines::open_assert(p, out);
-    let r = bindings(
+    let r = bindings(bytes, numbers, ws, entries, &bound, symbols, q, plans, out);
+    let s = planned_term(
         bytes,
         numbers,
         ws,
         entries,
-        codes,
-        &bound,
+        &plans[..],
         symbols,
-        q,
-        &mut plans,
+        r,
+        root,
         out,
     );
-    let s = planned_term(bytes, numbers, ws, entries, &plans, symbols, r, root, out);
     let t = close_bindings(&bound, ws.len(), s, out);
     echo_lines::close_line(t, out)
 }

@@ -115,8 +115,9 @@ fn echo_roots(
 
 // ---------------------------------------------------------------- the script
 
-// The script of a problem that passed every check but the one for room, with the tables that were filled.
-fn print<'a>(
+// The script of a problem that passed every check but the one for room, with the tables that were filled. Ruled out: a script without its
+// last line; the declarations in place of the whole.
+pub fn print<'a>(
     bytes: &[&[u8]; BYTES],
     numbers: &[&[u64]; NUMBERS],
     ws: &'a [u64],

@@ -1,5 +1,5 @@
 -- What is known of a lent problem when its script with `let` is written, and that script.
-use Prim.Native.Nat.{ℕ, zero, suc, _+_, _*_, _≤_, _<_}
+use Prim.Native.Nat.{ℕ, zero, suc, _+_, _*_, _%_, _≤_, _<_}
 use mathlib.Core.Path.{_≡_, refl, sym, ap, _∙_, subst}
 use mathlib.Core.List.{List, [], _∷_, _++_, map, append-assoc}
 use mathlib.Core.Bool.{Bool, true, false, not, cond}
@@ -17,6 +17,7 @@ use Rattle.echo_spec.specs.Widths.{ext-wf}
 use Rattle.echo_spec.specs.Names.{namesOk}
 use Rattle.echo_spec.specs.Sharing.{usesOfAll, usedOnce, unshared}
 use Rattle.echo_spec.specs.Tables.{declarationsOf}
+use Rattle.echo_spec.specs.ColumnLaws.{Aligned}
 use Rattle.echo_spec.specs.Trees.{treesOver, treeOf}
 use Rattle.echo_spec.specs.Walk.{formula, sortOk, walkAll, walk, walkRoots, tableChecks, checks}
 use Rattle.echo_spec.specs.Render.{logicText, declarationsText, frame, assertionsText, term}
@@ -31,14 +32,15 @@ use Rattle.echo_bytes.specs.declared.Place.{Place}
 use Rattle.echo_bytes.specs.Page.{Page, page, start, written}
 use Rattle.echo_bytes.specs.Laws.{written-then}
 use Rattle.echo_lines.specs.Symbols.{symbolTable}
-use Rattle.echo_tables.specs.Refused.{refusedAt, walk-past, walk-is}
+use Rattle.echo_tables.specs.Refused.{refusedAt, refused-small, walk-past, walk-is}
+use Rattle.blast_kernel.specs.Codes.{code-small}
 use Rattle.echo_tables.specs.Asked.{Refusable}
 use Rattle.echo_checks.specs.Limits.{bounds}
 use Rattle.echo_sharing.specs.Flags.{Flags, SharedIn}
 use Rattle.echo_reach.specs.Marks.{Whole}
 use Rattle.echo_bindings.specs.LetRefused as letRefused
 use Rattle.echo_bindings.specs.Checking.{usesAt, Sharing}
-use Rattle.echo_bindings.specs.Plans.{Walkable, Assertable, assertionText}
+use Rattle.echo_bindings.specs.Plans.{Walkable, Same, walkable-over, Assertable, assertionText}
 use Rattle.refusals.specs.Numbers.{Numbered}
 use Rattle.echo_kernel.specs.declared.Out.{Out}
 use Rattle.echo_kernel.specs.declared.Out.the-variants.{Done, Refused}
@@ -58,6 +60,15 @@ unfoldable pub letTablesRefusal : Problem → List ℕ → ℕ
 letTablesRefusal p ws = tableChecks (dagOf p) ws (unless (namesClear (dagOf p) (usesIn (dagOf p) (p .roots))) 11) (letRoots (dagOf p) ws (usesIn (dagOf p) (p .roots)) (p .roots))
 
 -- ---------------------------------------------------------------- what is known
+
+-- whether some operator is shared, and if so the table of them
+abbrev pub SharedAt : List Slice → List Slice → Bool → List ℕ → Type 0
+SharedAt B N some table = SharedIn (nodesOf (problemAt B N .nodes)) (problemAt B N .side) (problemAt B N .roots) some table
+
+-- what is asked where names are compared with nodes
+pub record Named (B N : List Slice) : Type 0 where
+  pub whole : Whole B N
+  pub aligned : Aligned (dagAt B N)
 
 -- the table of the shared nodes
 pub record Flagged (B N : List Slice) (table : List ℕ) : Type 0 where
@@ -81,9 +92,9 @@ pub record LetPrepared (B N : List Slice) (ws entries codes first table : List �
 
 -- ---------------------------------------------------------------- roots
 
-pub assertable : {B N : List Slice} {ws entries codes Y table roots : List ℕ} → LetTables B N ws entries codes Y table → RootsFree B N ws roots → (k : ℕ) {r : ℕ} → k < length roots
-    → r ≡ getD roots k 0 → Assertable B N ws entries codes Y table r
-assertable t f k l e = record { walkable = t .walkable; whole = t .whole; flags = t .flags; here = rw e (f .here k l); free = rw e (f .free k l) }
+pub assertable : {B N : List Slice} {ws entries codes plans Y table roots : List ℕ} → LetTables B N ws entries codes Y table → Same codes plans → RootsFree B N ws roots
+    → (k : ℕ) {r : ℕ} → k < length roots → r ≡ getD roots k 0 → Assertable B N ws entries plans Y table r
+assertable t m f k l e = record { walkable = walkable-over m (t .walkable); whole = t .whole; flags = t .flags; here = rw e (f .here k l); free = rw e (f .free k l) }
 
 pub roots-are : (B N : List Slice) (ws roots : List ℕ) → rootsText (assertionText B N ws) roots ≡ letAssertionsText (assertionsOf (dagAt B N) ws (problemAt B N .bits) (usesAt B N) roots)
 unfolding rootsText rootText letAssertionsText assertionsOf bytes
@@ -107,6 +118,10 @@ module _ (B N : List Slice) {ws : List ℕ} (h : WellFormed (problemAt B N) ws) 
     unfolding dagOf
     refusable = record { measured = record { widths = h .widths; counted = h .counted }; marked = f .marked }
 
+    -- a number that fits has no plan
+    small : {n : ℕ} (m : ℕ) → n ≡ m → m < 128 → n % 128 ≡ m
+    small m e l = omega arith
+
     pub walkable : {Y : List ℕ} → Y ≡ symbolTable → Walkable B N ws entries codes Y
     unfolding dagOf
     walkable y = record {
@@ -115,8 +130,8 @@ module _ (B N : List Slice) {ws : List ℕ} (h : WellFormed (problemAt B N) ws) 
       few = few;
       side = bounds (problemAt B N) (h .within) .side;
       binary = bits-binary (problemAt B N) (h .encodes);
-      coded = λ i l. f .marked .at i (omega (arith, h .counted));
-      past = λ i l. f .marked .past i (omega (arith, h .counted));
+      coded = λ i l. small _ (f .marked .at i (omega (arith, h .counted))) (omega (arith, code-small (shape (getD (dagAt B N .nodes) i no-node)), refused-small (dagAt B N) ws i));
+      past = λ i l. small _ (f .marked .past i (omega (arith, h .counted))) (omega arith);
       entered = λ i l. f .entered .at i (omega (arith, few));
       symbols = y;
       aligned = f .aligned;
@@ -156,10 +171,10 @@ module _ (B N : List Slice) {ws : List ℕ} (h : WellFormed (problemAt B N) ws) 
   unfolding dagOf
   let-free w e p = letRefused.roots-free (dagAt B N) ws (length (problemAt B N .bits)) (h .widths) (h .counted) (usesAt B N) (problemAt B N .roots) (omega arith)
 
-  -- from the counts of uses
-  pub flags-of : {table : List ℕ} {some : Bool} → SharedIn (nodesOf (problemAt B N .nodes)) (problemAt B N .side) (problemAt B N .roots) some table → some ≡ true → Flagged B N table
-  unfolding dagOf shared usesIn
-  flags-of s e = record { flags = record { at = λ j l. s .flags e .at j l ∙ rw (lt-ltb j (length (nodesOf (problemAt B N .nodes))) l) refl } }
+-- from the counts of uses
+pub flags-of : (B N : List Slice) {table : List ℕ} {some : Bool} → SharedAt B N some table → some ≡ true → Flagged B N table
+unfolding dagOf shared usesIn
+flags-of B N s e = record { flags = record { at = λ j l. s .flags e .at j l ∙ rw (lt-ltb j (length (nodesOf (problemAt B N .nodes))) l) refl } }
 
 -- ---------------------------------------------------------------- the script
 
@@ -178,25 +193,25 @@ print-in B N ws l₀ {a} {b} {c} e f g =
 
 -- ---------------------------------------------------------------- the checks
 
+-- no operator is shared
+module _ (p : Problem) (u : unshared (nodesOf (p .nodes)) (p .side) (p .roots) ≡ true) where
+  pub clear-plain : true ≡ namesClear (dagOf p) (usesIn (dagOf p) (p .roots))
+  unfolding dagOf
+  clear-plain = sym (T→true (namesClear (dagOf p) (usesIn (dagOf p) (p .roots))) (clear-unshared (dagOf p) (p .roots) (true→T u)))
+
+  pub as-plain : (ws : List ℕ) {pg : Page} {o : Out} {l : List ℕ} → Wrote (declaredChecks (dagOf p) ws (walkRoots (dagOf p) ws (p .roots))) (plainScript p ws) pg o l
+      → Wrote (declaredChecks (dagOf p) ws (letRoots (dagOf p) ws (usesIn (dagOf p) (p .roots)) (p .roots))) (sharedScript p ws) pg o l
+  unfolding dagOf
+  as-plain ws w =
+      let none = binds-none (dagOf p) (p .roots) (true→T u) in
+      rw (roots-plain (dagOf p) (p .bits) ws (usesIn (dagOf p) (p .roots)) none (p .roots), text-plain (dagOf p) (p .bits) ws (usesIn (dagOf p) (p .roots)) none (p .roots)) w
+
 module _ (p : Problem) (ws : List ℕ) where
   pub bad-names : namesOk (dagOf p) ≡ false → {text : List ℕ} {pg : Page} {l : List ℕ} → Wrote (letTablesRefusal p ws) text pg (Refused 2) l
   unfolding letTablesRefusal
   bad-names e = rw e (record { told = refl })
 
   module _ (n : namesOk (dagOf p) ≡ true) where
-    -- no operator is shared
-    pub as-plain : unshared (nodesOf (p .nodes)) (p .side) (p .roots) ≡ true → {pg : Page} {o : Out} {l : List ℕ}
-        → Wrote (declaredChecks (dagOf p) ws (walkRoots (dagOf p) ws (p .roots))) (plainScript p ws) pg o l → Wrote (letTablesRefusal p ws) (sharedScript p ws) pg o l
-    unfolding letTablesRefusal dagOf
-    as-plain u w =
-        let none = binds-none (dagOf p) (p .roots) (true→T u) in
-        rw (
-          n,
-          T→true (namesClear (dagOf p) (usesIn (dagOf p) (p .roots))) (clear-unshared (dagOf p) (p .roots) (true→T u)),
-          roots-plain (dagOf p) (p .bits) ws (usesIn (dagOf p) (p .roots)) none (p .roots),
-          text-plain (dagOf p) (p .bits) ws (usesIn (dagOf p) (p .roots)) none (p .roots),
-        ) w
-
     pub clashing : namesClear (dagOf p) (usesIn (dagOf p) (p .roots)) ≡ false → {text : List ℕ} {pg : Page} {l : List ℕ} → Wrote (letTablesRefusal p ws) text pg (Refused 11) l
     unfolding letTablesRefusal
     clashing e = rw (n, e) (record { told = refl })

@@ -1,7 +1,7 @@
 // Shared terms printed with `let` (document 02, L4): the entry point `echo_let` over the inputs of `echo_ext` and an output.
 //
-// A problem without shared operators goes the plain printer's way. For any other the checks and tables are the plain printer's too; the
-// roots' refusals are those of whole terms but for which one is told, and each root is written as an assertion with its bindings.
+// The checks and tables are the plain printer's, and a problem without shared operators is written by it. For any other the roots' refusals
+// are those of whole terms but for which one is told, and each root is written as an assertion with its bindings.
 use echo_bytes::Place;
 use echo_kernel::Echo;
 use echo_kernel::Out;
@@ -24,13 +24,13 @@ ghost use lib.ListN.{length, getD};
 ghost use Rattle.lent.specs.Lent.{problemAt, dagAt, problemOf};
 ghost use Rattle.echo_bytes.specs.Page.{page, start, written};
 ghost use Rattle.echo_spec.specs.Input.{queryOf};
-ghost use Rattle.echo_spec.specs.Lets.{letRoots, letScript, endlessLet, echo-let-answer};
+ghost use Rattle.echo_spec.specs.Lets.{letRoots, namesClear, letScript, endlessLet, echo-let-answer};
 ghost use Rattle.echo_bindings.specs.Checking.{usesAt};
 ghost use Rattle.echo_bindings.specs.Plans.{assertionText};
 ghost use Rattle.echo_kernel.specs.Scripts.{rootsText, declaredChecks};
 ghost use Rattle.echo_kernel.specs.Outcomes.{Wrote, answered};
 ghost use Rattle.echo_kernel.specs.Prepared.{WellFormed};
-ghost use Rattle.echo_let.specs.Printing.{LetPrepared, LetTables, RootsFree, Flagged, sharedScript, letTablesRefusal};
+ghost use Rattle.echo_let.specs.Printing.{LetPrepared, LetTables, RootsFree, SharedAt, Named, sharedScript, letTablesRefusal};
 
 // ---------------------------------------------------------------- the script
 
@@ -40,14 +40,14 @@ fn let_roots<'a>(
     numbers: &[&[u64]; NUMBERS],
     ws: &'a [u64],
     entries: &'a [u64; MAX_NODES],
-    codes: &[u64; MAX_NODES],
     shared: &[u8; MAX_NODES],
     symbols: &[u8; SYMBOLS],
     roots: &[u64],
     p: Place,
+    plans: &mut [u64; MAX_NODES],
     out: &mut [u8],
 ) -> Place
-    requires { ⌜ LetTables (now bytes) (now numbers) (now ws) (now entries) (now codes) (now symbols) (now shared) × RootsFree (now bytes) (now numbers) (now ws) (now roots) × (p .at ≤ length (now out)) ⌝ }
+    requires { ⌜ LetTables (now bytes) (now numbers) (now ws) (now entries) (now plans) (now symbols) (now shared) × RootsFree (now bytes) (now numbers) (now ws) (now roots) × (p .at ≤ length (now out)) ⌝ }
     ensures { λ r. ⌜ page r (now (out .exit)) ≡ written (page p (now (out .entry))) (rootsText (assertionText (now (bytes .entry)) (now (numbers .entry)) (now (ws .entry))) (now (roots .entry))) ⌝ }
 {
     let mut q = p;
@@ -59,10 +59,10 @@ fn let_roots<'a>(
             numbers,
             ws,
             entries,
-            codes,
             shared,
             symbols,
             echo_kernel::root_at(roots, k),
+            plans,
             &mut out[at..],
         );
         q = echo_kernel::place_after(q, r);
@@ -77,12 +77,12 @@ fn print_let<'a>(
     numbers: &[&[u64]; NUMBERS],
     ws: &'a [u64],
     entries: &'a [u64; MAX_NODES],
-    codes: &[u64; MAX_NODES],
     first: &[u64; MAX_ENTRIES],
     shared: &[u8; MAX_NODES],
+    plans: &mut [u64; MAX_NODES],
     out: &mut [u8],
 ) -> Place
-    requires { ⌜ LetPrepared (now bytes) (now numbers) (now ws) (now entries) (now codes) (now first) (now shared) ⌝ }
+    requires { ⌜ LetPrepared (now bytes) (now numbers) (now ws) (now entries) (now plans) (now first) (now shared) ⌝ }
     ensures { λ r. ⌜ page r (now (out .exit)) ≡ written (page start (now (out .entry))) (sharedScript (problemAt (now (bytes .entry)) (now (numbers .entry))) (now (ws .entry))) ⌝ }
 {
     let symbols = echo_lines::symbol_table();
@@ -93,11 +93,11 @@ fn print_let<'a>(
         numbers,
         ws,
         entries,
-        codes,
         shared,
         &symbols,
         roots,
         p,
+        plans,
         out,
     );
     echo_lines::check_sat(q, out)
@@ -105,15 +105,16 @@ fn print_let<'a>(
 
 // ---------------------------------------------------------------- the checks
 
-// From the declared variables on, where some operator is shared.
-fn let_shared(
+// From the declared variables on. One set of tables serves both ways.
+fn let_filled(
     bytes: &[&[u8]; BYTES],
     numbers: &[&[u64]; NUMBERS],
     ws: &[u64],
+    sharing: bool,
     shared: &[u8; MAX_NODES],
     out: &mut [u8],
 ) -> Out
-    requires { ⌜ WellFormed (problemAt (now bytes) (now numbers)) (now ws) × Flagged (now bytes) (now numbers) (now shared) ⌝ }
+    requires { ⌜ WellFormed (problemAt (now bytes) (now numbers)) (now ws) × SharedAt (now bytes) (now numbers) sharing (now shared) ⌝ }
     ensures { λ r. ⌜ Wrote (declaredChecks (dagAt (now (bytes .entry)) (now (numbers .entry))) (now (ws .entry)) (letRoots (dagAt (now (bytes .entry)) (now (numbers .entry))) (now (ws .entry)) (usesAt (now (bytes .entry)) (now (numbers .entry))) (problemAt (now (bytes .entry)) (now (numbers .entry)) .roots))) (sharedScript (problemAt (now (bytes .entry)) (now (numbers .entry))) (now (ws .entry))) (page start (now (out .entry))) r (now (out .exit)) ⌝ }
 {
     let mut entries = [0u64; MAX_NODES];
@@ -125,6 +126,12 @@ fn let_shared(
     }
     let roots = numbers[ROOTS];
     let e = echo_tables::roots_refused(bytes, numbers, ws, &codes, roots);
+    if !sharing {
+        if e > 0 {
+            return Out::Refused(e);
+        }
+        return Out::Done(echo_kernel::print(bytes, numbers, ws, &entries, &codes, &first, out));
+    }
     if e > 0 {
         return Out::Refused(echo_bindings::roots_refused(
             bytes,
@@ -135,7 +142,32 @@ fn let_shared(
             roots,
         ));
     }
-    Out::Done(print_let(bytes, numbers, ws, &entries, &codes, &first, shared, out))
+    Out::Done(print_let(
+        bytes,
+        numbers,
+        ws,
+        &entries,
+        &first,
+        shared,
+        &mut codes,
+        out,
+    ))
+}
+
+// Is no declared name that of a shared operator; nothing is looked up where none is shared.
+fn names_clear(
+    bytes: &[&[u8]; BYTES],
+    numbers: &[&[u64]; NUMBERS],
+    some: bool,
+    shared: &[u8; MAX_NODES],
+) -> bool
+    requires { ⌜ Named (now bytes) (now numbers) × SharedAt (now bytes) (now numbers) some (now shared) ⌝ }
+    ensures { λ r. ⌜ r ≡ namesClear (dagAt (now (bytes .entry)) (now (numbers .entry))) (usesAt (now (bytes .entry)) (now (numbers .entry))) ⌝ }
+{
+    if !some {
+        return true;
+    }
+    echo_clash::names_clear(bytes, numbers, shared, node_count(bytes[NODES]))
 }
 
 // From the names on.
@@ -152,13 +184,11 @@ fn let_tables(
         return Out::Refused(NAME);
     }
     let mut shared = [0u8; MAX_NODES];
-    if !echo_sharing::shared_nodes(bytes[NODES], numbers[SIDE], numbers[ROOTS], &mut shared) {
-        return echo_kernel::printed(bytes, numbers, ws, out);
-    }
-    if !echo_clash::names_clear(bytes, numbers, &shared, node_count(bytes[NODES])) {
+    let some = echo_sharing::shared_nodes(bytes[NODES], numbers[SIDE], numbers[ROOTS], &mut shared);
+    if !names_clear(bytes, numbers, some, &shared) {
         return Out::Refused(CLASH);
     }
-    let_shared(bytes, numbers, ws, &shared, out)
+    let_filled(bytes, numbers, ws, some, &shared, out)
 }
 
 // Every check but the one for room, in order, and then the script as far as it fits; the place has the length that is needed.

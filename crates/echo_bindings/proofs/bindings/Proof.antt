@@ -8,13 +8,13 @@ use native.Mathlib.Omega.{arith}
 use lib.ListN.{length}
 use Rattle.echo_bytes.specs.Page.{page}
 use Rattle.echo_bindings.specs.LetLines.{SoFar, opening, none-yet, same-size, one-more, all-pieces}
-use Rattle.echo_bindings.specs.Plans.{flagged, ownText, PlansTo, plans-end}
+use Rattle.echo_bindings.specs.Plans.{flagged, ownText, PlansTo, plans-end, plans-same, plans-over, plans-under, walkable-over}
 
 abbrev Inv-loop : tie.InvT-loop
-Inv-loop bytes numbers ws entries codes bound symbols plans₀ out₀ n q₀ i₀ plans out q i = (n ≡ length ws) × PlansTo codes (flagged bound) i plans × SoFar (opening (ownText bytes numbers ws (flagged bound)) (flagged bound)) n (page q₀ out₀) i (page q out)
+Inv-loop bytes numbers ws entries bound symbols plans₀ out₀ n q₀ i₀ plans out q i = (n ≡ length ws) × PlansTo plans₀ (flagged bound) i plans × SoFar (opening (ownText bytes numbers ws (flagged bound)) (flagged bound)) n (page q₀ out₀) i (page q out)
 
 abbrev μ-loop : tie.MeasureT-loop
-μ-loop bytes numbers ws entries codes bound symbols plans₀ out₀ n q₀ i₀ plans out q i = n - i
+μ-loop bytes numbers ws entries bound symbols plans₀ out₀ n q₀ i₀ plans out q i = n - i
 
 loop-holds : tie.Need-loop-holds Inv-loop μ-loop
 loop-holds c =
@@ -26,7 +26,7 @@ bind-requires c κs =
     let start = c .before .before .before .before .before .before .before .before in
     let loop = c .before .before .before .loop in
     let loop-test = c .before .before .loop-test in
-    record { walkable = start .pre .walkable; bindable = start .pre .bindable; planned = loop .inv .1; within = omega (arith, loop .inv .0, loop-test .taken, start .pre .walkable .few) }
+    let s = plans-same (loop .inv .1) in record { walkable = walkable-over s (start .pre .walkable); bindable = start .pre .bindable; planned = plans-over s (loop .inv .1); within = omega (arith, loop .inv .0, loop-test .taken, start .pre .walkable .few) }
 
 add-i : tie.Need-add-i Inv-loop μ-loop
 add-i c = search needs
@@ -39,7 +39,7 @@ loop-again c =
     let loop = c .before .before .before .before .before .before .before .before .loop in
     let loop-test = c .before .before .before .before .before .before .before .loop-test in
     let bind = c .before .before .before .before .bind in
-    (loop .inv .0, bind .ensures .planned, one-more (loop .inv .2) (loop-test .taken) (bind .ensures .text))
+    (loop .inv .0, plans-under (plans-same (loop .inv .1)) (bind .ensures .planned), one-more (loop .inv .2) (loop-test .taken) (bind .ensures .text))
 
 same-length : tie.Need-same-length Inv-loop μ-loop
 same-length c =

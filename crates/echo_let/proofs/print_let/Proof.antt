@@ -18,9 +18,9 @@ element-copy-out-roots c = search needs
 
 let-roots-requires : tie.Need-let-roots-requires
 let-roots-requires c κs =
-    let start = c .before .before .before .before .before .before .before .before .before .before in
-    let symbol-table = c .before .before .before .before .before .before .before .symbol-table in
-    let declare = c .before .before .before .before .before .declare in
+    let start = c .before .before .before .before .before .before .before .before .before .before .before in
+    let symbol-table = c .before .before .before .before .before .before .before .before .symbol-table in
+    let declare = c .before .before .before .before .before .before .declare in
     (record { walkable = walkable (start .args .bytes .now) (start .args .numbers .now) (start .pre .filled .formed) (start .pre .filled) (symbol-table .ensures); whole = whole (start .args .bytes .now) (start .args .numbers .now) (start .pre .filled .formed); flags = start .pre .flagged .flags }, roots-free (start .args .bytes .now) (start .args .numbers .now) (start .pre .filled .formed) _ (start .pre .walked), opened-inside _ _ (declare .ensures))
 
 check-sat-requires : tie.Need-check-sat-requires
@@ -32,8 +32,8 @@ same-length c = search needs
 returns : tie.Need-returns
 unfolding bytes
 returns c =
-    let start = c .before .before .before .before .before .before .before .before .before .before .before .before .before .before .before .before .before in
-    let declare = c .before .before .before .before .before .before .before .before .before .before .before .before .declare in
+    let start = c .before .before .before .before .before .before .before .before .before .before .before .before .before .before .before .before .before .before in
+    let declare = c .before .before .before .before .before .before .before .before .before .before .before .before .before .declare in
     let let-roots = c .before .before .before .before .before .before .let-roots in
     let check-sat = c .before .before .check-sat in
     print-in (start .args .bytes .now) (start .args .numbers .now) _ _ (declare .ensures) (let-roots .ensures) (check-sat .ensures)
