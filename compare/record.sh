@@ -11,12 +11,13 @@ rustc --edition 2024 --crate-type rlib --crate-name kernel -O -A warnings -o "$r
 python3 "$here/by_table.py" "$source" "$room/model"
 rustc --edition 2024 --crate-type rlib --crate-name model -O -A warnings -o "$room/libmodel.rlib" "$room/model/kernel.rs"
 rustc --edition 2024 -O --extern kernel="$room/libkernel.rlib" --extern model="$room/libmodel.rlib" -o "$room/record" "$here/src/main.rs"
-for list in widths printer sizes hidden let scripts records; do mkdir -p "$here/../crates/replay_$list/data"; done
+for list in widths printer sizes hidden let fewest scripts records; do mkdir -p "$here/../crates/replay_$list/data"; done
 cd "$here/.."
 "$room/record" widths crates/replay_widths/data/widths.bin "$@"
 "$room/record" printer crates/replay_printer/data/printer.bin "$@"
 "$room/record" sizes crates/replay_sizes/data/sizes.bin "$@"
 "$room/record" hidden crates/replay_hidden/data/hidden.bin "$@"
 "$room/record" let crates/replay_let/data/let.bin "$@"
+"$room/record" fewest crates/replay_fewest/data/fewest.bin "$@"
 "$room/record" scripts crates/replay_scripts/data/scripts.bin "$@"
 "$room/record" records crates/replay_records/data/records.bin "$@"

@@ -196,6 +196,14 @@ struct record_answer {
     uint64_t length; /* the length of the result; 0 with a refusal */
 };
 
+/* What fewest_roots answers. */
+struct fewest_answer {
+    uint64_t number; /* ECHO_ACCEPTED, or why the problem is refused; never ECHO_ROOM */
+    uint64_t count;  /* how many positions there are: 0, 1 or 2 */
+    uint64_t first;  /* the first position, from 0; 0 where there is none */
+    uint64_t second; /* the second position, after the first; 0 where there is none */
+};
+
 /* What ext_wf answers. */
 struct width_answer {
     uint64_t number; /* ECHO_ACCEPTED, or why the nodes are refused */
@@ -337,6 +345,33 @@ struct echo_answer echo_let(
  * The length is below 2^42 and terms below 2^25, so neither ever wraps. It is as recursive as echo_ext.
  */
 struct size_answer echo_size(
+    const uint8_t *nodes, size_t nodes_len,
+    const uint8_t *bits, size_t bits_len,
+    const uint64_t *side, size_t side_len,
+    const uint64_t *roots, size_t roots_len,
+    const uint8_t *names, size_t names_len,
+    const uint64_t *name_start, size_t name_start_len,
+    const uint64_t *name_len, size_t name_len_len,
+    const uint64_t *var_node, size_t var_node_len,
+    const uint64_t *var_width, size_t var_width_len,
+    const uint8_t *anames, size_t anames_len,
+    const uint64_t *aname_start, size_t aname_start_len,
+    const uint64_t *aname_len, size_t aname_len_len,
+    const uint64_t *index_width, size_t index_width_len,
+    const uint64_t *value_width, size_t value_width_len,
+    const uint8_t *fnames, size_t fnames_len,
+    const uint64_t *fname_start, size_t fname_start_len,
+    const uint64_t *fname_len, size_t fname_len_len,
+    const uint64_t *func_width, size_t func_width_len);
+
+/*
+ * Tells the fewest roots with which a problem is still refused by the same number. It takes the inputs of echo_ext and writes nothing.
+ *
+ * The number is echo_ext's with an endless output, whatever it is. With 1 to 7 the positions are the shortest rising list of places in
+ * roots whose roots, in that order and alone, give the problem that number: its first position is as early as can be, and then its
+ * second. Two always suffice; none are needed where the number does not depend on the roots. With any other number there are none.
+ */
+struct fewest_answer fewest_roots(
     const uint8_t *nodes, size_t nodes_len,
     const uint8_t *bits, size_t bits_len,
     const uint64_t *side, size_t side_len,

@@ -158,6 +158,38 @@ fn bound_alone(label: &str, p: &Problem) {
     println!("| {label} | {length} | {:.1} | {:.1} to {:.1} | {ns:.2} |", at(&ts, 0.5), at(&ts, 0.1), at(&ts, 0.9));
 }
 
+/// The fewest roots that still refuse, beside the size, which has the same number.
+fn fewest(label: &str, p: &Problem, number: u64, positions: &[u64]) {
+    let at = |k: usize| positions.get(k).copied().unwrap_or(0);
+    assert_eq!(problem::fewest(p), problem::Fewest(number, positions.len() as u64, at(0), at(1)), "{label}");
+    assert_eq!(problem::size(p).0, number, "{label}");
+    let t = pairs(&mut || { black_box(problem::size(p)); }, &mut || {
+        black_box(problem::fewest(p));
+    });
+    println!(
+        "| {label} | {number} | {} | {:.2} | {:.2} | {:.2} | {:.2} to {:.2} |",
+        positions.len(),
+        t.rust * 1e6,
+        t.port * 1e6,
+        t.ratio[0],
+        t.ratio[1],
+        t.ratio[2]
+    );
+}
+
+/// Of every shape, and of refused ones.
+fn fewest_table(all: &[(&'static str, Problem)]) {
+    println!();
+    println!("| fewest roots, port alone | number | positions | size us | fewest us | ratio | 10th to 90th |");
+    println!("|---|---|---|---|---|---|---|");
+    for (label, p) in all {
+        fewest(label, p, 0, &[]);
+    }
+    for (label, p, number, positions) in &shapes::refused() {
+        fewest(label, p, *number, positions);
+    }
+}
+
 /// A file cut by the port and line by line in Rust.
 fn cutting(label: &str, file: &[u8]) {
     assert_eq!(cut::port(file), cut::by_memchr(file), "{label}");
@@ -200,6 +232,9 @@ fn main() {
     let wanted = std::env::args().nth(1).unwrap_or_default();
     if wanted == "records" {
         return records::table();
+    }
+    if wanted == "fewest" {
+        return fewest_table(&shapes::all());
     }
     let all: Vec<_> = shapes::all().into_iter().filter(|s| s.0.contains(&wanted)).collect();
     let mut out = vec![0u8; 48 << 20];
@@ -263,6 +298,7 @@ fn main() {
     if !wanted.is_empty() {
         return;
     }
+    fewest_table(&all);
     println!();
     println!("| refusal, port alone | number | buffer bytes | us | 10th to 90th |");
     println!("|---|---|---|---|---|");

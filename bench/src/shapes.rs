@@ -348,3 +348,36 @@ pub fn shared() -> Vec<(&'static str, Problem)> {
     out.push(("256 short roots, 1,700 shared nodes not reached", p));
     out
 }
+
+/// Refused problems, for the fewest roots, with the number and the positions.
+pub fn refused() -> Vec<(&'static str, Problem, u64, Vec<u64>)> {
+    let mut out = Vec::new();
+    let mut p = many_roots();
+    p.roots[255] = 9_999;
+    out.push(("256 roots, the last past the nodes", p, 1, vec![255]));
+    let mut p = many_roots();
+    p.roots[255] = p.roots[254];
+    out.push(("256 roots, the last two one node", p, 6, vec![254, 255]));
+    // a root that is the operand of another: its comparison
+    let mut p = many_roots();
+    let operand = p.roots[254] - 1;
+    p.roots[255] = operand;
+    out.push(("256 roots, the last an operand too", p, 6, vec![255]));
+    let mut p = many_roots();
+    p.roots = vec![p.roots[0]; 256];
+    out.push(("256 roots, all one node", p, 6, vec![0, 1]));
+    let mut p = names_by_place();
+    let last = p.roots[0];
+    p.roots = (0..255).collect();
+    p.roots.push(last);
+    out.push(("512 names by place, 255 roots that are variables", p, 3, vec![0]));
+    let mut p = names_by_place();
+    p.name_start[511] = p.name_start[510];
+    out.push(("512 names by place, the last two equal", p, 2, vec![]));
+    for (label, p) in shared() {
+        out.push((label, p, 6, vec![]));
+    }
+    out.push(("refused at the end of the walk", refused_last(), 4, vec![0]));
+    out.push(("over a limit", over_limit(), 9, vec![]));
+    out
+}

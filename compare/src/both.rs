@@ -16,12 +16,12 @@ fn number(p: &Problem, room: usize) -> u32 {
 
 // ---------------------------------------------------------------- faults by the check that finds them
 
-struct Fault {
-    what: &'static str,
-    number: u32,
+pub struct Fault {
+    pub what: &'static str,
+    pub number: u32,
     /// After everything else: what would come behind it would be out of place.
     last: bool,
-    add: Box<dyn Fn(&mut Problem)>,
+    pub add: Box<dyn Fn(&mut Problem)>,
 }
 
 /// A check and the faults that it finds. Checks stand in document 01's order.
@@ -230,8 +230,14 @@ fn compared(p: &mut Problem, x: u32, w: u32) {
 
 // ---------------------------------------------------------------- two checks
 
+/// Every fault but those over a limit, each with its check.
+pub fn faults() -> Vec<(&'static str, Fault)> {
+    let checks = before_the_walk().into_iter().skip(1).chain([walk()]);
+    checks.flat_map(|c| c.faults.into_iter().map(move |f| (c.name, f))).collect()
+}
+
 /// Something of each table, a select, a call and a root; nothing is wrong with it.
-fn base() -> Problem {
+pub fn base() -> Problem {
     let mut p = Problem::default();
     let v = var(&mut p, 8);
     let i = var(&mut p, 32);

@@ -1,12 +1,14 @@
-//! Makes the recorded lists: `record LIST OUT`, where LIST is widths, printer, sizes, hidden, let, scripts or records. The problems follow
+//! Makes the recorded lists: `record LIST OUT`, where LIST is widths, printer, sizes, hidden, let, fewest, scripts or records. The problems follow
 //! from a seed; the answers are the Rust's (oracle.rs), with what documents 01 and 02 add around it (added.rs), and with names that it takes
 //! in the place of those with bytes from 128 on (spelling.rs). Sizes are those of the Rust's scripts, and hidden scripts are put together
-//! from two of them (hidden.rs). Scripts with `let` are those of a printer of their own (lets.rs). Where scripts end in a file is a model's
-//! answer (scripts.rs), and so are shorter records (records.rs).
+//! from two of them (hidden.rs). Scripts with `let` are those of a printer of their own (lets.rs). The fewest roots are found by trying lists
+//! of them (fewest.rs). Where scripts end in a file is a model's answer (scripts.rs), and so are shorter records (records.rs).
 mod added;
 mod alphabets;
 mod arrays;
 mod both;
+mod fewest;
+mod fewest_problems;
 mod hidden;
 mod hidden_problems;
 mod lets;
@@ -263,6 +265,37 @@ fn record_let(out: &str, long: bool) {
     finish(&list, &tally, out, long);
 }
 
+/// Problems of its own, and of the printer's with at most 40 roots every third of those that are refused with 1 to 7, and every tenth of the
+/// others, each once.
+fn record_fewest(out: &str, long: bool) {
+    let mut list = list::List::new(b"FEWEST 1");
+    let mut tally = Tally::default();
+    let mut lengths: BTreeMap<(u32, usize), usize> = BTreeMap::new();
+    let mut seen = HashSet::new();
+    let (mut refused, mut others) = (0, 0);
+    let printers = printer::all().into_iter().chain(arrays::of_printer()).filter_map(|c| {
+        let a = added::print_answer(&c.problem, usize::MAX);
+        if c.problem.roots.len() > 40 && a.number != 9 || !seen.insert(list::of_size(&c.problem, &a, 0)) {
+            return None;
+        }
+        let listed = (1..=7).contains(&a.number);
+        *(if listed { &mut refused } else { &mut others }) += 1;
+        let taken = if listed { refused % 3 == 0 } else { others % 10 == 0 };
+        taken.then_some(fewest_problems::Case { label: c.label, problem: c.problem, want: None, positions: None })
+    });
+    for c in fewest_problems::all().into_iter().chain(printers) {
+        let (number, positions) = fewest::answer(&c.problem);
+        assert!(c.positions.is_none_or(|ks| ks == positions), "{}: the model says {positions:?}", c.label);
+        tally.note(&c.label, c.want, number);
+        *lengths.entry((number, positions.len())).or_default() += 1;
+        list.add(&list::of_fewest(&c.problem, number, &positions));
+    }
+    for ((number, n), count) in &lengths {
+        println!("number {number} with {n} positions: {count}");
+    }
+    finish(&list, &tally, out, long);
+}
+
 fn record_records(out: &str, long: bool) {
     let mut list = list::List::new(b"RECORDS1");
     let mut tally = Tally::default();
@@ -283,10 +316,11 @@ fn run() {
         (Some("sizes"), Some(out)) => record_sizes(out, long),
         (Some("hidden"), Some(out)) => record_hidden(out, long),
         (Some("let"), Some(out)) => record_let(out, long),
+        (Some("fewest"), Some(out)) => record_fewest(out, long),
         (Some("scripts"), Some(out)) => record_scripts(out, long),
         (Some("records"), Some(out)) => record_records(out, long),
         _ => {
-            eprintln!("record widths|printer|sizes|hidden|let|scripts|records OUT [--clauses]");
+            eprintln!("record widths|printer|sizes|hidden|let|fewest|scripts|records OUT [--clauses]");
             std::process::exit(2);
         }
     }

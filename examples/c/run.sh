@@ -1,6 +1,6 @@
 #!/bin/sh
-# Compiles print_m2.c and cut_file.c against the library, runs them and compares what they write with expected.txt and cut_file.txt. The
-# header is compiled as C++ too, if g++ is there. CC and CXX name other compilers. Exit status: 0 if all is as expected.
+# Compiles print_m2.c, cut_file.c and fewest_roots.c against the library, runs them and compares what they write with expected.txt and the
+# .txt of their names. The header is compiled as C++ too, if g++ is there. CC and CXX name other compilers. Exit status: 0 if all is as expected.
 set -eu
 cd "$(dirname "$0")/../.."
 library=target/staticlib/libecho_c.a
@@ -17,6 +17,7 @@ compiled() {
 }
 compiled print_m2 expected.txt
 compiled cut_file cut_file.txt
+compiled fewest_roots fewest_roots.txt
 cxx=${CXX:-g++}
 if command -v "$cxx" > /dev/null; then
     "$cxx" -x c++ -fsyntax-only -Wall -Wextra -Wpedantic -Werror include/echo.h

@@ -289,6 +289,63 @@ pub fn echo_size(problem: &Problem<'_>) -> Result<Size, Refusal> {
     }
 }
 
+/// What [`fewest_roots`] tells of a problem.
+#[derive(Clone, Copy, Debug, PartialEq, Eq, Hash)]
+pub struct Fewest {
+    /// What [`echo_ext`] answers with an endless buffer: nothing where it accepts, or else its refusal. It is never [`Refusal::Room`].
+    pub refusal: Option<Refusal>,
+    positions: [usize; 2],
+    count: usize,
+}
+
+impl Fewest {
+    /// The positions in `roots`, rising from 0: none, one or two.
+    pub fn positions(&self) -> &[usize] {
+        &self.positions[..self.count]
+    }
+}
+
+/// The fewest roots with which a problem is still refused by the same number.
+///
+/// For a refusal from 1 to 7 the positions are the shortest rising list of places in `roots` whose roots, in that order and alone, give the
+/// problem the same refusal: the first is as early as can be, and then the second. Two always suffice; there are none where the refusal does
+/// not depend on the roots. For any other answer there are none.
+///
+/// ```
+/// use smt_echo::{Problem, Refusal, fewest_roots, kind, node};
+///
+/// let nodes = [
+///     node(kind::VAR, [8, 0, 0, 0]),
+///     node(kind::EQ, [0, 0, 0, 0]),
+///     node(kind::ULT, [0, 0, 0, 0]),
+/// ]
+/// .concat();
+/// let problem = Problem {
+///     nodes: &nodes,
+///     roots: &[1, 2, 2], // node 2 is asserted twice
+///     names: b"x",
+///     name_start: &[0],
+///     name_len: &[1],
+///     var_node: &[0],
+///     var_width: &[8],
+///     ..Problem::default()
+/// };
+/// let told = fewest_roots(&problem);
+/// assert_eq!(told.refusal, Some(Refusal::Shared));
+/// assert_eq!(told.positions(), [1, 2]);
+/// ```
+pub fn fewest_roots(problem: &Problem<'_>) -> Fewest {
+    let answer = raw::fewest_roots(problem);
+    Fewest {
+        refusal: match answer.number {
+            0 => None,
+            n => Some(refusal::of_number(n)),
+        },
+        positions: [answer.first as usize, answer.second as usize],
+        count: answer.count as usize,
+    }
+}
+
 /// The width pass: are all nodes well formed, and how wide is each? Answers the number of nodes.
 ///
 /// On `Ok(count)` the width of node `i` is `out[i]` for each `i` below `count`, and `out[count..]` is what it was; a Bool has width 1. On

@@ -1,6 +1,7 @@
 // The answers of the exports as structs of numbers for C.
 use echo_kernel::Echo;
 use echo_size::Size;
+use fewest_roots::Fewest;
 use refusals::ARRAY_WIDTH;
 use refusals::ENCODING;
 use refusals::LIMIT;
@@ -11,6 +12,8 @@ ghost use mathlib.Core.Path.{_≡_};
 ghost use Rattle.echo_kernel.specs.Outcomes as echo;
 ghost use Rattle.sliver_kernel.specs.Outcomes as widths;
 ghost use Rattle.echo_size.specs.Sized as sized;
+ghost use Rattle.fewest_roots.specs.Answered as fewest;
+ghost use Rattle.c_answers.specs.Answered.{chosen};
 
 // What the printer answers. Number 0: the script is written, and length is its length. Any other number: a refusal, and length is 0.
 #[repr(C)]
@@ -98,6 +101,42 @@ pub fn size_answer(r: Size) -> SizeAnswer
             number: refusals::number_of(e),
             length: 0,
             terms: 0,
+        },
+    }
+}
+
+// The fewest roots that still refuse. Number is the printer's with endless room, count is how many positions there are (0, 1 or 2), and
+// first and second are the positions; one that is not there is 0.
+#[repr(C)]
+pub struct FewestAnswer {
+    pub number: u64,
+    pub count: u64,
+    pub first: u64,
+    pub second: u64,
+}
+
+// Ruled out: the second position for the first; a count of two where there is one position.
+pub fn fewest_answer(r: Fewest) -> FewestAnswer
+    ensures { λ a. ⌜ chosen a (fewest.answered r) ⌝ }
+{
+    match r {
+        Fewest::NoRoot(n) => FewestAnswer {
+            number: n,
+            count: 0,
+            first: 0,
+            second: 0,
+        },
+        Fewest::OneRoot(n, k) => FewestAnswer {
+            number: n,
+            count: 1,
+            first: k as u64,
+            second: 0,
+        },
+        Fewest::TwoRoots(n, j, k) => FewestAnswer {
+            number: n,
+            count: 2,
+            first: j as u64,
+            second: k as u64,
         },
     }
 }

@@ -17,3 +17,4 @@ pub mod JoinedScripts
 pub mod JoinedInstances
 pub mod RecordClaims
 pub mod RecordInstances
+pub mod FewestClaims

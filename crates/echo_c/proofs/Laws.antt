@@ -1,9 +1,11 @@
 -- An answer as a struct of numbers is the answer that was given.
 use Prim.Native.Nat.{ℕ}
-use mathlib.Core.Path.{_≡_, refl, _∙_}
+use mathlib.Core.Path.{_≡_, refl, _∙_, subst}
 use mathlib.Core.List.{List}
 use Rattle.echo_spec.specs.Answers.{Answer}
 use Rattle.sizes.specs.Size.{SizeAnswer}
+use Rattle.fewest.specs.Fewest.{FewestAnswer}
+use Rattle.c_answers.specs.Answered.{Chosen}
 
 abbrev answer : ℕ → ℕ → List ℕ → Answer
 answer n k out = record { number = n; count = k; output = out }
@@ -16,3 +18,6 @@ size n l t = record { number = n; length = l; terms = t }
 
 pub size-given : {n m k l s t : ℕ} {a : SizeAnswer} → (n ≡ m) × (k ≡ l) × (s ≡ t) → size m l t ≡ a → size n k s ≡ a
 size-given e h = (λ i. size (e .0 i) (e .1 i) (e .2 i)) ∙ h
+
+pub fewest-given : {n k x y : ℕ} {a b : FewestAnswer} → Chosen n k x y a → a ≡ b → Chosen n k x y b
+fewest-given {n} {k} {x} {y} h e = subst (λ (z : FewestAnswer). Chosen n k x y z) e h

@@ -137,7 +137,8 @@ fn bump_node(uses: &mut [u8], side: &[u64], node: Node)
     }
 }
 
-fn count_operands(uses: &mut [u8], nodes: &[u8], side: &[u64])
+// The uses of every node's operands, counted on. Ruled out: a rotation's amount left out; the operands of a node that no root reaches left out.
+pub fn count_operands(uses: &mut [u8], nodes: &[u8], side: &[u64])
     ensures { λ r. ⌜ now (uses .exit) ≡ counted (now (uses .entry)) (usesOfAll (now (side .entry)) (nodesOf (now (nodes .entry)))) ⌝ }
 {
     let n = lent::node_count(nodes);
@@ -177,8 +178,8 @@ fn used_once(kind: u8, count: u8) -> bool
     count <= 1
 }
 
-// Is no operator node used twice?
-fn no_shared(uses: &[u8], nodes: &[u8]) -> bool
+// Is no operator node used twice? Ruled out: a constant used twice refused; the last node left out.
+pub fn no_shared(uses: &[u8], nodes: &[u8]) -> bool
     requires { ⌜ length (nodesOf (now nodes)) ≤ length (now uses) ⌝ }
     ensures { λ r.
         ⌜ r ≡ everyFrom (onceIn (now (uses .entry)) (nodesOf (now (nodes .entry)))) 0 (length (nodesOf (now (nodes .entry)))) ⌝ }

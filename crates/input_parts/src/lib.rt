@@ -1,8 +1,9 @@
 // The printer's eighteen inputs as parts of one byte string, by the number of the input, from 0: where the elements of each begin and how
-// many there are. Who has a problem in bytes finds the places, and this calls the printer, hides constants, or asks for the size, with what lies there.
+// many there are. Who has a problem in bytes finds the places, and this calls the entry point that is asked for with what lies there.
 // Under "Ruled out" stand wrong programs that a public function's contract refuses.
 use echo_kernel::Echo;
 use echo_size::Size;
+use fewest_roots::Fewest;
 use refusals::EchoError;
 use refusals::MAX_ENTRIES;
 use refusals::MAX_ROOTS;
@@ -14,8 +15,10 @@ ghost use Rattle.echo_spec.specs.Answers.{atFront, echo-ext-answer};
 ghost use Rattle.sizes.specs.Size.{echo-size-answer};
 ghost use Rattle.hidden.specs.Hidden.{echo-hidden-answer};
 ghost use Rattle.echo_spec.specs.Lets.{echo-let-answer};
+ghost use Rattle.fewest.specs.Fewest.{fewest-roots-answer};
 ghost use Rattle.echo_kernel.specs.Outcomes.{answered};
 ghost use Rattle.echo_size.specs.Sized as sized;
+ghost use Rattle.fewest_roots.specs.Answered as chosen;
 ghost use Rattle.input_parts.specs.Parts as parts;
 ghost use Rattle.input_parts.specs.Lying.{Lies, Inside, Column, Columns};
 ghost use Rattle.input_parts.specs.Asking.{Answers};
@@ -134,12 +137,15 @@ enum Asked {
     Hide,
     // its script with shared terms bound by `let`
     Bind,
+    // the fewest roots that still refuse
+    Choose,
 }
 
-// What is told of it; of the two, what was not asked for is some refusal.
+// What is told of it; what was not asked for is some answer.
 struct Told {
     echo: Echo,
     size: Size,
+    fewest: Fewest,
 }
 
 // The answer, with the columns that hold the numbers.
@@ -208,6 +214,7 @@ fn tell<'a>(
                 out,
             ),
             size: Size::Refused(EchoError::Limit),
+            fewest: Fewest::NoRoot(0),
         },
         Asked::Measure => Told {
             echo: Echo::Refused(EchoError::Limit),
@@ -231,6 +238,7 @@ fn tell<'a>(
                 fnl,
                 fw,
             ),
+            fewest: Fewest::NoRoot(0),
         },
         Asked::Hide => Told {
             echo: echo_hidden::echo_hidden(
@@ -255,6 +263,7 @@ fn tell<'a>(
                 out,
             ),
             size: Size::Refused(EchoError::Limit),
+            fewest: Fewest::NoRoot(0),
         },
         Asked::Bind => Told {
             echo: echo_let::echo_let(
@@ -279,6 +288,31 @@ fn tell<'a>(
                 out,
             ),
             size: Size::Refused(EchoError::Limit),
+            fewest: Fewest::NoRoot(0),
+        },
+        Asked::Choose => Told {
+            echo: Echo::Refused(EchoError::Limit),
+            size: Size::Refused(EchoError::Limit),
+            fewest: fewest_roots::fewest_roots(
+                nodes,
+                bits,
+                entries,
+                asserted,
+                names,
+                ns,
+                nl,
+                vn,
+                vw,
+                anames,
+                ans,
+                anl,
+                iw,
+                vws,
+                fnames,
+                fns,
+                fnl,
+                fw,
+            ),
         },
     }
 }
@@ -408,4 +442,14 @@ pub fn size_parts(s: &[u8], starts: &[usize; INPUTS], counts: &[usize; INPUTS]) 
     let mut none = [0u8; 0];
     let t = ask_parts(s, starts, counts, Asked::Measure, &mut none);
     t.size
+}
+
+// The fewest roots that still refuse of the problem that lies in s. Ruled out: the problem of other parts; no root, whatever the problem.
+pub fn fewest_parts(s: &[u8], starts: &[usize; INPUTS], counts: &[usize; INPUTS]) -> Fewest
+    requires { ⌜ Inside (now s) (now starts) (now counts) ⌝ }
+    ensures { λ r. ⌜ chosen.answered r ≡ fewest-roots-answer (parts.problemFrom (now (s .entry)) (now (starts .entry)) (now (counts .entry))) ⌝ }
+{
+    let mut none = [0u8; 0];
+    let t = ask_parts(s, starts, counts, Asked::Choose, &mut none);
+    t.fewest
 }

@@ -1,4 +1,4 @@
--- An unpacked problem: a header of 32-bit numbers, the inputs one after the other, and the result of an acceptance. The header has the
+-- An unpacked problem: a header of 32-bit numbers, the inputs one after the other, and the result. The header has the
 -- count of each input, the length of what is lent, the number and the count of the answer.
 use Prim.Native.Nat.{ℕ, zero, suc, _+_, _*_, _-_}
 use mathlib.Core.List.{List}
@@ -8,7 +8,7 @@ use lib.ListN.{length}
 use Rattle.echo_spec.specs.Input.{word32}
 use Rattle.input_parts.specs.Parts.{sizeOf, roomOf}
 use Rattle.replay.specs.declared.Recorded.{Recorded}
-use Rattle.replay.specs.declared.Recorded.the-variants.{Widths, Printer, Sizes, Hidden, Let}
+use Rattle.replay.specs.declared.Recorded.the-variants.{Widths, Printer, Sizes, Hidden, Let, Fewest}
 use Rattle.replay.specs.declared.Head.{Head}
 use Rattle.replay.specs.declared.Opened.{Opened}
 use Rattle.replay.specs.declared.Opened.the-variants.{Whole, Damaged}
@@ -21,6 +21,7 @@ inputsOf Printer = 18
 inputsOf Sizes = 18
 inputsOf Hidden = 18
 inputsOf Let = 18
+inputsOf Fewest = 18
 
 -- the bytes of an acceptance's result: a number for each node, the script, or the terms as one number
 abbrev pub acceptedBytes : Recorded → ℕ → ℕ
@@ -29,9 +30,19 @@ acceptedBytes Printer count = count
 acceptedBytes Sizes count = 8
 acceptedBytes Hidden count = count
 acceptedBytes Let count = count
+acceptedBytes Fewest count = 0
+
+-- of a refusal's: the positions of roots, or nothing
+abbrev pub refusedBytes : Recorded → ℕ → ℕ
+refusedBytes Widths count = 0
+refusedBytes Printer count = 0
+refusedBytes Sizes count = 0
+refusedBytes Hidden count = 0
+refusedBytes Let count = 0
+refusedBytes Fewest count = 8 * count
 
 abbrev pub resultBytes : Recorded → ℕ → ℕ → ℕ
-resultBytes list number count = pick (eqb number 0) (acceptedBytes list count) 0
+resultBytes list number count = pick (eqb number 0) (acceptedBytes list count) (refusedBytes list count)
 
 -- where input k begins, of n, and behind the last the result
 unfoldable pub placeAt : List ℕ → ℕ → ℕ → ℕ

@@ -3,7 +3,7 @@ use borrow.Author.Needs.{needs}
 use mathlib.Core.Path.{refl}
 use native.Mathlib.Omega.{arith}
 use Rattle.input_parts.specs.Parts.{sizes, sizeOf}
-use Rattle.input_parts.proofs.Laws.{parts-are, printed-told, measured-told, hidden-told, bound-told}
+use Rattle.input_parts.proofs.Laws.{parts-are, printed-told, measured-told, hidden-told, bound-told, chosen-told}
 use Rattle.input_parts.proofs.tell.Statement.{statement}
 use Rattle.input_parts.proofs.tell.Tie as tie
 
@@ -122,6 +122,12 @@ enum-told-4 c = search needs
 echo-let-requires : tie.Need-echo-let-requires
 echo-let-requires c κs = search needs
 
+enum-told-5 : tie.Need-enum-told-5
+enum-told-5 c = search needs
+
+fewest-roots-requires : tie.Need-fewest-roots-requires
+fewest-roots-requires c κs = search needs
+
 same-length : tie.Need-same-length
 same-length c = search needs
 
@@ -231,6 +237,31 @@ returns-4 c =
     let echo-let = c .before .before .echo-let in
     bound-told _ _ _ (enum-told4 .given .1) (echo-let .ensures) (parts-are (bytes-of .ensures) (bytes-of2 .ensures) (taken .ensures) (taken2 .ensures) (bytes-of3 .ensures) (taken3 .ensures) (taken4 .ensures) (taken5 .ensures) (taken6 .ensures) (bytes-of4 .ensures) (taken7 .ensures) (taken8 .ensures) (taken9 .ensures) (taken10 .ensures) (bytes-of5 .ensures) (taken11 .ensures) (taken12 .ensures) (taken13 .ensures) (start .pre .1))
 
+returns-5 : tie.Need-returns-5
+returns-5 c =
+    let start = c .before .before .before .before .before .before .before .before .before .before .before .before .before .before .before .before .before .before .before .before .before .before .before .before .before .before .before .before .before .before .before .before .before .before .before .before in
+    let bytes-of = c .before .before .before .before .before .before .before .before .before .before .before .before .before .before .before .before .before .before .before .before .bytes-of in
+    let bytes-of2 = c .before .before .before .before .before .before .before .before .before .before .before .before .before .before .before .before .before .before .before .bytes-of2 in
+    let taken = c .before .before .before .before .before .before .before .before .before .before .before .before .before .before .before .before .before .before .taken in
+    let taken2 = c .before .before .before .before .before .before .before .before .before .before .before .before .before .before .before .before .before .taken2 in
+    let bytes-of3 = c .before .before .before .before .before .before .before .before .before .before .before .before .before .before .before .before .bytes-of3 in
+    let taken3 = c .before .before .before .before .before .before .before .before .before .before .before .before .before .before .before .taken3 in
+    let taken4 = c .before .before .before .before .before .before .before .before .before .before .before .before .before .before .taken4 in
+    let taken5 = c .before .before .before .before .before .before .before .before .before .before .before .before .before .taken5 in
+    let taken6 = c .before .before .before .before .before .before .before .before .before .before .before .before .taken6 in
+    let bytes-of4 = c .before .before .before .before .before .before .before .before .before .before .before .bytes-of4 in
+    let taken7 = c .before .before .before .before .before .before .before .before .before .before .taken7 in
+    let taken8 = c .before .before .before .before .before .before .before .before .before .taken8 in
+    let taken9 = c .before .before .before .before .before .before .before .before .taken9 in
+    let taken10 = c .before .before .before .before .before .before .before .taken10 in
+    let bytes-of5 = c .before .before .before .before .before .before .bytes-of5 in
+    let taken11 = c .before .before .before .before .before .taken11 in
+    let taken12 = c .before .before .before .before .taken12 in
+    let taken13 = c .before .before .before .taken13 in
+    let enum-told5 = c .before .enum-told5 in
+    let fewest-roots = c .fewest-roots in
+    chosen-told _ _ _ (enum-told5 .given .1) (fewest-roots .ensures) (parts-are (bytes-of .ensures) (bytes-of2 .ensures) (taken .ensures) (taken2 .ensures) (bytes-of3 .ensures) (taken3 .ensures) (taken4 .ensures) (taken5 .ensures) (taken6 .ensures) (bytes-of4 .ensures) (taken7 .ensures) (taken8 .ensures) (taken9 .ensures) (taken10 .ensures) (bytes-of5 .ensures) (taken11 .ensures) (taken12 .ensures) (taken13 .ensures) (start .pre .1))
+
 pub tell-spec : {M : Type 1} → statement M
 tell-spec =
     tie.close
@@ -261,10 +292,13 @@ tell-spec =
     echo-hidden-requires
     enum-told-4
     echo-let-requires
+    enum-told-5
+    fewest-roots-requires
     same-length
     returns
     returns-2
     same-length-2
     returns-3
     same-length-3
-    returns-4)
+    returns-4
+    returns-5)
