@@ -1,6 +1,7 @@
 #!/bin/sh
 # Makes the recorded lists again: record.sh FOLDER, where FOLDER holds the unchanged Rust (kernel.rs and the files that it includes).
-# With --clauses after it, the tally by clause is printed too. What is built goes to a folder of its own and is removed.
+# With --clauses after it, the tally by clause is printed too. With --rows OUT nothing is recorded: rows of traces are written to the folder
+# OUT as scripts for the solvers (solvers/traces.py). What is built goes to a folder of its own and is removed.
 set -eu
 source=$(cd "$1" && pwd)
 shift
@@ -11,7 +12,11 @@ rustc --edition 2024 --crate-type rlib --crate-name kernel -O -A warnings -o "$r
 python3 "$here/by_table.py" "$source" "$room/model"
 rustc --edition 2024 --crate-type rlib --crate-name model -O -A warnings -o "$room/libmodel.rlib" "$room/model/kernel.rs"
 rustc --edition 2024 -O --extern kernel="$room/libkernel.rlib" --extern model="$room/libmodel.rlib" -o "$room/record" "$here/src/main.rs"
-for list in widths printer sizes hidden let fewest scripts records; do mkdir -p "$here/../crates/replay_$list/data"; done
+if [ "${1:-}" = --rows ]; then
+    "$room/record" rows "$2"
+    exit
+fi
+for list in widths printer sizes hidden let fewest scripts records traces; do mkdir -p "$here/../crates/replay_$list/data"; done
 cd "$here/.."
 "$room/record" widths crates/replay_widths/data/widths.bin "$@"
 "$room/record" printer crates/replay_printer/data/printer.bin "$@"
@@ -21,3 +26,4 @@ cd "$here/.."
 "$room/record" fewest crates/replay_fewest/data/fewest.bin "$@"
 "$room/record" scripts crates/replay_scripts/data/scripts.bin "$@"
 "$room/record" records crates/replay_records/data/records.bin "$@"
+"$room/record" traces crates/replay_traces/data/traces.bin "$@"

@@ -125,6 +125,12 @@ enum {
     /* An element of index_width or value_width is 0 or above ECHO_MAX_ARRAY_WIDTH, whether a node names the array or not. */
     ECHO_ARRAY_WIDTH = 12,
 
+    /* Of replay_trace alone: a term that a root reaches is wider than 64 bits, or a select or call. A rotation's amount is no term. */
+    ECHO_WIDE = 14,
+
+    /* Of replay_trace alone: the values are no whole number of rows, or one does not fit the width of its variable. */
+    ECHO_VALUES = 15,
+
     /* Shorter records end inside a record, or have a kind above 38. */
     ECHO_SHORT_RECORD = 16
 };
@@ -202,6 +208,12 @@ struct fewest_answer {
     uint64_t count;  /* how many positions there are: 0, 1 or 2 */
     uint64_t first;  /* the first position, from 0; 0 where there is none */
     uint64_t second; /* the second position, after the first; 0 where there is none */
+};
+
+/* rows is how many there are; 0 in a refusal. */
+struct trace_answer {
+    uint64_t number;
+    uint64_t rows;
 };
 
 /* What ext_wf answers. */
@@ -390,6 +402,46 @@ struct fewest_answer fewest_roots(
     const uint64_t *fname_start, size_t fname_start_len,
     const uint64_t *fname_len, size_t fname_len_len,
     const uint64_t *func_width, size_t func_width_len);
+
+/*
+ * Replays a trace: rows of values, one for each declared variable in table order, each as a number. For each row masks has a number
+ * whose bit k is 1 exactly when root k holds where the variables have the row's values, the other bits 0; and counts has at the same
+ * place how many of its bits are ones. A row whose count is roots_len is a model of the script that echo_ext prints.
+ *
+ * Where there is no variable there is one row, and values_len must be 0. With variables and no values there are no rows. Of two entries
+ * for one node the first has the value; the other's value has to fit its width all the same. So has the value of a variable that no root
+ * reaches; a width above 64 bits takes every value.
+ *
+ * Accepted: number is ECHO_ACCEPTED, rows is the number of rows, and every element of masks and counts from [rows] on is what it was
+ * before the call.
+ *
+ * Refused: rows is 0, and all elements of masks and counts are 0. More than 64 roots is ECHO_LIMIT. The order is that of echo_ext but
+ * for ECHO_ROOM; then ECHO_WIDE, ECHO_VALUES, and ECHO_ROOM where masks_len or counts_len is below the number of rows.
+ *
+ * The evaluation of a term is recursive, as echo_ext is. The checks are made once, not for each row; nothing is allocated.
+ */
+struct trace_answer replay_trace(
+    const uint8_t *nodes, size_t nodes_len,
+    const uint8_t *bits, size_t bits_len,
+    const uint64_t *side, size_t side_len,
+    const uint64_t *roots, size_t roots_len,
+    const uint8_t *names, size_t names_len,
+    const uint64_t *name_start, size_t name_start_len,
+    const uint64_t *name_len, size_t name_len_len,
+    const uint64_t *var_node, size_t var_node_len,
+    const uint64_t *var_width, size_t var_width_len,
+    const uint8_t *anames, size_t anames_len,
+    const uint64_t *aname_start, size_t aname_start_len,
+    const uint64_t *aname_len, size_t aname_len_len,
+    const uint64_t *index_width, size_t index_width_len,
+    const uint64_t *value_width, size_t value_width_len,
+    const uint8_t *fnames, size_t fnames_len,
+    const uint64_t *fname_start, size_t fname_start_len,
+    const uint64_t *fname_len, size_t fname_len_len,
+    const uint64_t *func_width, size_t func_width_len,
+    const uint64_t *values, size_t values_len,
+    uint64_t *masks, size_t masks_len,
+    uint64_t *counts, size_t counts_len);
 
 /*
  * The width pass alone: tells whether every node is well formed, and how wide each is. A Bool has width 1 here. index_width and

@@ -3,6 +3,8 @@ mod cut;
 mod problem;
 mod records;
 mod shapes;
+mod traces;
+mod traces_table;
 use problem::{Answer, Decoded, Problem};
 use std::ffi::{c_int, c_long};
 use std::hint::black_box;
@@ -236,6 +238,9 @@ fn main() {
     if wanted == "fewest" {
         return fewest_table(&shapes::all());
     }
+    if wanted == "traces" {
+        return traces_table::table();
+    }
     let all: Vec<_> = shapes::all().into_iter().filter(|s| s.0.contains(&wanted)).collect();
     let mut out = vec![0u8; 48 << 20];
     println!("| printer | script bytes | Rust us | port us | ratio | 10th to 90th | Rust MB/s | port MB/s |");
@@ -311,4 +316,6 @@ fn main() {
     alone("over a limit", 1 << 20, &shapes::over_limit(), 9);
     println!();
     records::table();
+    println!();
+    traces_table::table();
 }

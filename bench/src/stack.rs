@@ -2,6 +2,8 @@
 //! pattern before; what lies between the call and the lowest byte that differs afterwards was used.
 mod problem;
 mod shapes;
+#[allow(dead_code)]
+mod traces;
 use problem::{Answer, Decoded, Problem, kind};
 use std::ffi::{c_int, c_void};
 
@@ -220,6 +222,16 @@ fn main() {
     println!("| the largest, with constants hidden | | | | {} |", hidden.div_ceil(1000));
     println!("| the largest, with let and nothing shared | | | | {} |", lets.div_ceil(1000));
     println!("| the largest, with let and the root bound | | | | {} |", shared.div_ceil(1000));
+    // the replay of one row: chains of each step that it takes, and the trees that it is timed on
+    let mut rows = 0;
+    let chains = STEPS.iter().take(6).map(|s| (format!("chain of {}", s.0), chained(*s, None)));
+    for (label, p) in chains.chain(traces::shapes()) {
+        let values = vec![1; p.var_width.len()];
+        let mut answer = traces::Answer { number: 1, rows: 0 };
+        rows = rows.max(used(stack, &mut || answer = traces::replay(&p, &values, &mut [0], &mut [0])));
+        assert_eq!(answer, traces::Answer { number: 0, rows: 1 }, "{label}");
+    }
+    println!("| the largest, replay of a trace | | | | {} |", rows.div_ceil(1000));
     let mut ws = vec![0u64; 2048];
     let p = shapes::balanced(8);
     let d = Decoded::of(&p);

@@ -1,8 +1,8 @@
-//! Makes the recorded lists: `record LIST OUT`, where LIST is widths, printer, sizes, hidden, let, fewest, scripts or records. The problems follow
+//! Makes the recorded lists: `record LIST OUT`, where LIST is widths, printer, sizes, hidden, let, fewest, scripts, records or traces. The problems follow
 //! from a seed; the answers are the Rust's (oracle.rs), with what documents 01 and 02 add around it (added.rs), and with names that it takes
 //! in the place of those with bytes from 128 on (spelling.rs). Sizes are those of the Rust's scripts, and hidden scripts are put together
 //! from two of them (hidden.rs). Scripts with `let` are those of a printer of their own (lets.rs). The fewest roots are found by trying lists
-//! of them (fewest.rs). Where scripts end in a file is a model's answer (scripts.rs), and so are shorter records (records.rs).
+//! of them (fewest.rs). Where scripts end in a file is a model's answer (scripts.rs), and so are shorter records (records.rs) and the replay of traces (traces.rs).
 mod added;
 mod alphabets;
 mod arrays;
@@ -21,6 +21,8 @@ mod records;
 mod scripts;
 mod spelling;
 mod terms;
+mod traces;
+mod traces_problems;
 mod trees;
 mod widths;
 mod words;
@@ -307,6 +309,59 @@ fn record_records(out: &str, long: bool) {
     finish(&list, &tally, out, long);
 }
 
+fn record_traces(out: &str, long: bool) {
+    traces_problems::check_model();
+    let mut list = list::List::new(b"TRACES 1");
+    let mut tally = Tally::default();
+    let (mut rows, mut most) = (0, 0);
+    for c in traces_problems::all() {
+        let a = traces::answer(&c.problem, &c.values, c.masks, c.counts);
+        assert!(!a.masks.contains(&FILL), "a mask is the number that the replay fills with");
+        rows += a.masks.len();
+        most = most.max(c.values.len());
+        tally.note(&c.label, c.want, a.number);
+        list.add(&list::of_trace(&c.problem, &c.values, c.masks, c.counts, &a));
+    }
+    println!("rows: {rows}; most values: {most}");
+    finish(&list, &tally, out, long);
+}
+
+/// Of the accepted traces, rows as scripts: the problem's script with the row's values asserted too. A file's name ends in the answer that is
+/// wanted: sat exactly where every assertion holds.
+fn write_rows(folder: &str) {
+    std::fs::create_dir_all(folder).expect("the folder is made");
+    let (mut n, mut full) = (0, 0);
+    for (i, c) in traces_problems::all().into_iter().enumerate() {
+        let a = traces::answer(&c.problem, &c.values, c.masks, c.counts);
+        let script = added::print_answer(&c.problem, usize::MAX).result;
+        if a.number != 0 || script.len() > 20_000 || c.problem.roots.is_empty() {
+            continue;
+        }
+        let v = c.problem.var_width.len();
+        // one row with every assertion if there is one, and one other, which goes round
+        let all = c.problem.roots.len() as u64;
+        let models = (0..a.masks.len()).filter(|j| a.counts[*j] == all).skip(i % 3).take(1);
+        let rows: Vec<usize> = models.chain((0..a.masks.len()).skip(i % 7).take(1)).collect();
+        for j in rows {
+            let text = String::from_utf8(script.clone()).expect("names are ASCII");
+            let mut values = String::new();
+            for k in 0..v {
+                let (s, l) = (c.problem.name_start[k] as usize, c.problem.name_len[k] as usize);
+                let name = std::str::from_utf8(&c.problem.names[s..s + l]).expect("names are ASCII");
+                let w = c.problem.var_width[k] as usize;
+                let digits = format!("{:b}", c.values[j * v + k]);
+                values += &format!("(assert (= |{name}| #b{}{digits}))\n", "0".repeat(w - digits.len()));
+            }
+            let wanted = if a.counts[j] == all { "sat" } else { "unsat" };
+            full += (wanted == "sat") as usize;
+            let text = text.replace("(check-sat)\n", &format!("{values}(check-sat)\n"));
+            std::fs::write(format!("{folder}/{n:05}-{wanted}.smt2"), text).expect("a script is written");
+            n += 1;
+        }
+    }
+    println!("{folder}: {n} scripts, {full} of them with every assertion true");
+}
+
 fn run() {
     let words: Vec<String> = std::env::args().skip(1).collect();
     let long = words.iter().any(|w| w == "--clauses");
@@ -319,8 +374,10 @@ fn run() {
         (Some("fewest"), Some(out)) => record_fewest(out, long),
         (Some("scripts"), Some(out)) => record_scripts(out, long),
         (Some("records"), Some(out)) => record_records(out, long),
+        (Some("traces"), Some(out)) => record_traces(out, long),
+        (Some("rows"), Some(folder)) => write_rows(folder),
         _ => {
-            eprintln!("record widths|printer|sizes|hidden|let|fewest|scripts|records OUT [--clauses]");
+            eprintln!("record widths|printer|sizes|hidden|let|fewest|scripts|records|traces OUT [--clauses], record rows FOLDER");
             std::process::exit(2);
         }
     }

@@ -1,5 +1,5 @@
 #!/bin/sh
-# Compiles print_m2.c, cut_file.c and fewest_roots.c against the library, runs them and compares what they write with expected.txt and the
+# Compiles print_m2.c, cut_file.c, fewest_roots.c and which_broke.c against the library, runs them and compares what they write with expected.txt and the
 # .txt of their names. The header is compiled as C++ too, if g++ is there. CC and CXX name other compilers. Exit status: 0 if all is as expected.
 set -eu
 cd "$(dirname "$0")/../.."
@@ -18,6 +18,7 @@ compiled() {
 compiled print_m2 expected.txt
 compiled cut_file cut_file.txt
 compiled fewest_roots fewest_roots.txt
+compiled which_broke which_broke.txt
 cxx=${CXX:-g++}
 if command -v "$cxx" > /dev/null; then
     "$cxx" -x c++ -fsyntax-only -Wall -Wextra -Wpedantic -Werror include/echo.h

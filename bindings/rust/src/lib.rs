@@ -2,8 +2,8 @@
 //!
 //! This package is a thin, safe layer over the proved library. [`echo_ext`] prints a [`Problem`], [`echo_hidden`] prints it with constants
 //! hidden, [`echo_let`] with shared terms bound by `let`, [`echo_size`] tells beforehand how long its script is, [`ext_wf`] is the width
-//! pass alone, [`scripts`] cuts a file that joins scripts, and [`shorten_records`] and [`lengthen_records`] convert node records into
-//! shorter ones and back.
+//! pass alone, [`scripts`] cuts a file that joins scripts, [`shorten_records`] and [`lengthen_records`] convert node records into
+//! shorter ones and back, and [`replay_trace`] tells which assertions hold on logged values.
 //! Terms are node records ([`node`], [`kind`]), and every input is a slice that is lent for the call.
 //!
 //! Is there an 8-bit `x` with `x + 5 = x`?
@@ -55,10 +55,12 @@ mod raw;
 mod records;
 mod refusal;
 mod scripts;
+mod traces;
 
 pub use records::{RecordRefusal, lengthen_records, shorten_records};
 pub use refusal::{Refusal, WidthRefusal};
 pub use scripts::{Scripts, next_script, scripts};
+pub use traces::{TraceRefusal, replay_trace};
 
 /// Bytes of a node record.
 pub const NODE_BYTES: usize = 17;

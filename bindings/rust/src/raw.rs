@@ -51,8 +51,14 @@ pub struct ScriptAnswer {
     pub length: u64,
 }
 
+#[repr(C)]
+pub struct TraceAnswer {
+    pub number: u64,
+    pub rows: u64,
+}
+
 mod c {
-    use super::{EchoAnswer, FewestAnswer, RecordAnswer, ScriptAnswer, SizeAnswer, WidthAnswer};
+    use super::{EchoAnswer, FewestAnswer, RecordAnswer, ScriptAnswer, SizeAnswer, TraceAnswer, WidthAnswer};
 
     unsafe extern "C" {
         pub fn echo_ext(
@@ -255,6 +261,51 @@ mod c {
             func_width: *const u64,
             func_width_len: usize,
         ) -> FewestAnswer;
+
+        pub fn replay_trace(
+            nodes: *const u8,
+            nodes_len: usize,
+            bits: *const u8,
+            bits_len: usize,
+            side: *const u64,
+            side_len: usize,
+            roots: *const u64,
+            roots_len: usize,
+            names: *const u8,
+            names_len: usize,
+            name_start: *const u64,
+            name_start_len: usize,
+            name_len: *const u64,
+            name_len_len: usize,
+            var_node: *const u64,
+            var_node_len: usize,
+            var_width: *const u64,
+            var_width_len: usize,
+            anames: *const u8,
+            anames_len: usize,
+            aname_start: *const u64,
+            aname_start_len: usize,
+            aname_len: *const u64,
+            aname_len_len: usize,
+            index_width: *const u64,
+            index_width_len: usize,
+            value_width: *const u64,
+            value_width_len: usize,
+            fnames: *const u8,
+            fnames_len: usize,
+            fname_start: *const u64,
+            fname_start_len: usize,
+            fname_len: *const u64,
+            fname_len_len: usize,
+            func_width: *const u64,
+            func_width_len: usize,
+            values: *const u64,
+            values_len: usize,
+            masks: *mut u64,
+            masks_len: usize,
+            counts: *mut u64,
+            counts_len: usize,
+        ) -> TraceAnswer;
 
         pub fn ext_wf(
             nodes: *const u8,
@@ -501,6 +552,56 @@ pub fn fewest_roots(p: &Problem<'_>) -> FewestAnswer {
             p.fname_len.len(),
             p.func_width.as_ptr(),
             p.func_width.len(),
+        )
+    }
+}
+
+pub fn replay_trace(p: &Problem<'_>, values: &[u64], masks: &mut [u64], counts: &mut [u64]) -> TraceAnswer {
+    // SAFETY: the list at the top.
+    unsafe {
+        c::replay_trace(
+            p.nodes.as_ptr(),
+            p.nodes.len(),
+            p.bits.as_ptr(),
+            p.bits.len(),
+            p.side.as_ptr(),
+            p.side.len(),
+            p.roots.as_ptr(),
+            p.roots.len(),
+            p.names.as_ptr(),
+            p.names.len(),
+            p.name_start.as_ptr(),
+            p.name_start.len(),
+            p.name_len.as_ptr(),
+            p.name_len.len(),
+            p.var_node.as_ptr(),
+            p.var_node.len(),
+            p.var_width.as_ptr(),
+            p.var_width.len(),
+            p.anames.as_ptr(),
+            p.anames.len(),
+            p.aname_start.as_ptr(),
+            p.aname_start.len(),
+            p.aname_len.as_ptr(),
+            p.aname_len.len(),
+            p.index_width.as_ptr(),
+            p.index_width.len(),
+            p.value_width.as_ptr(),
+            p.value_width.len(),
+            p.fnames.as_ptr(),
+            p.fnames.len(),
+            p.fname_start.as_ptr(),
+            p.fname_start.len(),
+            p.fname_len.as_ptr(),
+            p.fname_len.len(),
+            p.func_width.as_ptr(),
+            p.func_width.len(),
+            values.as_ptr(),
+            values.len(),
+            masks.as_mut_ptr(),
+            masks.len(),
+            counts.as_mut_ptr(),
+            counts.len(),
         )
     }
 }

@@ -42,6 +42,9 @@ fn limits_numbers_and_kinds() {
         let name = format!("{refusal:?}").replace("ArrayWidth", "Array_Width");
         here.insert(format!("ECHO_{name}").to_uppercase(), refusal.number());
     }
+    for refusal in [TraceRefusal::Wide, TraceRefusal::Values] {
+        here.insert(format!("ECHO_{refusal:?}").to_uppercase(), refusal.number());
+    }
     macro_rules! kinds {
         ($($name:ident)*) => { $(here.insert(concat!("ECHO_KIND_", stringify!($name)).into(), kind::$name.into());)* };
     }
@@ -50,5 +53,5 @@ fn limits_numbers_and_kinds() {
 
     let there: BTreeMap<String, u64> = header().into_iter().map(|(name, value)| (name.to_string(), value)).collect();
     assert_eq!(here, there);
-    assert_eq!(here.len(), 9 + 14 + 39);
+    assert_eq!(here.len(), 9 + 16 + 39);
 }

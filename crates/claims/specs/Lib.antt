@@ -1,5 +1,6 @@
 -- What is promised, by subject: the printer and the width pass (`Claims`), array widths (`ArrayClaims`), sizes (`SizeClaims`), the hidden form
--- (`HiddenClaims`), shared terms with `let` (`LetClaims`), files of scripts (`JoinedScripts`). The files of instances show that each claim speaks of something.
+-- (`HiddenClaims`), shared terms with `let` (`LetClaims`), files of scripts (`JoinedScripts`), shorter records (`RecordClaims`), the replay
+-- of traces (`TraceClaims`). The files of instances show that each claim speaks of something.
 pub mod WidthAnswers
 pub mod SizeAnswers
 pub mod HiddenAnswers
@@ -18,3 +19,5 @@ pub mod JoinedInstances
 pub mod RecordClaims
 pub mod RecordInstances
 pub mod FewestClaims
+pub mod TraceClaims
+pub mod TraceInstances

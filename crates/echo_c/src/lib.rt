@@ -6,6 +6,7 @@ pub mod let_form;
 pub mod records;
 pub mod scripts;
 pub mod size;
+pub mod trace;
 
 use c_answers::EchoAnswer;
 use c_answers::WidthAnswer;

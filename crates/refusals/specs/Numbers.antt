@@ -22,7 +22,8 @@ errorNumber Clash = 11
 errorNumber ArrayWidth = 12
 errorNumber ShortRecord = 16
 
--- the refusal with this number, from 1 to 12 or 16; the three before 16 are none's
+-- the refusal with this number, from 1 to 12 or 16; the three before 16 are none's here: 14 and 15 are those of the replay of a trace, whose
+-- answer has them
 abbrev pub errorOf : ℕ → EchoError
 errorOf n = getD (Malformed ∷ Name ∷ Sort ∷ Var ∷ Rotate ∷ Shared ∷ Signature ∷ Encoding ∷ Limit ∷ Room ∷ Clash ∷ ArrayWidth ∷ ArrayWidth ∷ ArrayWidth ∷ ArrayWidth ∷ ShortRecord ∷ []) (n - 1) ArrayWidth
 

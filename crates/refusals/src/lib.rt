@@ -60,6 +60,7 @@ pub const CLASH: u64 = 11;
 
 pub const ARRAY_WIDTH: u64 = 12;
 
+// 14 and 15 are the replay's of a trace alone (`replay_trace`).
 pub const SHORT_RECORD: u64 = 16;
 
 // A refusal's number. Ruled out: numbers from 0 on; 8 and 9 the other way about.

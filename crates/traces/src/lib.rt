@@ -1,0 +1,1 @@
+// No code: `specs/` has what the replay of a trace answers (document 02, L9).
