@@ -16,7 +16,7 @@ if [ "${1:-}" = --rows ]; then
     "$room/record" rows "$2"
     exit
 fi
-for list in widths printer sizes hidden let fewest scripts records traces; do mkdir -p "$here/../crates/replay_$list/data"; done
+for list in widths printer sizes hidden let formulas fewest scripts records traces; do mkdir -p "$here/../crates/replay_$list/data"; done
 cd "$here/.."
 "$room/record" widths crates/replay_widths/data/widths.bin "$@"
 "$room/record" printer crates/replay_printer/data/printer.bin "$@"
@@ -24,6 +24,7 @@ cd "$here/.."
 "$room/record" hidden crates/replay_hidden/data/hidden.bin "$@"
 "$room/record" let crates/replay_let/data/let.bin "$@"
 "$room/record" fewest crates/replay_fewest/data/fewest.bin "$@"
+"$room/record" formulas crates/replay_formulas/data/formulas.bin "$@"
 "$room/record" scripts crates/replay_scripts/data/scripts.bin "$@"
 "$room/record" records crates/replay_records/data/records.bin "$@"
 "$room/record" traces crates/replay_traces/data/traces.bin "$@"

@@ -1,6 +1,6 @@
 /*
- * The printer `echo_ext`, the same with constants hidden `echo_hidden`, the same with shared terms bound by let `echo_let`, the size of a
- * script `echo_size`, the width pass `ext_wf`, `next_script`, which cuts a file of scripts, and the conversions of node records
+ * The printer `echo_ext`, the same with constants hidden `echo_hidden`, the same with shared terms bound by let `echo_let`, the roots as the
+ * lines of a map file `echo_formulas`, the size of a script `echo_size`, the width pass `ext_wf`, `next_script`, which cuts a file of scripts, and the conversions of node records
  * `shorten_records` and `lengthen_records`, for C and C++.
  *
  * The library is target/staticlib/libecho_c.a, written by `rt staticlib echo_c`. It is for x86-64 with the System V calling
@@ -323,6 +323,34 @@ struct echo_answer echo_hidden(
  * this script. It needs up to 60 KB more stack than echo_ext.
  */
 struct echo_answer echo_let(
+    const uint8_t *nodes, size_t nodes_len,
+    const uint8_t *bits, size_t bits_len,
+    const uint64_t *side, size_t side_len,
+    const uint64_t *roots, size_t roots_len,
+    const uint8_t *names, size_t names_len,
+    const uint64_t *name_start, size_t name_start_len,
+    const uint64_t *name_len, size_t name_len_len,
+    const uint64_t *var_node, size_t var_node_len,
+    const uint64_t *var_width, size_t var_width_len,
+    const uint8_t *anames, size_t anames_len,
+    const uint64_t *aname_start, size_t aname_start_len,
+    const uint64_t *aname_len, size_t aname_len_len,
+    const uint64_t *index_width, size_t index_width_len,
+    const uint64_t *value_width, size_t value_width_len,
+    const uint8_t *fnames, size_t fnames_len,
+    const uint64_t *fname_start, size_t fname_start_len,
+    const uint64_t *fname_len, size_t fname_len_len,
+    const uint64_t *func_width, size_t func_width_len,
+    uint8_t *out, size_t out_len);
+
+/*
+ * The map file's lines: one line a root, ended by byte 10, the root as a formula. From the loosest: or; and; bor; bxor; band; == !=;
+ * < <= > >= (unsigned); << >> (the logical shift); + -; * / % (unsigned); before an operand ! ~ -. Operators of one level group to the
+ * left, and brackets stand only where leaving out a pair would change the tree. All other kinds stand as the SMT-LIB name, then numerals
+ * and operands in parentheses, parted by a comma and a blank: extract(7, 0, |x|). The inputs and the refusals are echo_ext's; ECHO_ROOM is
+ * about the lines. No roots: length 0.
+ */
+struct echo_answer echo_formulas(
     const uint8_t *nodes, size_t nodes_len,
     const uint8_t *bits, size_t bits_len,
     const uint64_t *side, size_t side_len,

@@ -192,6 +192,39 @@ fn fewest_table(all: &[(&'static str, Problem)]) {
     }
 }
 
+/// The roots as formulas, beside the plain script: how much longer a byte takes.
+fn formulas(label: &str, p: &Problem, out: &mut [u8]) {
+    let Answer(number, length) = problem::echo(p, out);
+    assert_eq!(number, 0, "{label}");
+    let Answer(number, lines) = problem::formulas(p, out);
+    assert_eq!(number, 0, "{label}");
+    if lines == 0 {
+        return;
+    }
+    let mut other = vec![0u8; lines as usize];
+    let t = pairs(&mut || { black_box(problem::echo(p, out)); }, &mut || {
+        black_box(problem::formulas(p, &mut other));
+    });
+    let byte = length as f64 / lines as f64;
+    println!(
+        "| {label} | {length} | {lines} | {:.1} | {:.1} | {:.2} | {:.2} | {:.2} to {:.2} |",
+        t.rust * 1e6,
+        t.port * 1e6,
+        t.ratio[0],
+        t.ratio[0] * byte,
+        t.ratio[1] * byte,
+        t.ratio[2] * byte
+    );
+}
+
+fn formulas_table(all: &[(&str, Problem)], out: &mut [u8]) {
+    println!("| formulas, port alone | script bytes | formula bytes | script us | formulas us | ratio | ratio for a byte | 10th to 90th |");
+    println!("|---|---|---|---|---|---|---|---|");
+    for (label, p) in all {
+        formulas(label, p, out);
+    }
+}
+
 /// A file cut by the port and line by line in Rust.
 fn cutting(label: &str, file: &[u8]) {
     assert_eq!(cut::port(file), cut::by_memchr(file), "{label}");
@@ -241,6 +274,9 @@ fn main() {
     if wanted == "traces" {
         return traces_table::table();
     }
+    if wanted == "formulas" {
+        return formulas_table(&shapes::all(), &mut vec![0u8; 48 << 20]);
+    }
     let all: Vec<_> = shapes::all().into_iter().filter(|s| s.0.contains(&wanted)).collect();
     let mut out = vec![0u8; 48 << 20];
     println!("| printer | script bytes | Rust us | port us | ratio | 10th to 90th | Rust MB/s | port MB/s |");
@@ -288,6 +324,8 @@ fn main() {
     if wanted.is_empty() || wanted == "cut" {
         cuts();
     }
+    println!();
+    formulas_table(&all, &mut out);
     println!();
     println!("| let, nothing shared, port alone | script bytes | plain us | let us | ratio | 10th to 90th |");
     println!("|---|---|---|---|---|---|");

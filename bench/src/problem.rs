@@ -276,6 +276,13 @@ mod port {
             fnames: B, _: L, fname_start: N, _: L, fname_len: N, _: L, func_width: N, _: L,
             out: *mut u8, _: L,
         ) -> Answer;
+        pub fn echo_formulas(
+            nodes: B, _: L, bits: B, _: L, side: N, _: L, roots: N, _: L,
+            names: B, _: L, name_start: N, _: L, name_len: N, _: L, var_node: N, _: L, var_width: N, _: L,
+            anames: B, _: L, aname_start: N, _: L, aname_len: N, _: L, index_width: N, _: L, value_width: N, _: L,
+            fnames: B, _: L, fname_start: N, _: L, fname_len: N, _: L, func_width: N, _: L,
+            out: *mut u8, _: L,
+        ) -> Answer;
         pub fn echo_size(
             nodes: B, _: L, bits: B, _: L, side: N, _: L, roots: N, _: L,
             names: B, _: L, name_start: N, _: L, name_len: N, _: L, var_node: N, _: L, var_width: N, _: L,
@@ -342,6 +349,27 @@ pub fn lets(p: &Problem, out: &mut [u8]) -> Answer {
     // Safety: as above.
     unsafe {
         port::echo_let(
+            p.nodes.as_ptr(), p.nodes.len(), p.bits.as_ptr(), p.bits.len(),
+            p.side.as_ptr(), p.side.len(), p.roots.as_ptr(), p.roots.len(),
+            p.names.as_ptr(), p.names.len(), p.name_start.as_ptr(), p.name_start.len(), p.name_len.as_ptr(), p.name_len.len(),
+            p.var_node.as_ptr(), p.var_node.len(), p.var_width.as_ptr(), p.var_width.len(),
+            p.anames.as_ptr(), p.anames.len(), p.aname_start.as_ptr(), p.aname_start.len(),
+            p.aname_len.as_ptr(), p.aname_len.len(),
+            p.index_width.as_ptr(), p.index_width.len(), p.value_width.as_ptr(), p.value_width.len(),
+            p.fnames.as_ptr(), p.fnames.len(), p.fname_start.as_ptr(), p.fname_start.len(),
+            p.fname_len.as_ptr(), p.fname_len.len(), p.func_width.as_ptr(), p.func_width.len(),
+            out.as_mut_ptr(), out.len(),
+        )
+    }
+}
+
+/// The roots as formulas.
+#[rustfmt::skip]
+#[allow(dead_code)]
+pub fn formulas(p: &Problem, out: &mut [u8]) -> Answer {
+    // Safety: as above.
+    unsafe {
+        port::echo_formulas(
             p.nodes.as_ptr(), p.nodes.len(), p.bits.as_ptr(), p.bits.len(),
             p.side.as_ptr(), p.side.len(), p.roots.as_ptr(), p.roots.len(),
             p.names.as_ptr(), p.names.len(), p.name_start.as_ptr(), p.name_start.len(), p.name_len.as_ptr(), p.name_len.len(),

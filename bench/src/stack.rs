@@ -199,6 +199,7 @@ fn main() {
     let mut worst = (0, 0);
     let mut hidden = 0;
     let (mut lets, mut shared) = (0, 0);
+    let mut formulas = (0, "");
     for (label, p) in &all {
         let d = Decoded::of(p);
         let mut script = Err(0);
@@ -212,6 +213,8 @@ fn main() {
         worst = (worst.0.max(rust), worst.1.max(port));
         hidden = hidden.max(used(stack, &mut || assert_eq!(problem::hidden(p, &mut out), answer)));
         lets = lets.max(used(stack, &mut || assert_eq!(problem::lets(p, &mut out), answer)));
+        let deep = used(stack, &mut || assert_eq!(problem::formulas(p, &mut out).0, 0));
+        formulas = formulas.max((deep, label.as_str()));
         // the same with its root given twice, so that it is bound
         let mut twice = p.clone();
         let root = twice.roots[0];
@@ -221,6 +224,7 @@ fn main() {
     println!("| the largest | | | {} | {} |", worst.0.div_ceil(1000), worst.1.div_ceil(1000));
     println!("| the largest, with constants hidden | | | | {} |", hidden.div_ceil(1000));
     println!("| the largest, with let and nothing shared | | | | {} |", lets.div_ceil(1000));
+    println!("| the largest, as formulas ({}) | | | | {} |", formulas.1, formulas.0.div_ceil(1000));
     println!("| the largest, with let and the root bound | | | | {} |", shared.div_ceil(1000));
     // the replay of one row: chains of each step that it takes, and the trees that it is timed on
     let mut rows = 0;

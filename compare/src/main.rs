@@ -9,6 +9,8 @@ mod arrays;
 mod both;
 mod fewest;
 mod fewest_problems;
+mod formulas;
+mod formulas_problems;
 mod hidden;
 mod hidden_problems;
 mod lets;
@@ -362,6 +364,40 @@ fn write_rows(folder: &str) {
     println!("{folder}: {n} scripts, {full} of them with every assertion true");
 }
 
+/// Problems of its own, and every fifth of the printer's, each once.
+fn record_formulas(out: &str, long: bool) {
+    let mut list = list::List::new(b"FORMULA2");
+    let mut tally = Tally::default();
+    let mut seen = HashSet::new();
+    let (mut bracketed, mut others) = (0, 0);
+    let own = formulas_problems::all().into_iter().map(|(label, p, room)| (label.to_string(), p, room));
+    let printers = printer::all().into_iter().chain(arrays::of_printer()).filter_map(|c| {
+        let plain = added::print_answer(&c.problem, usize::MAX);
+        if !seen.insert(list::of_script(&c.problem, 0, &plain)) || plain.result.len() > 40_000 {
+            return None;
+        }
+        others += 1;
+        (others % 5 == 0).then_some((c.label, c.problem, c.room))
+    });
+    for (label, p, room) in own.chain(printers) {
+        let len = formulas::lines_len(&p).unwrap_or(64);
+        let room = match room {
+            printer::Room::Exact => len,
+            printer::Room::OneShort => len.saturating_sub(1),
+            printer::Room::Empty => 0,
+            printer::Room::Longer(n) => len + n,
+            printer::Room::Fixed(n) => n,
+        };
+        let a = formulas::answer(&p, room);
+        assert!(!a.result.contains(&FILL_BYTE), "a line has the byte that the replay fills with");
+        bracketed += (a.result.starts_with(b"(") || a.result.windows(2).any(|w| w == b" (")) as usize;
+        tally.note(&label, None, a.number);
+        list.add(&list::of_script(&p, room, &a));
+    }
+    println!("lines with brackets: {bracketed}");
+    finish(&list, &tally, out, long);
+}
+
 fn run() {
     let words: Vec<String> = std::env::args().skip(1).collect();
     let long = words.iter().any(|w| w == "--clauses");
@@ -376,8 +412,9 @@ fn run() {
         (Some("records"), Some(out)) => record_records(out, long),
         (Some("traces"), Some(out)) => record_traces(out, long),
         (Some("rows"), Some(folder)) => write_rows(folder),
+        (Some("formulas"), Some(out)) => record_formulas(out, long),
         _ => {
-            eprintln!("record widths|printer|sizes|hidden|let|fewest|scripts|records|traces OUT [--clauses], record rows FOLDER");
+            eprintln!("record widths|printer|sizes|hidden|let|fewest|formulas|scripts|records|traces OUT [--clauses], record rows FOLDER");
             std::process::exit(2);
         }
     }

@@ -1,6 +1,6 @@
 #!/bin/sh
-# Compiles print_m2.c, cut_file.c, fewest_roots.c and which_broke.c against the library, runs them and compares what they write with expected.txt and the
-# .txt of their names. The header is compiled as C++ too, if g++ is there. CC and CXX name other compilers. Exit status: 0 if all is as expected.
+# Compiles print_m2.c, cut_file.c, fewest_roots.c, which_broke.c and map_lines.c against the library, runs them and compares what
+# they write with expected.txt and the .txt of their names. The header is compiled as C++ too, if g++ is there. CC and CXX name other compilers. Exit status: 0 if all is as expected.
 set -eu
 cd "$(dirname "$0")/../.."
 library=target/staticlib/libecho_c.a
@@ -19,6 +19,7 @@ compiled print_m2 expected.txt
 compiled cut_file cut_file.txt
 compiled fewest_roots fewest_roots.txt
 compiled which_broke which_broke.txt
+compiled map_lines map_lines.txt
 cxx=${CXX:-g++}
 if command -v "$cxx" > /dev/null; then
     "$cxx" -x c++ -fsyntax-only -Wall -Wextra -Wpedantic -Werror include/echo.h

@@ -1,7 +1,7 @@
 //! A printer of SMT-LIB scripts, proved: a problem over bit-vectors, arrays and functions is printed whole or refused by a number.
 //!
 //! This package is a thin, safe layer over the proved library. [`echo_ext`] prints a [`Problem`], [`echo_hidden`] prints it with constants
-//! hidden, [`echo_let`] with shared terms bound by `let`, [`echo_size`] tells beforehand how long its script is, [`ext_wf`] is the width
+//! hidden, [`echo_let`] with shared terms bound by `let`, [`echo_formulas`] as the lines of a map file, [`echo_size`] tells beforehand how long its script is, [`ext_wf`] is the width
 //! pass alone, [`scripts`] cuts a file that joins scripts, [`shorten_records`] and [`lengthen_records`] convert node records into
 //! shorter ones and back, and [`replay_trace`] tells which assertions hold on logged values.
 //! Terms are node records ([`node`], [`kind`]), and every input is a slice that is lent for the call.
@@ -257,6 +257,43 @@ pub fn echo_hidden(problem: &Problem<'_>, out: &mut [u8]) -> Result<usize, Refus
 /// ```
 pub fn echo_let(problem: &Problem<'_>, out: &mut [u8]) -> Result<usize, Refusal> {
     length_of(raw::echo_let(problem, out))
+}
+
+/// Prints the roots of a problem as formulas, one line a root ended by byte 10: the lines of a map file, as a person would write them.
+///
+/// From the loosest: `or`; `and`; `bor`; `bxor`; `band`; `==` `!=`; `<` `<=` `>` `>=`; `<<` `>>`; `+` `-`; `*` `/` `%`; and before an operand
+/// `!` `~` `-`. Comparisons, division and remainder are the unsigned ones and `>>` is the logical shift; all other kinds stand by their
+/// SMT-LIB name, as in `extract(7, 0, |x|)`. Operators of one level group to the left, and brackets stand only where leaving out a pair would
+/// change the tree. The refusals are those of [`echo_ext`]; [`Refusal::Room`] is about these lines. Without roots the length is 0.
+///
+/// ```
+/// use smt_echo::{Problem, echo_formulas, kind, node};
+///
+/// let nodes = [
+///     node(kind::VAR, [8, 0, 0, 0]),
+///     node(kind::CONST, [0, 8, 0, 0]),
+///     node(kind::ADD, [0, 1, 0, 0]),
+///     node(kind::EQ, [2, 0, 0, 0]),
+/// ]
+/// .concat();
+/// let problem = Problem {
+///     nodes: &nodes,
+///     bits: &[1, 0, 1, 0, 0, 0, 0, 0],
+///     roots: &[3],
+///     names: b"x",
+///     name_start: &[0],
+///     name_len: &[1],
+///     var_node: &[0],
+///     var_width: &[8],
+///     ..Problem::default()
+/// };
+/// let mut out = [0; 100];
+/// let length = echo_formulas(&problem, &mut out)?;
+/// assert_eq!(std::str::from_utf8(&out[..length])?, "|x| + #b00000101 == |x|\n");
+/// # Ok::<(), Box<dyn std::error::Error>>(())
+/// ```
+pub fn echo_formulas(problem: &Problem<'_>, out: &mut [u8]) -> Result<usize, Refusal> {
+    length_of(raw::echo_formulas(problem, out))
 }
 
 /// What [`echo_size`] tells of a script.

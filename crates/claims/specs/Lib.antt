@@ -1,6 +1,7 @@
 -- What is promised, by subject: the printer and the width pass (`Claims`), array widths (`ArrayClaims`), sizes (`SizeClaims`), the hidden form
 -- (`HiddenClaims`), shared terms with `let` (`LetClaims`), files of scripts (`JoinedScripts`), shorter records (`RecordClaims`), the replay
--- of traces (`TraceClaims`). The files of instances show that each claim speaks of something.
+-- of traces (`TraceClaims`), formulas
+-- (`FormulaClaims`). The files of instances show that each claim speaks of something.
 pub mod WidthAnswers
 pub mod SizeAnswers
 pub mod HiddenAnswers
@@ -21,3 +22,5 @@ pub mod RecordInstances
 pub mod FewestClaims
 pub mod TraceClaims
 pub mod TraceInstances
+pub mod FormulaClaims
+pub mod FormulaInstances

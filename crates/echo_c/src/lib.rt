@@ -1,6 +1,7 @@
 // The entry points for C, and for Rust over C, under their plain names, as in include/echo.h: the printer and the width pass here, the others
 // in files of their own. A slice is a pointer and a `size_t`; the answer is a struct of numbers.
 pub mod fewest_form;
+pub mod formula_form;
 pub mod hidden_form;
 pub mod let_form;
 pub mod records;

@@ -95,11 +95,15 @@ module _ (B N F : List Slice) (Y : List ℕ) (ready : Ready B N F Y) (i : ℕ) w
           let b : k < 0 + length (problemAt B N .var-node) = find-bound (λ x. eqb x i) 0 (problemAt B N .var-node) k own-entry .1 in
           omega (arith, ready .aligned .var-node)
 
+      pub name-of-var : {x : List ℕ} → x ≡ getD (namesOf (problemAt B N .names) (problemAt B N .name-start) (problemAt B N .name-len)) k [] → x ≡ variableName (dagAt B N) i
+      unfolding dagOf
+      name-of-var ex = ex ∙ sym (variable-name (dagAt B N) i k own-entry)
+
       pub head-of-var : {x : List ℕ} → x ≡ getD (namesOf (problemAt B N .names) (problemAt B N .name-start) (problemAt B N .name-len)) k []
           → {g h : Page} (P : Page) → g ≡ written P (32 ∷ 124 ∷ x) → h ≡ written g (124 ∷ []) → h ≡ written P (32 ∷ headAt B N F i var)
       unfolding headAs dagOf quoted bytes
       head-of-var {x} ex P v w =
-          written-then P (32 ∷ 124 ∷ x) (124 ∷ []) v w ∙ ap (λ (m : List ℕ). written P (32 ∷ quoted m)) (ex ∙ sym (variable-name (dagAt B N) i k own-entry))
+          written-then P (32 ∷ 124 ∷ x) (124 ∷ []) v w ∙ ap (λ (m : List ℕ). written P (32 ∷ quoted m)) (name-of-var ex)
 
   pub array-inside : Taken B N F i select → {m : Node} → m ≡ nodeIn B N i → m .a < length (problemAt B N .aname-start)
   unfolding askedAs dagOf

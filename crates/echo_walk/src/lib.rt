@@ -92,8 +92,8 @@ pub const TABLES: usize = 3;
 // The length of the table of symbols.
 pub const SYMBOLS: usize = 481;
 
-// Record i of the nodes.
-fn node_here(nodes: &[u8], i: u64) -> Node
+// Record i of the nodes. Ruled out: the record after it; its operands in another order.
+pub fn node_here(nodes: &[u8], i: u64) -> Node
     requires { ⌜ i < length (nodesOf (now nodes)) ⌝ }
     ensures { λ r. ⌜ nodeOf r ≡ getD (nodesOf (now (nodes .entry))) i no-node ⌝ }
 {
@@ -102,8 +102,8 @@ fn node_here(nodes: &[u8], i: u64) -> Node
 
 // ---------------------------------------------------------------- what the number of a node says
 
-// The code of its shape.
-fn shape_at(tables: &[&[u64]; TABLES], i: u64) -> u8
+// The code of its shape. Ruled out: what the node is refused with; the whole number.
+pub fn shape_at(tables: &[&[u64]; TABLES], i: u64) -> u8
     ensures { λ r. ⌜ r ≡ codeIn (now (tables .entry)) i % 16 ⌝ }
 {
     let codes = tables[CODES];
@@ -118,8 +118,8 @@ fn is_named(tables: &[&[u64]; TABLES], i: u64) -> bool
     get(codes, i) / 128 == 1
 }
 
-// Is it a variable or a constant.
-fn is_leaf(tables: &[&[u64]; TABLES], i: u64) -> bool
+// Is it a variable or a constant. Ruled out: a node that is refused taken for a leaf; variables alone.
+pub fn is_leaf(tables: &[&[u64]; TABLES], i: u64) -> bool
     ensures { λ r. ⌜ r ≡ leb (codeIn (now (tables .entry)) i) 1 ⌝ }
 {
     let codes = tables[CODES];
@@ -146,8 +146,8 @@ fn push_bits(bits: &[u8], s: u64, w: u64, p: Place, out: &mut [u8]) -> Place
     p.spaced_constant(out, &bits[from..to])
 }
 
-// The number that a part of the bits stands for, modulo w.
-fn rot_of(bits: &[u8], s: u64, n: u64, w: u64) -> u64
+// The number that a part of the bits stands for, modulo w. Ruled out: the part read from its highest bit; the number as it is.
+pub fn rot_of(bits: &[u8], s: u64, n: u64, w: u64) -> u64
     requires { ⌜ (s + n ≤ length (now bits)) × (0 < w) × (w ≤ 65536) ⌝ }
     ensures { λ r. ⌜ r ≡ bitsValue (take n (drop s (now (bits .entry)))) % w ⌝ }
 {
@@ -156,8 +156,8 @@ fn rot_of(bits: &[u8], s: u64, n: u64, w: u64) -> u64
     echo_tables::rot_amount(&bits[from..to], w)
 }
 
-// Name k of a table.
-fn name_at<'a>(arena: &'a [u8], starts: &[u64], lens: &[u64], k: u64) -> &'a [u8]
+// Name k of a table. Ruled out: the name after it; the rest of the arena.
+pub fn name_at<'a>(arena: &'a [u8], starts: &[u64], lens: &[u64], k: u64) -> &'a [u8]
     requires { ⌜ k < length (now starts) ⌝ }
     ensures { λ r. ⌜ now r ≡ getD (namesOf (now (arena .entry)) (now (starts .entry)) (now (lens .entry))) k [] ⌝ }
 {

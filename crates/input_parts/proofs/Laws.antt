@@ -18,11 +18,12 @@ use Rattle.sizes.specs.Size.{echo-size-answer}
 use Rattle.hidden.specs.Hidden.{echo-hidden-answer}
 use Rattle.echo_spec.specs.Lets.{echo-let-answer}
 use Rattle.fewest.specs.Fewest.{fewest-roots-answer}
+use Rattle.formula_answers.specs.Answers.{echo-formulas-answer}
 use Rattle.echo_kernel.specs.Outcomes.{answered}
 use Rattle.echo_size.specs.Sized as sized
 use Rattle.fewest_roots.specs.Answered as chosen
 use Rattle.input_parts.specs.declared.Asked.{Asked}
-use Rattle.input_parts.specs.declared.Asked.the-variants.{Print, Measure, Hide, Bind, Choose}
+use Rattle.input_parts.specs.declared.Asked.the-variants.{Print, Measure, Hide, Bind, Choose, Formulas}
 use Rattle.input_parts.specs.declared.Told.{Told}
 use Rattle.input_parts.specs.Parts.{sizes, sizeOf, rooms, roomOf, bytesPart, numbersPart, problemFrom}
 use Rattle.input_parts.specs.Lying.{Lies, Column, Columns}
@@ -133,3 +134,6 @@ module _ (r : Told) (lent out : List ℕ) {asked : Asked} {q p : Problem} where
 
   pub chosen-told : asked ≡ Choose → chosen.answered (r .fewest) ≡ fewest-roots-answer q → q ≡ p → Answers asked r p lent out
   chosen-told e a s = subst (λ (x : Asked). Answers x r p lent out) (sym e) (a ∙ ap fewest-roots-answer s)
+
+  pub formulas-told : asked ≡ Formulas → answered (r .echo) out ≡ echo-formulas-answer q lent → q ≡ p → Answers asked r p lent out
+  formulas-told e a s = subst (λ (x : Asked). Answers x r p lent out) (sym e) (a ∙ ap (λ (z : Problem). echo-formulas-answer z lent) s)

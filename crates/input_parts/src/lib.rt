@@ -16,6 +16,7 @@ ghost use Rattle.sizes.specs.Size.{echo-size-answer};
 ghost use Rattle.hidden.specs.Hidden.{echo-hidden-answer};
 ghost use Rattle.echo_spec.specs.Lets.{echo-let-answer};
 ghost use Rattle.fewest.specs.Fewest.{fewest-roots-answer};
+ghost use Rattle.formula_answers.specs.Answers.{echo-formulas-answer};
 ghost use Rattle.echo_kernel.specs.Outcomes.{answered};
 ghost use Rattle.echo_size.specs.Sized as sized;
 ghost use Rattle.fewest_roots.specs.Answered as chosen;
@@ -139,6 +140,8 @@ enum Asked {
     Bind,
     // the fewest roots that still refuse
     Choose,
+    // its roots as formulas
+    Formulas,
 }
 
 // What is told of it; what was not asked for is some answer.
@@ -314,6 +317,31 @@ fn tell<'a>(
                 fw,
             ),
         },
+        Asked::Formulas => Told {
+            echo: echo_formulas::echo_formulas(
+                nodes,
+                bits,
+                entries,
+                asserted,
+                names,
+                ns,
+                nl,
+                vn,
+                vw,
+                anames,
+                ans,
+                anl,
+                iw,
+                vws,
+                fnames,
+                fns,
+                fnl,
+                fw,
+                out,
+            ),
+            size: Size::Refused(EchoError::Limit),
+            fewest: Fewest::NoRoot(0),
+        },
     }
 }
 
@@ -431,6 +459,20 @@ pub fn let_parts(
     ensures { λ r. ⌜ answered r (now (out .exit)) ≡ echo-let-answer (parts.problemFrom (now (s .entry)) (now (starts .entry)) (now (counts .entry))) (now (out .entry)) ⌝ }
 {
     let t = ask_parts(s, starts, counts, Asked::Bind, out);
+    t.echo
+}
+
+// Its roots as formulas. Ruled out: the script; the problem of other parts.
+pub fn formula_parts(
+    s: &[u8],
+    starts: &[usize; INPUTS],
+    counts: &[usize; INPUTS],
+    out: &mut [u8],
+) -> Echo
+    requires { ⌜ Inside (now s) (now starts) (now counts) ⌝ }
+    ensures { λ r. ⌜ answered r (now (out .exit)) ≡ echo-formulas-answer (parts.problemFrom (now (s .entry)) (now (starts .entry)) (now (counts .entry))) (now (out .entry)) ⌝ }
+{
+    let t = ask_parts(s, starts, counts, Asked::Formulas, out);
     t.echo
 }
 

@@ -8,7 +8,7 @@ use lib.ListN.{length}
 use Rattle.echo_spec.specs.Input.{word32}
 use Rattle.input_parts.specs.Parts.{sizeOf, roomOf}
 use Rattle.replay.specs.declared.Recorded.{Recorded}
-use Rattle.replay.specs.declared.Recorded.the-variants.{Widths, Printer, Sizes, Hidden, Let, Fewest}
+use Rattle.replay.specs.declared.Recorded.the-variants.{Widths, Printer, Sizes, Hidden, Let, Fewest, Formulas}
 use Rattle.replay.specs.declared.Head.{Head}
 use Rattle.replay.specs.declared.Opened.{Opened}
 use Rattle.replay.specs.declared.Opened.the-variants.{Whole, Damaged}
@@ -22,6 +22,7 @@ inputsOf Sizes = 18
 inputsOf Hidden = 18
 inputsOf Let = 18
 inputsOf Fewest = 18
+inputsOf Formulas = 18
 
 -- the bytes of an acceptance's result: a number for each node, the script, or the terms as one number
 abbrev pub acceptedBytes : Recorded → ℕ → ℕ
@@ -31,6 +32,7 @@ acceptedBytes Sizes count = 8
 acceptedBytes Hidden count = count
 acceptedBytes Let count = count
 acceptedBytes Fewest count = 0
+acceptedBytes Formulas count = count
 
 -- of a refusal's: the positions of roots, or nothing
 abbrev pub refusedBytes : Recorded → ℕ → ℕ
@@ -40,6 +42,7 @@ refusedBytes Sizes count = 0
 refusedBytes Hidden count = 0
 refusedBytes Let count = 0
 refusedBytes Fewest count = 8 * count
+refusedBytes Formulas count = 0
 
 abbrev pub resultBytes : Recorded → ℕ → ℕ → ℕ
 resultBytes list number count = pick (eqb number 0) (acceptedBytes list count) (refusedBytes list count)

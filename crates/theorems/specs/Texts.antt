@@ -115,7 +115,7 @@ begins : (s : List ℕ) → 0 < length s → All binaryDigit s → Begins binary
 begins [] l h = absurd (omega arith)
 begins (c ∷ s) l h = h .0
 
-constant-binary : (bs : List ℕ) → 0 < length bs → All (λ b. leb b 1) bs → Binary (binaryDigits bs)
+pub constant-binary : (bs : List ℕ) → 0 < length bs → All (λ b. leb b 1) bs → Binary (binaryDigits bs)
 constant-binary bs l h =
     let all = all-binary bs h in
     record { first = begins (binaryDigits bs) (rw (length-digits bs) l) all; digits = all }

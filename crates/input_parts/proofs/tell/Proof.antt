@@ -3,7 +3,7 @@ use borrow.Author.Needs.{needs}
 use mathlib.Core.Path.{refl}
 use native.Mathlib.Omega.{arith}
 use Rattle.input_parts.specs.Parts.{sizes, sizeOf}
-use Rattle.input_parts.proofs.Laws.{parts-are, printed-told, measured-told, hidden-told, bound-told, chosen-told}
+use Rattle.input_parts.proofs.Laws.{parts-are, printed-told, measured-told, hidden-told, bound-told, chosen-told, formulas-told}
 use Rattle.input_parts.proofs.tell.Statement.{statement}
 use Rattle.input_parts.proofs.tell.Tie as tie
 
@@ -127,6 +127,12 @@ enum-told-5 c = search needs
 
 fewest-roots-requires : tie.Need-fewest-roots-requires
 fewest-roots-requires c κs = search needs
+
+enum-told-6 : tie.Need-enum-told-6
+enum-told-6 c = search needs
+
+echo-formulas-requires : tie.Need-echo-formulas-requires
+echo-formulas-requires c κs = search needs
 
 same-length : tie.Need-same-length
 same-length c = search needs
@@ -262,6 +268,34 @@ returns-5 c =
     let fewest-roots = c .fewest-roots in
     chosen-told _ _ _ (enum-told5 .given .1) (fewest-roots .ensures) (parts-are (bytes-of .ensures) (bytes-of2 .ensures) (taken .ensures) (taken2 .ensures) (bytes-of3 .ensures) (taken3 .ensures) (taken4 .ensures) (taken5 .ensures) (taken6 .ensures) (bytes-of4 .ensures) (taken7 .ensures) (taken8 .ensures) (taken9 .ensures) (taken10 .ensures) (bytes-of5 .ensures) (taken11 .ensures) (taken12 .ensures) (taken13 .ensures) (start .pre .1))
 
+same-length-4 : tie.Need-same-length-4
+same-length-4 c = search needs
+
+returns-6 : tie.Need-returns-6
+returns-6 c =
+    let start = c .before .before .before .before .before .before .before .before .before .before .before .before .before .before .before .before .before .before .before .before .before .before .before .before .before .before .before .before .before .before .before .before .before .before .before .before .before .before .before in
+    let bytes-of = c .before .before .before .before .before .before .before .before .before .before .before .before .before .before .before .before .before .before .before .before .before .before .before .bytes-of in
+    let bytes-of2 = c .before .before .before .before .before .before .before .before .before .before .before .before .before .before .before .before .before .before .before .before .before .before .bytes-of2 in
+    let taken = c .before .before .before .before .before .before .before .before .before .before .before .before .before .before .before .before .before .before .before .before .before .taken in
+    let taken2 = c .before .before .before .before .before .before .before .before .before .before .before .before .before .before .before .before .before .before .before .before .taken2 in
+    let bytes-of3 = c .before .before .before .before .before .before .before .before .before .before .before .before .before .before .before .before .before .before .before .bytes-of3 in
+    let taken3 = c .before .before .before .before .before .before .before .before .before .before .before .before .before .before .before .before .before .before .taken3 in
+    let taken4 = c .before .before .before .before .before .before .before .before .before .before .before .before .before .before .before .before .before .taken4 in
+    let taken5 = c .before .before .before .before .before .before .before .before .before .before .before .before .before .before .before .before .taken5 in
+    let taken6 = c .before .before .before .before .before .before .before .before .before .before .before .before .before .before .before .taken6 in
+    let bytes-of4 = c .before .before .before .before .before .before .before .before .before .before .before .before .before .before .bytes-of4 in
+    let taken7 = c .before .before .before .before .before .before .before .before .before .before .before .before .before .taken7 in
+    let taken8 = c .before .before .before .before .before .before .before .before .before .before .before .before .taken8 in
+    let taken9 = c .before .before .before .before .before .before .before .before .before .before .before .taken9 in
+    let taken10 = c .before .before .before .before .before .before .before .before .before .before .taken10 in
+    let bytes-of5 = c .before .before .before .before .before .before .before .before .before .bytes-of5 in
+    let taken11 = c .before .before .before .before .before .before .before .before .taken11 in
+    let taken12 = c .before .before .before .before .before .before .before .taken12 in
+    let taken13 = c .before .before .before .before .before .before .taken13 in
+    let enum-told6 = c .before .before .before .before .enum-told6 in
+    let echo-formulas = c .before .before .echo-formulas in
+    formulas-told _ _ _ (enum-told6 .given .1) (echo-formulas .ensures) (parts-are (bytes-of .ensures) (bytes-of2 .ensures) (taken .ensures) (taken2 .ensures) (bytes-of3 .ensures) (taken3 .ensures) (taken4 .ensures) (taken5 .ensures) (taken6 .ensures) (bytes-of4 .ensures) (taken7 .ensures) (taken8 .ensures) (taken9 .ensures) (taken10 .ensures) (bytes-of5 .ensures) (taken11 .ensures) (taken12 .ensures) (taken13 .ensures) (start .pre .1))
+
 pub tell-spec : {M : Type 1} → statement M
 tell-spec =
     tie.close
@@ -294,6 +328,8 @@ tell-spec =
     echo-let-requires
     enum-told-5
     fewest-roots-requires
+    enum-told-6
+    echo-formulas-requires
     same-length
     returns
     returns-2
@@ -301,4 +337,6 @@ tell-spec =
     returns-3
     same-length-3
     returns-4
-    returns-5)
+    returns-5
+    same-length-4
+    returns-6)

@@ -1,0 +1,24 @@
+-- What is told of a node before its operands are written, and the brackets around it.
+use Prim.Native.Nat.{ℕ}
+use mathlib.Core.Path.{_≡_}
+use mathlib.Core.Bool.{Bool, true, false}
+use mathlib.Core.List.{List, [], _∷_}
+use Rattle.echo_spec.specs.Input.{shape}
+use Rattle.lent.specs.Lent.{Slice}
+use Rattle.echo_tables.specs.Forms.{formAs}
+use Rattle.echo_walk.specs.Ready.{nodeIn}
+use Rattle.echo_pieces.specs.Signs.{levelOf}
+use Rattle.echo_pieces.specs.Pieces.{countOf}
+use Rattle.echo_formula.specs.declared.Told.{Told}
+
+-- a bracket where there is to be one
+unfoldable pub bracketText : Bool → ℕ → List ℕ
+bracketText true b = b ∷ []
+bracketText false b = []
+
+-- the kind of node i, its level, and its operands
+pub record About (B N : List Slice) (i : ℕ) (t : Told) : Type 0 where
+  pub kind-is : t .kind ≡ nodeIn B N i .kind
+  pub level-is : t .level ≡ levelOf (nodeIn B N i .kind)
+  pub form-is : t .form ≡ formAs (nodeIn B N i) (shape (nodeIn B N i))
+  pub count-is : t .count ≡ countOf (t .form)

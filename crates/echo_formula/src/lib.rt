@@ -1,0 +1,119 @@
+// A node as a formula (document 02, L13): one function that calls itself, with a loop over the operands, the level that is wanted passed down.
+use echo_bytes::Place;
+use echo_openings::open_leaf;
+use echo_openings::open_term;
+use echo_pieces::SIGNS;
+use echo_pieces::count;
+use echo_pieces::level;
+use echo_pieces::operand;
+use echo_pieces::push_behind;
+use echo_tables::Form;
+use echo_tables::operands;
+use echo_walk::TABLES;
+use echo_walk::is_leaf;
+use echo_walk::node_here;
+use echo_walk::shape_at;
+use lent::BYTES;
+use lent::NODES;
+use lent::NUMBERS;
+use lent::SIDE;
+ghost use mathlib.Core.Path.{_≡_};
+ghost use Prim.Native.Nat.{_≤_};
+ghost use Rattle.echo_bytes.specs.Page.{page, written};
+ghost use Rattle.echo_walk.specs.Ready.{Fine};
+ghost use Rattle.echo_openings.specs.Signed.{Signed, placedAt};
+ghost use Rattle.echo_formula.specs.Told.{bracketText, About};
+
+// What is told of a node: its kind, its level, its operands and how many they are.
+pub struct Told {
+    pub kind: u8,
+    pub level: u64,
+    pub form: Form,
+    pub count: u64,
+}
+
+// A bracket where there is to be one.
+fn push_bracket(there: bool, b: u8, p: Place, out: &mut [u8]) -> Place
+    ensures { λ r. ⌜ page r (now (out .exit)) ≡ written (page p (now (out .entry))) (bracketText there b) ⌝ }
+{
+    if there {
+        return p.byte(out, b);
+    }
+    p
+}
+
+fn told_of(
+    bytes: &[&[u8]; BYTES],
+    numbers: &[&[u64]; NUMBERS],
+    tables: &[&[u64]; TABLES],
+    signs: &[u8; SIGNS],
+    i: u64,
+) -> Told
+    requires { ⌜ Signed (now bytes) (now numbers) (now tables) (now signs) × Fine (now bytes) (now numbers) (now tables) i ⌝ }
+    ensures { λ r. ⌜ About (now (bytes .entry)) (now (numbers .entry)) i r ⌝ }
+{
+    let nodes = bytes[NODES];
+    let n = node_here(nodes, i);
+    let f = operands(shape_at(tables, i), n);
+    let own = level(signs, n.kind);
+    let m = count(f);
+    Told {
+        kind: n.kind,
+        level: own,
+        form: f,
+        count: m,
+    }
+}
+
+// Node i where level l or a tighter one may stand as it is: between brackets where it is looser. Ruled out: brackets around what is as tight as
+// wanted; the left operand's level for the right one; an operand left out.
+pub fn formula_node(
+    bytes: &[&[u8]; BYTES],
+    numbers: &[&[u64]; NUMBERS],
+    tables: &[&[u64]; TABLES],
+    signs: &[u8; SIGNS],
+    p: Place,
+    i: u64,
+    l: u64,
+    out: &mut [u8],
+) -> Place
+    requires { ⌜ Signed (now bytes) (now numbers) (now tables) (now signs) × Fine (now bytes) (now numbers) (now tables) i × (l ≤ 11) ⌝ }
+    ensures { λ r. ⌜ page r (now (out .exit)) ≡ written (page p (now (out .entry))) (placedAt (now (bytes .entry)) (now (numbers .entry)) (now (tables .entry)) l i) ⌝ }
+{
+    if is_leaf(tables, i) {
+        return open_leaf(bytes, numbers, tables, p, i, out);
+    }
+    let side = numbers[SIDE];
+    let t = told_of(bytes, numbers, tables, signs, i);
+    let kind = t.kind;
+    let own = t.level;
+    let f = t.form;
+    let m = t.count;
+    let a = push_bracket(own < l, b'(', p, out);
+    let b = open_term(bytes, numbers, tables, signs, a, i, kind, out);
+    let mut q = Place {
+        at: b.at,
+        need: b.need,
+    };
+    let mut k = 0;
+    while k < m {
+        let x = operand(f, side, own, k);
+        let r = formula_node(bytes, numbers, tables, signs, q, x.node, x.level, out);
+        let s = push_behind(
+            signs,
+            kind,
+            x.behind,
+            Place {
+                at: r.at,
+                need: r.need,
+            },
+            out,
+        );
+        q = Place {
+            at: s.at,
+            need: s.need,
+        };
+        k += 1;
+    }
+    push_bracket(own < l, b')', q, out)
+}

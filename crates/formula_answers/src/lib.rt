@@ -1,0 +1,1 @@
+// No code: `specs/` has what `echo_formulas` answers.

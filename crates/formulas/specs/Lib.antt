@@ -1,0 +1,5 @@
+pub mod Tokens
+pub mod TokensUnique
+pub mod TokensText
+pub mod Phrases
+pub mod PhrasesUnique
