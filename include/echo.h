@@ -1,7 +1,8 @@
 /*
  * The printer `echo_ext`, the same with constants hidden `echo_hidden`, the same with shared terms bound by let `echo_let`, the roots as the
- * lines of a map file `echo_formulas`, the size of a script `echo_size`, the width pass `ext_wf`, `next_script`, which cuts a file of scripts, and the conversions of node records
- * `shorten_records` and `lengthen_records`, for C and C++.
+ * lines of a map file `echo_formulas`, the size of a script `echo_size`, the fewest roots that still refuse `fewest_roots`, the replay of a trace
+ * `replay_trace`, the width pass `ext_wf`, `next_script`, which cuts a file of scripts, and the conversions of node records `shorten_records`
+ * and `lengthen_records`, for C and C++.
  *
  * The library is target/staticlib/libecho_c.a, written by `rt staticlib echo_c`. It is for x86-64 with the System V calling
  * convention. It allocates nothing, keeps nothing between calls and needs only memcpy and memset of the C library.

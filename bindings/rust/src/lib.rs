@@ -1,9 +1,10 @@
 //! A printer of SMT-LIB scripts, proved: a problem over bit-vectors, arrays and functions is printed whole or refused by a number.
 //!
 //! This package is a thin, safe layer over the proved library. [`echo_ext`] prints a [`Problem`], [`echo_hidden`] prints it with constants
-//! hidden, [`echo_let`] with shared terms bound by `let`, [`echo_formulas`] as the lines of a map file, [`echo_size`] tells beforehand how long its script is, [`ext_wf`] is the width
-//! pass alone, [`scripts`] cuts a file that joins scripts, [`shorten_records`] and [`lengthen_records`] convert node records into
-//! shorter ones and back, and [`replay_trace`] tells which assertions hold on logged values.
+//! hidden, [`echo_let`] with shared terms bound by `let`, [`echo_formulas`] writes its roots as the lines of a map file, [`echo_size`] tells
+//! beforehand how long its script is, [`fewest_roots`] tells which roots of a refused one matter, [`replay_trace`] which assertions hold on
+//! logged values, [`ext_wf`] is the width pass alone, [`scripts`] cuts a file that joins scripts, and [`shorten_records`] and
+//! [`lengthen_records`] convert node records into shorter ones and back.
 //! Terms are node records ([`node`], [`kind`]), and every input is a slice that is lent for the call.
 //!
 //! Is there an 8-bit `x` with `x + 5 = x`?
