@@ -47,10 +47,11 @@ enum {
 
 /*
  * The numbers that are answered. ECHO_SHORT_RECORD is lengthen_records' alone; the conversions of records have their own lists, further
- * down. Of the others echo_ext and echo_hidden answer any but ECHO_CLASH, echo_let any but ECHO_SHARED, echo_size any but ECHO_ROOM and
- * ECHO_CLASH. ext_wf answers ECHO_ACCEPTED,
- * ECHO_MALFORMED, ECHO_ENCODING, ECHO_LIMIT, ECHO_ROOM or ECHO_ARRAY_WIDTH. If several things are wrong, the order is 9, 8, 1 (columns),
- * 12, 1 (width pass), 2, 6 or for echo_let 11, 4 and 7 (declarations), then what the walk over the roots meets first, and 10 last.
+ * down. Of the others echo_ext and echo_hidden answer any but ECHO_CLASH, echo_let any but ECHO_SHARED, echo_size and fewest_roots any but
+ * ECHO_ROOM and ECHO_CLASH. ext_wf answers ECHO_ACCEPTED, ECHO_MALFORMED, ECHO_ENCODING, ECHO_LIMIT, ECHO_ROOM or ECHO_ARRAY_WIDTH.
+ *
+ * If several things are wrong, the order is 9, 8, 1 (columns), 12, 1 (width pass), 2, 6 or for echo_let 11, 4 and 7 (declarations), then
+ * what the walk over the roots meets first, and 10 last.
  */
 enum {
     /* The result is at the front of the output. */
@@ -411,6 +412,8 @@ struct size_answer echo_size(
  * The number is echo_ext's with an endless output, whatever it is. With 1 to 7 the positions are the shortest rising list of places in
  * roots whose roots, in that order and alone, give the problem that number: its first position is as early as can be, and then its
  * second. Two always suffice; none are needed where the number does not depend on the roots. With any other number there are none.
+ *
+ * It is not recursive.
  */
 struct fewest_answer fewest_roots(
     const uint8_t *nodes, size_t nodes_len,

@@ -1,8 +1,5 @@
 //! The fewest roots that still refuse: which positions are told, and that the roots there, alone, are refused alike.
 
-mod common;
-
-use common::*;
 use smt_echo::*;
 
 /// x is node 0; nodes 1 and 3 are comparisons that no operand uses, and node 2 is one that node 4 uses.
