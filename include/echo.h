@@ -11,9 +11,10 @@
  *
  *   - the pointer is not null and is aligned for its element, also where the number is 0. For an empty slice hand in the address of
  *     any object of the element type;
- *   - that many elements can be read there, and for the output be written too;
- *   - the output overlaps no input. Inputs may overlap each other, since they are only read;
- *   - no other thread writes an input, or touches the output, until the call is back.
+ *   - that many elements can be read there, and for an output be written too;
+ *   - an output overlaps no input, and the two outputs of replay_trace do not overlap each other. Inputs may overlap each other, since
+ *     they are only read;
+ *   - no other thread writes an input, or touches an output, until the call is back.
  *
  * That is all that is asked. What the elements are is free: each input is answered, by an acceptance or by a refusal, and nothing
  * outside the slices is read or written.
@@ -46,9 +47,10 @@ enum {
 };
 
 /*
- * The numbers that are answered. ECHO_SHORT_RECORD is lengthen_records' alone; the conversions of records have their own lists, further
- * down. Of the others echo_ext and echo_hidden answer any but ECHO_CLASH, echo_let any but ECHO_SHARED, echo_size and fewest_roots any but
- * ECHO_ROOM and ECHO_CLASH. ext_wf answers ECHO_ACCEPTED, ECHO_MALFORMED, ECHO_ENCODING, ECHO_LIMIT, ECHO_ROOM or ECHO_ARRAY_WIDTH.
+ * The numbers that are answered. ECHO_WIDE and ECHO_VALUES are replay_trace's alone, which besides answers what echo_ext does.
+ * ECHO_SHORT_RECORD is lengthen_records' alone; the conversions of records have their own lists, further down. Of the others echo_ext
+ * and echo_hidden answer any but ECHO_CLASH, echo_let any but ECHO_SHARED, echo_size and fewest_roots any but ECHO_ROOM and ECHO_CLASH.
+ * ext_wf answers ECHO_ACCEPTED, ECHO_MALFORMED, ECHO_ENCODING, ECHO_LIMIT, ECHO_ROOM or ECHO_ARRAY_WIDTH.
  *
  * If several things are wrong, the order is 9, 8, 1 (columns), 12, 1 (width pass), 2, 6 or for echo_let 11, 4 and 7 (declarations), then
  * what the walk over the roots meets first, and 10 last.
@@ -109,7 +111,7 @@ enum {
      */
     ECHO_ENCODING = 8,
 
-    /* An input is longer than its limit. Split the problem. */
+    /* An input is longer than its limit; of replay_trace also more than 64 roots, one for each bit of a mask. Split the problem. */
     ECHO_LIMIT = 9,
 
     /*
@@ -212,10 +214,10 @@ struct fewest_answer {
     uint64_t second; /* the second position, after the first; 0 where there is none */
 };
 
-/* rows is how many there are; 0 in a refusal. */
+/* What replay_trace answers. */
 struct trace_answer {
-    uint64_t number;
-    uint64_t rows;
+    uint64_t number; /* ECHO_ACCEPTED, or why the trace is refused */
+    uint64_t rows;   /* how many rows there are; 0 with a refusal */
 };
 
 /* What ext_wf answers. */

@@ -77,6 +77,10 @@ impl fmt::Display for TraceRefusal {
         let text = match self {
             TraceRefusal::Wide => "a term below a root is wider than 64 bits, or a select or call",
             TraceRefusal::Values => "the values are no whole number of rows, or one does not fit the width of its variable",
+            TraceRefusal::Printer(Refusal::Room) => {
+                return write!(f, "10 Room: masks or counts has fewer elements than there are rows, and nothing else is wrong");
+            }
+            TraceRefusal::Printer(Refusal::Limit) => return write!(f, "{}; for a trace 64 roots", Refusal::Limit),
             TraceRefusal::Printer(refusal) => return refusal.fmt(f),
         };
         write!(f, "{} {self:?}: {text}", self.number())

@@ -131,5 +131,7 @@ fn as_many_roots_as_a_mask_has_bits() {
 fn texts() {
     assert!(TraceRefusal::Wide.to_string().starts_with("14 Wide: "));
     assert!(TraceRefusal::Values.to_string().starts_with("15 Values: "));
-    assert_eq!(TraceRefusal::Printer(Refusal::Limit).to_string(), Refusal::Limit.to_string());
+    assert_eq!(TraceRefusal::Printer(Refusal::Sort).to_string(), Refusal::Sort.to_string());
+    assert!(TraceRefusal::Printer(Refusal::Limit).to_string().ends_with("for a trace 64 roots"));
+    assert!(TraceRefusal::Printer(Refusal::Room).to_string().starts_with("10 Room: masks or counts "));
 }
