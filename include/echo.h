@@ -324,7 +324,7 @@ struct echo_answer echo_hidden(
  *
  * With the lets unfolded the script says the problem's declarations and trees. Equal scripts mean equal trees; equal trees may have
  * different scripts. A problem without shared nodes is answered as by echo_ext, byte for byte. echo_size speaks of echo_ext and not of
- * this script. It needs up to 60 KB more stack than echo_ext.
+ * this script. It needs some 5 KB more stack than echo_ext.
  */
 struct echo_answer echo_let(
     const uint8_t *nodes, size_t nodes_len,

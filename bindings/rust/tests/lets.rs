@@ -34,7 +34,17 @@ fn over(nodes: &[[u8; NODE_BYTES]]) -> Vec<u8> {
 const FIVE: [u8; 8] = [1, 0, 1, 0, 0, 0, 0, 0];
 
 fn problem<'a>(nodes: &'a [u8], roots: &'a [u64]) -> Problem<'a> {
-    Problem { nodes, bits: &FIVE, roots, names: b"x", name_start: &[0], name_len: &[1], var_node: &[0], var_width: &[8], ..Problem::default() }
+    Problem {
+        nodes,
+        bits: &FIVE,
+        roots,
+        names: b"x",
+        name_start: &[0],
+        name_len: &[1],
+        var_node: &[0],
+        var_width: &[8],
+        ..Problem::default()
+    }
 }
 
 fn assertions(text: &str) -> Vec<&str> {
