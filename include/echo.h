@@ -48,9 +48,9 @@ enum {
 
 /*
  * The numbers that are answered. ECHO_WIDE and ECHO_VALUES are replay_trace's alone, which besides answers what echo_ext does.
- * ECHO_SHORT_RECORD is lengthen_records' alone; the conversions of records have their own lists, further down. Of the others echo_ext
- * and echo_hidden answer any but ECHO_CLASH, echo_let any but ECHO_SHARED, echo_size and fewest_roots any but ECHO_ROOM and ECHO_CLASH.
- * ext_wf answers ECHO_ACCEPTED, ECHO_MALFORMED, ECHO_ENCODING, ECHO_LIMIT, ECHO_ROOM or ECHO_ARRAY_WIDTH.
+ * ECHO_SHORT_RECORD is lengthen_records' alone; the conversions of records have their own lists, further down. Of the others echo_ext,
+ * echo_hidden and echo_formulas answer any but ECHO_CLASH, echo_let any but ECHO_SHARED, echo_size and fewest_roots any but ECHO_ROOM and
+ * ECHO_CLASH. ext_wf answers ECHO_ACCEPTED, ECHO_MALFORMED, ECHO_ENCODING, ECHO_LIMIT, ECHO_ROOM or ECHO_ARRAY_WIDTH.
  *
  * If several things are wrong, the order is 9, 8, 1 (columns), 12, 1 (width pass), 2, 6 or for echo_let 11, 4 and 7 (declarations), then
  * what the walk over the roots meets first, and 10 last.
@@ -116,7 +116,8 @@ enum {
 
     /*
      * Nothing is wrong with the problem, but the result is longer than the output. Call again with a longer one. The length is 0
-     * here; echo_size tells the length to set aside, and a problem within the limits can need more than a machine has.
+     * here; echo_size tells the length to set aside for echo_ext and echo_hidden, and a problem within the limits can need more than a
+     * machine has.
      */
     ECHO_ROOM = 10,
 
@@ -187,10 +188,10 @@ enum {
     ECHO_KIND_CALL = 38        /* function, width, side start, n: n arguments in side */
 };
 
-/* What echo_ext, echo_hidden and echo_let answer. */
+/* What echo_ext, echo_hidden, echo_let and echo_formulas answer. */
 struct echo_answer {
     uint64_t number; /* ECHO_ACCEPTED, or why the problem is refused */
-    uint64_t length; /* the length of the script; 0 with a refusal */
+    uint64_t length; /* the length of the script or of the lines; 0 with a refusal */
 };
 
 /* What echo_size answers. */
@@ -352,7 +353,10 @@ struct echo_answer echo_let(
  * < <= > >= (unsigned); << >> (the logical shift); + -; * / % (unsigned); before an operand ! ~ -. Operators of one level group to the
  * left, and brackets stand only where leaving out a pair would change the tree. All other kinds stand as the SMT-LIB name, then numerals
  * and operands in parentheses, parted by a comma and a blank: extract(7, 0, |x|). The inputs and the refusals are echo_ext's; ECHO_ROOM is
- * about the lines. No roots: length 0.
+ * about the lines. No roots: length 0. Accepted or refused, the output is as echo_ext says.
+ *
+ * With the problem's declarations a line has one reading, the assertion's tree: with the same declarations, equal lines mean equal trees. It
+ * is as recursive as echo_ext, and needs up to 300 KB more stack.
  */
 struct echo_answer echo_formulas(
     const uint8_t *nodes, size_t nodes_len,

@@ -1,4 +1,5 @@
-//! Makes the recorded lists: `record LIST OUT`, where LIST is widths, printer, sizes, hidden, let, fewest, scripts, records or traces. The problems follow
+//! Makes the recorded lists: `record LIST OUT`, where LIST is widths, printer, sizes, hidden, let, fewest, formulas, scripts,
+//! records or traces. The problems follow
 //! from a seed; the answers are the Rust's (oracle.rs), with what documents 01 and 02 add around it (added.rs), and with names that it takes
 //! in the place of those with bytes from 128 on (spelling.rs). Sizes are those of the Rust's scripts, and hidden scripts are put together
 //! from two of them (hidden.rs). Scripts with `let` are those of a printer of their own (lets.rs). The fewest roots are found by trying lists

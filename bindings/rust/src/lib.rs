@@ -256,6 +256,8 @@ pub fn echo_hidden(problem: &Problem<'_>, out: &mut [u8]) -> Result<usize, Refus
 /// assert!(std::str::from_utf8(&out[..length])?.contains("(assert (let ((|d1| (bvneg |x|))) (= |d1| |d1|)))\n"));
 /// # Ok::<(), Box<dyn std::error::Error>>(())
 /// ```
+///
+/// The walk is recursive: see [Stack](crate#stack).
 pub fn echo_let(problem: &Problem<'_>, out: &mut [u8]) -> Result<usize, Refusal> {
     length_of(raw::echo_let(problem, out))
 }
@@ -265,7 +267,8 @@ pub fn echo_let(problem: &Problem<'_>, out: &mut [u8]) -> Result<usize, Refusal>
 /// From the loosest: `or`; `and`; `bor`; `bxor`; `band`; `==` `!=`; `<` `<=` `>` `>=`; `<<` `>>`; `+` `-`; `*` `/` `%`; and before an operand
 /// `!` `~` `-`. Comparisons, division and remainder are the unsigned ones and `>>` is the logical shift; all other kinds stand by their
 /// SMT-LIB name, as in `extract(7, 0, |x|)`. Operators of one level group to the left, and brackets stand only where leaving out a pair would
-/// change the tree. The refusals are those of [`echo_ext`]; [`Refusal::Room`] is about these lines. Without roots the length is 0.
+/// change the tree. The refusals are those of [`echo_ext`]; [`Refusal::Room`] is about these lines. Without roots the length is 0. On `Err` every
+/// byte of `out` is 0, and past the lines `out` is what it was.
 ///
 /// ```
 /// use smt_echo::{Problem, echo_formulas, kind, node};
@@ -293,6 +296,8 @@ pub fn echo_let(problem: &Problem<'_>, out: &mut [u8]) -> Result<usize, Refusal>
 /// assert_eq!(std::str::from_utf8(&out[..length])?, "|x| + #b00000101 == |x|\n");
 /// # Ok::<(), Box<dyn std::error::Error>>(())
 /// ```
+///
+/// The walk is recursive: see [Stack](crate#stack).
 pub fn echo_formulas(problem: &Problem<'_>, out: &mut [u8]) -> Result<usize, Refusal> {
     length_of(raw::echo_formulas(problem, out))
 }

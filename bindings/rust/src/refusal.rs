@@ -3,8 +3,8 @@
 use std::error::Error;
 use std::fmt;
 
-/// Why [`echo_ext`](crate::echo_ext), [`echo_hidden`](crate::echo_hidden), [`echo_let`](crate::echo_let) and [`echo_size`](crate::echo_size)
-/// refuse a problem, and what [`fewest_roots`](crate::fewest_roots) tells of a refused one.
+/// Why [`echo_ext`](crate::echo_ext), [`echo_hidden`](crate::echo_hidden), [`echo_let`](crate::echo_let),
+/// [`echo_formulas`](crate::echo_formulas) and [`echo_size`](crate::echo_size) refuse a problem, and what [`fewest_roots`](crate::fewest_roots) tells of a refused one.
 ///
 /// If several things are wrong the order is: `Limit`, `Encoding`, `Malformed` (columns), `ArrayWidth`, `Malformed` (nodes), `Name`, `Shared`
 /// or for `echo_let` `Clash`, `Var` and `Signature` (declarations), then what the walk over the roots meets first, and `Room` last.
@@ -38,8 +38,8 @@ pub enum Refusal {
     Encoding,
     /// 9: a slice is longer than its limit.
     Limit,
-    /// 10: the script is longer than the buffer, and nothing else is wrong. [`echo_size`](crate::echo_size) tells the length to set aside,
-    /// and never answers this.
+    /// 10: the script, or the lines, are longer than the buffer, and nothing else is wrong. [`echo_size`](crate::echo_size) tells the length to
+    /// set aside for a script, and never answers this.
     Room,
     /// 11, of [`echo_let`](crate::echo_let) alone: a declared name is `d` and the number of a node that is used more than once, reached or
     /// not, and is no variable and no constant.
@@ -107,7 +107,9 @@ impl fmt::Display for Refusal {
                 "a slice is over its limit: 34,816 node bytes, 131,072 bits, 8,192 side entries, 256 roots, 512 entries a column, \
                  16,384 bytes an arena"
             }
-            Refusal::Room => "the script is longer than the buffer, and nothing else is wrong: call again with a longer one",
+            Refusal::Room => {
+                "what is to be written is longer than the buffer, and nothing else is wrong: call again with a longer one"
+            }
             Refusal::Clash => {
                 "a declared name is d and the number of a node that is used more than once: rename it, in names, anames or fnames"
             }
