@@ -4,14 +4,14 @@ use denote.Ref.{now}
 use mathlib.Core.Path.{_≡_, refl, sym, ap, _∙_}
 use mathlib.Core.List.{List, [], _∷_}
 use mathlib.Core.Bool.{Bool, true, false}
-use mathlib.Core.Logic.{_≢_}
+use mathlib.Core.Logic.{_≢_, inl}
 use native.Mathlib.Omega.{arith}
 use lib.Dec.{eqb}
 use lib.ListN.{length}
 use borrow.Author.Tests.{eqb-true, eqb-false}
 use Rattle.lists.specs.Build.{find}
 use Rattle.echo_spec.specs.Input.{Problem}
-use Rattle.echo_spec.specs.Examples.{allMeet}
+use Rattle.echo_spec.specs.Examples.{var, allMeet}
 use Rattle.echo_spec.specs.Answers.{endlessRefusal}
 use Rattle.lent.specs.Lent.{problemOf}
 use Rattle.fewest.specs.Fewest.{withRoots, rootsAt, sameNumber, rising, byLength, listed, fewest, FewestAnswer, fewest-roots-answer}
@@ -82,20 +82,53 @@ pub fewest-contract : (κs : _) (x : _) (r : _) (y : _) → fewest-roots-code.Po
     (now (x .1 .1 .1 .1 .1 .1 .1 .1 .1 .1 .1 .1 .1 .1 .1 .1 .1 .0)))
 fewest-contract κs x r y h = h
 
--- What it tells of two roots: they are in order and alone refused with the number that it tells.
-pub two-told : (p : Problem) (n j k : ℕ) → FewestContract (TwoRoots n j k) p → 1 ≤ n → n ≤ 7 → endlessRefusal (withRoots p (rootsAt p (j ∷ k ∷ []))) ≡ n
-two-told p n j k c low high =
-    let e : n ≡ endlessRefusal p = ap (λ (a : FewestAnswer). a .number) c ∙ fewest-number p in
-    let q : j ∷ k ∷ [] ≡ fewest-roots-answer p .positions = ap (λ (a : FewestAnswer). a .positions) c in
+-- What a call tells: the roots at its positions, in order and alone, are refused with the number that it tells.
+pub told-refused : (p : Problem) (r : Fewest) → FewestContract r p → 1 ≤ told.number r → told.number r ≤ 7
+    → endlessRefusal (withRoots p (rootsAt p (told.positions r))) ≡ told.number r
+told-refused p r c low high =
+    let e : told.number r ≡ endlessRefusal p = ap (λ (a : FewestAnswer). a .number) c ∙ fewest-number p in
+    let q : told.positions r ≡ fewest-roots-answer p .positions = ap (λ (a : FewestAnswer). a .positions) c in
     ap (λ (ks : List ℕ). endlessRefusal (withRoots p (rootsAt p ks))) q ∙ fewest-refuses p (omega arith) (omega arith) ∙ sym e
+
+-- So with two roots.
+pub two-told : (p : Problem) (n j k : ℕ) → FewestContract (TwoRoots n j k) p → 1 ≤ n → n ≤ 7 → endlessRefusal (withRoots p (rootsAt p (j ∷ k ∷ []))) ≡ n
+two-told p n j k c low high = told-refused p (TwoRoots n j k) c low high
 
 -- ---------------------------------------------------------------- instances
 
--- A problem with three roots of which two are needed, and one of which one is.
-two-needed : fewest (withNodes x (1 ∷ 3 ∷ 3 ∷ [])) ≡ 1 ∷ 2 ∷ []
-unfolding allMeet find rising byLength sameNumber fewest
-two-needed = refl
+-- (whoever unfolds this unfolds the definitions named under it)
+unfoldable computed : Type 0
+unfolding allMeet find rising byLength sameNumber fewest fewest-roots-answer
+computed = Unit {0}
 
-one-needed : fewest (withNodes x (1 ∷ 9 ∷ 3 ∷ [])) ≡ 1 ∷ []
-unfolding allMeet find rising byLength sameNumber fewest
-one-needed = refl
+-- A problem of four roots of which two are needed, one of which one is, one of which none is, and one that is accepted.
+twice : Problem
+twice = withNodes x (1 ∷ 3 ∷ 3 ∷ 3 ∷ [])
+
+two-called : FewestContract (TwoRoots 6 1 2) twice
+unfolding computed twice
+two-called = refl
+
+one-called : FewestContract (OneRoot 1 1) (withNodes x (1 ∷ 9 ∷ 3 ∷ []))
+unfolding computed
+one-called = refl
+
+none-called : FewestContract (NoRoot 2) (withNodes (var "bvadd" 0 8 ∷ []) (1 ∷ 1 ∷ []))
+unfolding computed
+none-called = refl
+
+accepted-called : FewestContract (NoRoot 0) (withNodes x (1 ∷ 3 ∷ []))
+unfolding computed
+accepted-called = refl
+
+-- the two are refused alike; with neither alone nor with none is it 6; with an earlier pair it is not
+two-alike : endlessRefusal (withRoots twice (rootsAt twice (1 ∷ 2 ∷ []))) ≡ 6
+two-alike = two-told twice 6 1 2 two-called (omega arith) (omega arith)
+
+one-not : endlessRefusal (withRoots twice (rootsAt twice (1 ∷ []))) ≢ endlessRefusal twice
+unfolding computed twice
+one-not = fewest-shortest twice (omega arith) (omega arith) (1 ∷ []) (omega arith, (omega arith, tt)) (omega arith)
+
+earlier-not : endlessRefusal (withRoots twice (rootsAt twice (0 ∷ 3 ∷ []))) ≢ endlessRefusal twice
+unfolding computed twice
+earlier-not = fewest-first twice (omega arith) (omega arith) (0 ∷ 3 ∷ []) (omega arith, (omega arith, (omega arith, (omega arith, tt)))) refl (inl (omega arith))
