@@ -7,10 +7,10 @@ use mathlib.Core.List.{List, [], _∷_}
 use mathlib.Core.Bool.{Bool, true, false, _&&_, cond}
 use mathlib.Core.Logic.{_↔_}
 use native.Mathlib.Omega.{arith}
-use lib.Dec.{T, leb}
+use lib.Dec.{T, leb, leb→le, le→leb}
 use lib.ListN.{length, getD, drop, List·getD-append}
 use native.Mathlib.Nat.{zero-div}
-use Rattle.lists.specs.Tests.{every, every-place, places-every}
+use Rattle.lists.specs.Tests.{among, among-every, every, and-0, and-1, T→true, every-place, places-every}
 use Rattle.lists.specs.Build.{tabulate, length-tabulate, getD-tabulate}
 use Rattle.reading.specs.Trees.{Name, Tree, Reading}
 use Rattle.smtlib.specs.Readings.{operators, listed, Reads}
@@ -24,14 +24,18 @@ use Rattle.echo_spec.specs.Input.{Problem, dagOf, queryOf}
 use Rattle.echo_spec.specs.Widths.{widthsOf}
 use Rattle.echo_spec.specs.Trees.{treesOver, treeOf, readingOf}
 use Rattle.echo_spec.specs.Answers.{reading, endlessRefusal, atFront, zeroed}
-use Rattle.echo_spec.specs.Accepted.{orElse-passed}
-use Rattle.traces.specs.Trace.{traceRefusal, rowsOf, rowOf, holdingAll, holding, holdingIn, TraceAnswer, traceAnswer, replay-trace-answer}
+use Rattle.echo_spec.specs.Accepted.{unless-passed, orElse-passed, in-unless, in-orElse, endlessNumber, endless-number}
+use Rattle.traces.specs.Trace.{narrowRoots, valuesFit, traceRefusal, rowsOf, rowOf, holdingAll, holding, holdingIn, TraceAnswer, traceAnswer, replay-trace-answer}
 use Rattle.replay_trace.specs.declared.Trace.{Trace}
 use Rattle.replay_trace.specs.Traced.{answered}
 use Rattle.replay_trace.proofs.replay_trace.Reads as replay-trace-code
 use Rattle.lent.specs.Lent.{problemOf}
 use Rattle.theorems.specs.Scripts.{scriptOf}
 use Rattle.theorems.specs.Answered.{printed, endless-whole, script-sorted, script-reads-only}
+
+-- What printing does not refuse is well sorted: at the place of 14 the words 'not well sorted' never apply, whatever is answered.
+pub passed-sorted : (p : Problem) → endlessRefusal p ≡ 0 → WellSorted (scriptOf (reading p))
+passed-sorted p e = script-sorted p (endless-whole p .0 e)
 
 -- The replay accepts the problem with these values and these lent outputs.
 abbrev pub Replays : Problem → List ℕ → List ℕ → List ℕ → Type 0
@@ -48,6 +52,52 @@ module _ (p : Problem) (values masks counts : List ℕ) where
   by-number : {n : ℕ} → replay-trace-answer p values masks counts .number ≡ n → replay-trace-answer p values masks counts ≡ traceAnswer n p values masks counts
   unfolding replay-trace-answer
   by-number e = ap (λ (n : ℕ). traceAnswer n p values masks counts) (sym (number-is (traceRefusal p values (length masks) (length counts)) p values masks counts) ∙ e)
+
+  -- An answer is an acceptance, a refusal of the printer, 14 or 15; 10 is about the two outputs.
+  pub trace-listed : T (among (0 ∷ 1 ∷ 2 ∷ 3 ∷ 4 ∷ 5 ∷ 6 ∷ 7 ∷ 8 ∷ 9 ∷ 10 ∷ 12 ∷ 14 ∷ 15 ∷ []) (replay-trace-answer p values masks counts .number))
+  unfolding replay-trace-answer traceRefusal endlessNumber
+  trace-listed =
+      let q : (ℕ → Bool) = among (0 ∷ 1 ∷ 2 ∷ 3 ∷ 4 ∷ 5 ∷ 6 ∷ 7 ∷ 8 ∷ 9 ∷ 10 ∷ 12 ∷ 14 ∷ 15 ∷ []) in
+      subst (λ (n : ℕ). T (q n)) (sym (number-is (traceRefusal p values (length masks) (length counts)) p values masks counts))
+      (in-orElse q (unless (leb (length (p .roots)) 64) 9) _ (in-unless q (leb (length (p .roots)) 64) 9 tt tt)
+      (in-orElse q (endlessRefusal p) _ (among-every q (0 ∷ 1 ∷ 2 ∷ 3 ∷ 4 ∷ 5 ∷ 6 ∷ 7 ∷ 8 ∷ 9 ∷ 12 ∷ []) tt (endlessRefusal p) (endless-number p))
+      (in-orElse q (unless (narrowRoots p) 14) _ (in-unless q (narrowRoots p) 14 tt tt)
+      (in-orElse q (unless (valuesFit (p .var-width) values) 15) _ (in-unless q (valuesFit (p .var-width) values) 15 tt tt)
+      (in-unless q (leb (rowsOf p values) (length masks) && leb (rowsOf p values) (length counts)) 10 tt tt)))))
+
+  -- It accepts exactly where there are at most 64 roots, printing refuses nothing but for room, every root passes 14, the values pass 15, and
+  -- both outputs have room for the rows.
+  pub trace-accepts-exactly : Replays p values masks counts
+      ↔ ((length (p .roots) ≤ 64) × (endlessRefusal p ≡ 0) × T (narrowRoots p) × T (valuesFit (p .var-width) values)
+      × (rowsOf p values ≤ length masks) × (rowsOf p values ≤ length counts))
+  unfolding replay-trace-answer traceRefusal
+  trace-accepts-exactly = (
+    λ e.
+        let z : traceRefusal p values (length masks) (length counts) ≡ 0 = sym (number-is (traceRefusal p values (length masks) (length counts)) p values masks counts) ∙ e in
+        let e₀ = orElse-passed (unless (leb (length (p .roots)) 64) 9) _ z in
+        let e₁ = orElse-passed (endlessRefusal p) _ (e₀ .1) in
+        let e₂ = orElse-passed (unless (narrowRoots p) 14) _ (e₁ .1) in
+        let e₃ = orElse-passed (unless (valuesFit (p .var-width) values) 15) _ (e₂ .1) in
+        let r = unless-passed (leb (rowsOf p values) (length masks) && leb (rowsOf p values) (length counts)) 9 (e₃ .1) in (
+          leb→le (length (p .roots)) 64 (unless-passed (leb (length (p .roots)) 64) 8 (e₀ .0)),
+          e₁ .0,
+          unless-passed (narrowRoots p) 13 (e₂ .0),
+          unless-passed (valuesFit (p .var-width) values) 14 (e₃ .0),
+          leb→le (rowsOf p values) (length masks) (and-0 (leb (rowsOf p values) (length masks)) _ r),
+          leb→le (rowsOf p values) (length counts) (and-1 (leb (rowsOf p values) (length masks)) _ r),
+        ),
+    λ h.
+        let z : traceRefusal p values (length masks) (length counts) ≡ 0 =
+        rw (
+          T→true (leb (length (p .roots)) 64) (le→leb (length (p .roots)) 64 (h .0)),
+          h .1,
+          T→true (narrowRoots p) (h .2),
+          T→true (valuesFit (p .var-width) values) (h .3),
+          T→true (leb (rowsOf p values) (length masks)) (le→leb (rowsOf p values) (length masks) (h .4)),
+          T→true (leb (rowsOf p values) (length counts)) (le→leb (rowsOf p values) (length counts) (h .5)),
+        ) refl in
+        number-is (traceRefusal p values (length masks) (length counts)) p values masks counts ∙ z,
+  )
 
   -- A refusal has 0 rows, and both outputs are zeroed whole.
   pub trace-refusal-zeroes : (n : ℕ) → replay-trace-answer p values masks counts .number ≡ suc n
@@ -68,14 +118,11 @@ module _ (p : Problem) (values masks counts : List ℕ) where
 
   -- What is replayed passes every check of printing but the one for room.
   pub replayed-passes : Replays p values masks counts → endlessRefusal p ≡ 0
-  unfolding replay-trace-answer traceRefusal
-  replayed-passes e =
-      let z : traceRefusal p values (length masks) (length counts) ≡ 0 = sym (number-is (traceRefusal p values (length masks) (length counts)) p values masks counts) ∙ e in
-      orElse-passed (endlessRefusal p) _ (orElse-passed (unless (leb (length (p .roots)) 64) 9) _ z .1) .0
+  replayed-passes e = trace-accepts-exactly .0 e .1
 
-  -- So its script is well sorted: the words 'not well sorted' of refusal 14 never apply.
+  -- So its script is well sorted.
   pub replayed-sorted : Replays p values masks counts → WellSorted (scriptOf (reading p))
-  replayed-sorted e = script-sorted p (endless-whole p .0 (replayed-passes e))
+  replayed-sorted e = passed-sorted p (replayed-passes e)
 
 -- ---------------------------------------------------------------- masks and counts
 

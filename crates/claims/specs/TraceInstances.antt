@@ -1,6 +1,6 @@
 -- The claims on `replay_trace` at a trace: each speaks of something. A board logs base, size and limit, of 16 bits each; the rules are
 -- base + size <= limit, size != 0 and base & 15 = 0.
-use Prim.Native.Nat.{ℕ, _<_}
+use Prim.Native.Nat.{ℕ, _≤_, _<_}
 use mathlib.Core.Path.{_≡_, refl}
 use mathlib.Core.List.{List, [], _∷_, _++_}
 use mathlib.Core.Bool.{Bool, false, not}
@@ -26,6 +26,7 @@ use Rattle.traces.specs.Trace.{
   valuesFit,
   rowCount,
   rowOf,
+  rowsOf,
   narrowRoots,
   traceRefusal,
   holdingAll,
@@ -39,6 +40,7 @@ use Rattle.theorems.specs.Answered.{printed}
 use Rattle.claims.specs.Claims.{Accepts, one-reading}
 use Rattle.claims.specs.TraceClaims.{
   Replays,
+  trace-accepts-exactly,
   trace-refusal-zeroes,
   replayed-sorted,
   trace-bit,
@@ -89,6 +91,11 @@ prints = refl
 
 read : Reads (printed board) (reading board)
 read = one-reading board (lent 400) prints (reading board) .1 refl
+
+-- every check passes, and the four rows have room
+four-rows : rowsOf board log ≤ 5
+unfolding computed
+four-rows = trace-accepts-exactly board log nines nines .0 accepted .4
 
 sorted : WellSorted (scriptOf (reading board))
 sorted = replayed-sorted board log nines nines accepted

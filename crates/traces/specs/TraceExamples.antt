@@ -115,6 +115,10 @@ row-cases = refl
 abbrev below : Problem
 below = problem (node Var 65 0 0 0 ∷ node Extract 7 0 0 0 ∷ node Const 0 8 0 0 ∷ node Eq 1 2 0 0 ∷ []) five [] (3 ∷ []) (var "x" 0 65 ∷ []) [] []
 
+-- the first root is narrow, and the second is not
+abbrev second : Problem
+second = problem (node Var 8 0 0 0 ∷ node Eq 0 0 0 0 ∷ node Var 65 0 0 0 ∷ node Eq 2 2 0 0 ∷ []) [] [] (1 ∷ 3 ∷ []) (var "x" 0 8 ∷ var "y" 2 65 ∷ []) [] []
+
 abbrev selected : Problem
 selected =
     problem (node Var 32 0 0 0 ∷ node Select 0 0 0 0 ∷ node Const 0 8 0 0 ∷ node Eq 1 2 0 0 ∷ []) five [] (3 ∷ []) (var "x" 0 32 ∷ []) ("m" ∷ []) []
@@ -145,6 +149,7 @@ refusedCases =
     ∷ refuses "15: of the second entry of a node" again (5 ∷ 8 ∷ []) 4 4 15
     ∷ refuses "15 before 10" two (256 ∷ 0 ∷ []) 0 0 15
     ∷ refuses "14: a wide operand below a narrow extract" below (1 ∷ []) 4 4 14
+    ∷ refuses "14: below the second root" second (1 ∷ 1 ∷ []) 4 4 14
     ∷ refuses "14: a select" selected (1 ∷ []) 4 4 14
     ∷ refuses "14: a call" called (1 ∷ []) 4 4 14
     ∷ refuses "14 without rows" below [] 4 4 14
