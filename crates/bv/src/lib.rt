@@ -7,7 +7,7 @@ ghost use lib.Dec.{eqb};
 ghost use Rattle.vectors.specs.Vectors as smt;
 ghost use Rattle.bv.specs.Ranges.{Width, One, Two, Joined, Extended, Turned, Is};
 
-// The largest vector of width w.
+// The largest vector of width w. Ruled out: 2 ^ w; the largest of one place less.
 pub fn ones(w: u64) -> u64
     requires { ⌜ Width w ⌝ }
     ensures { λ r. ⌜ r + 1 ≡ 2 ^ w ⌝ }
@@ -15,7 +15,7 @@ pub fn ones(w: u64) -> u64
     18446744073709551615 >> (64 - w)
 }
 
-// The w lowest places of x.
+// The w lowest places of x. Ruled out: the w highest; one place more.
 pub fn low(w: u64, x: u64) -> u64
     requires { ⌜ Width w ⌝ }
     ensures { λ r. ⌜ (r ≡ x % 2 ^ w) × (r < 2 ^ w) ⌝ }
@@ -23,7 +23,7 @@ pub fn low(w: u64, x: u64) -> u64
     x & ones(w)
 }
 
-// Is the highest place of s 1.
+// Is the highest place of s 1. Ruled out: the lowest place; every vector but 0.
 pub fn negative(w: u64, s: u64) -> bool
     requires { ⌜ One w s ⌝ }
     ensures { λ r. ⌜ r ≡ smt.negative w s ⌝ }
@@ -38,6 +38,7 @@ fn differ(a: bool, b: bool) -> bool
     if a { !b } else { b }
 }
 
+// Ruled out: the complement of 64 places; the negation.
 pub fn bvnot(w: u64, s: u64) -> u64
     requires { ⌜ One w s ⌝ }
     ensures { λ r. ⌜ Is w (smt.bvnot w s) r ⌝ }
@@ -45,6 +46,7 @@ pub fn bvnot(w: u64, s: u64) -> u64
     ones(w) - s
 }
 
+// Ruled out: `bvor`; 1 where both are not 0.
 pub fn bvand(w: u64, s: u64, t: u64) -> u64
     requires { ⌜ Two w s t ⌝ }
     ensures { λ r. ⌜ Is w (smt.bvand w s t) r ⌝ }
@@ -52,6 +54,7 @@ pub fn bvand(w: u64, s: u64, t: u64) -> u64
     s & t
 }
 
+// Ruled out: `bvxor`; the sum.
 pub fn bvor(w: u64, s: u64, t: u64) -> u64
     requires { ⌜ Two w s t ⌝ }
     ensures { λ r. ⌜ Is w (smt.bvor w s t) r ⌝ }
@@ -59,6 +62,7 @@ pub fn bvor(w: u64, s: u64, t: u64) -> u64
     s | t
 }
 
+// Ruled out: `bvor`; the places where both agree.
 pub fn bvxor(w: u64, s: u64, t: u64) -> u64
     requires { ⌜ Two w s t ⌝ }
     ensures { λ r. ⌜ Is w (smt.bvxor w s t) r ⌝ }
@@ -66,6 +70,7 @@ pub fn bvxor(w: u64, s: u64, t: u64) -> u64
     s ^ t
 }
 
+// Ruled out: 2 ^ w for 0; the complement.
 pub fn bvneg(w: u64, s: u64) -> u64
     requires { ⌜ One w s ⌝ }
     ensures { λ r. ⌜ Is w (smt.bvneg w s) r ⌝ }
@@ -73,6 +78,7 @@ pub fn bvneg(w: u64, s: u64) -> u64
     low(w, std::num::wrapping_add_u64(ones(w) - s, 1))
 }
 
+// Ruled out: a sum with the place above; one that is held at the largest vector.
 pub fn bvadd(w: u64, s: u64, t: u64) -> u64
     requires { ⌜ Two w s t ⌝ }
     ensures { λ r. ⌜ Is w (smt.bvadd w s t) r ⌝ }
@@ -80,7 +86,7 @@ pub fn bvadd(w: u64, s: u64, t: u64) -> u64
     low(w, std::num::wrapping_add_u64(s, t))
 }
 
-// By the definition, with no test on the operands.
+// By the definition, with no test on the operands. Ruled out: the difference the other way about; 0 where t is above s.
 pub fn bvsub(w: u64, s: u64, t: u64) -> u64
     requires { ⌜ Two w s t ⌝ }
     ensures { λ r. ⌜ Is w (smt.bvsub w s t) r ⌝ }
@@ -89,6 +95,7 @@ pub fn bvsub(w: u64, s: u64, t: u64) -> u64
 }
 
 // The product's lowest 64 places: the halves of 32 places multiplied crosswise, without the product of the two upper halves, which lies above.
+// Ruled out: a product that is held at the largest number; the 64 places above.
 pub fn product(s: u64, t: u64) -> u64
     ensures { λ r. ⌜ r ≡ s * t % 2 ^ 64 ⌝ }
 {
@@ -100,6 +107,7 @@ pub fn product(s: u64, t: u64) -> u64
     std::num::wrapping_add_u64(s0 * t0, cross % 4294967296 * 4294967296)
 }
 
+// Ruled out: the product of the lower halves alone; places above w.
 pub fn bvmul(w: u64, s: u64, t: u64) -> u64
     requires { ⌜ Two w s t ⌝ }
     ensures { λ r. ⌜ Is w (smt.bvmul w s t) r ⌝ }
@@ -107,6 +115,7 @@ pub fn bvmul(w: u64, s: u64, t: u64) -> u64
     low(w, product(s, t))
 }
 
+// Ruled out: 0 by zero; a quotient that is rounded up.
 pub fn bvudiv(w: u64, s: u64, t: u64) -> u64
     requires { ⌜ Two w s t ⌝ }
     ensures { λ r. ⌜ Is w (smt.bvudiv w s t) r ⌝ }
@@ -117,6 +126,7 @@ pub fn bvudiv(w: u64, s: u64, t: u64) -> u64
     s / t
 }
 
+// Ruled out: 0 by zero; the quotient.
 pub fn bvurem(w: u64, s: u64, t: u64) -> u64
     requires { ⌜ Two w s t ⌝ }
     ensures { λ r. ⌜ Is w (smt.bvurem w s t) r ⌝ }
@@ -135,6 +145,7 @@ fn signed(w: u64, minus: bool, s: u64) -> u64
     if minus { bvneg(w, s) } else { s }
 }
 
+// Ruled out: -4 for -7 by 2; all ones for -7 by 0.
 pub fn bvsdiv(w: u64, s: u64, t: u64) -> u64
     requires { ⌜ Two w s t ⌝ }
     ensures { λ r. ⌜ Is w (smt.bvsdiv w s t) r ⌝ }
@@ -145,6 +156,7 @@ pub fn bvsdiv(w: u64, s: u64, t: u64) -> u64
     signed(w, differ(m, n), q)
 }
 
+// Ruled out: the sign of the divisor; 0 by zero.
 pub fn bvsrem(w: u64, s: u64, t: u64) -> u64
     requires { ⌜ Two w s t ⌝ }
     ensures { λ r. ⌜ Is w (smt.bvsrem w s t) r ⌝ }
@@ -154,6 +166,7 @@ pub fn bvsrem(w: u64, s: u64, t: u64) -> u64
     signed(w, m, bvurem(w, signed(w, m, s), signed(w, n, t)))
 }
 
+// Ruled out: the amount modulo the width; places above w.
 pub fn bvshl(w: u64, s: u64, t: u64) -> u64
     requires { ⌜ Two w s t ⌝ }
     ensures { λ r. ⌜ Is w (smt.bvshl w s t) r ⌝ }
@@ -164,6 +177,7 @@ pub fn bvshl(w: u64, s: u64, t: u64) -> u64
     low(w, s << t)
 }
 
+// Ruled out: the arithmetic shift; the amount modulo the width.
 pub fn bvlshr(w: u64, s: u64, t: u64) -> u64
     requires { ⌜ Two w s t ⌝ }
     ensures { λ r. ⌜ Is w (smt.bvlshr w s t) r ⌝ }
@@ -182,6 +196,7 @@ fn flipped(w: u64, flip: bool, s: u64) -> u64
     if flip { bvnot(w, s) } else { s }
 }
 
+// Ruled out: the logical shift; 0 where a negative vector is shifted by the width.
 pub fn bvashr(w: u64, s: u64, t: u64) -> u64
     requires { ⌜ Two w s t ⌝ }
     ensures { λ r. ⌜ Is w (smt.bvashr w s t) r ⌝ }
@@ -190,6 +205,7 @@ pub fn bvashr(w: u64, s: u64, t: u64) -> u64
     flipped(w, m, bvlshr(w, flipped(w, m, s), t))
 }
 
+// Ruled out: t before s; s moved by its own width.
 pub fn concat(n: u64, m: u64, s: u64, t: u64) -> u64
     requires { ⌜ Joined n m s t ⌝ }
     ensures { λ r. ⌜ Is (n + m) (smt.concat n m s t) r ⌝ }
@@ -197,7 +213,7 @@ pub fn concat(n: u64, m: u64, s: u64, t: u64) -> u64
     (s << m) | t
 }
 
-// Places i down to j of a vector of width w.
+// Places i down to j of a vector of width w. Ruled out: place i left out; places counted from the highest.
 pub fn extract(w: u64, i: u64, j: u64, s: u64) -> u64
     requires { ⌜ One w s ⌝ ∗ ⌜ (j ≤ i) × (i < w) ⌝ }
     ensures { λ r. ⌜ Is (i - j + 1) (smt.extract i j s) r ⌝ }
@@ -205,6 +221,7 @@ pub fn extract(w: u64, i: u64, j: u64, s: u64) -> u64
     low(i - j + 1, s >> j)
 }
 
+// Ruled out: ones in front; zeros behind.
 pub fn zero_extend(i: u64, m: u64, s: u64) -> u64
     requires { ⌜ Extended i m s ⌝ }
     ensures { λ r. ⌜ Is (m + i) (smt.zero-extend i m s) r ⌝ }
@@ -212,6 +229,7 @@ pub fn zero_extend(i: u64, m: u64, s: u64) -> u64
     s
 }
 
+// Ruled out: zeros in front of a negative vector; ones in front of any.
 pub fn sign_extend(i: u64, m: u64, s: u64) -> u64
     requires { ⌜ Extended i m s ⌝ }
     ensures { λ r. ⌜ Is (m + i) (smt.sign-extend i m s) r ⌝ }
@@ -226,6 +244,7 @@ pub fn sign_extend(i: u64, m: u64, s: u64) -> u64
     }
 }
 
+// Ruled out: the other way round; the places that leave lost.
 pub fn rotate_left(w: u64, s: u64, k: u64) -> u64
     requires { ⌜ Turned w s k ⌝ }
     ensures { λ r. ⌜ Is w (smt.rotate-left k w s) r ⌝ }
@@ -234,6 +253,7 @@ pub fn rotate_left(w: u64, s: u64, k: u64) -> u64
     (low(a, s) << k) | (s >> (a - 1) >> 1)
 }
 
+// Ruled out: the other way round; the places that leave lost.
 pub fn rotate_right(w: u64, s: u64, k: u64) -> u64
     requires { ⌜ Turned w s k ⌝ }
     ensures { λ r. ⌜ Is w (smt.rotate-right k w s) r ⌝ }
@@ -245,12 +265,14 @@ pub fn rotate_right(w: u64, s: u64, k: u64) -> u64
     (low(k, s) << a) | (s >> k)
 }
 
+// Ruled out: `bvult`; the order the other way about.
 pub fn bvule(s: u64, t: u64) -> bool
     ensures { λ r. ⌜ r ≡ smt.bvule s t ⌝ }
 {
     s <= t
 }
 
+// Ruled out: the unsigned order; true where the two are equal.
 pub fn bvslt(w: u64, s: u64, t: u64) -> bool
     requires { ⌜ Two w s t ⌝ }
     ensures { λ r. ⌜ r ≡ smt.bvslt w s t ⌝ }
@@ -270,6 +292,7 @@ pub fn bvslt(w: u64, s: u64, t: u64) -> bool
     }
 }
 
+// Ruled out: the unsigned order; false where the two are equal.
 pub fn bvsle(w: u64, s: u64, t: u64) -> bool
     requires { ⌜ Two w s t ⌝ }
     ensures { λ r. ⌜ r ≡ smt.bvsle w s t ⌝ }

@@ -9,6 +9,7 @@ ghost use Rattle.vectors.specs.Values.{truth, vector, meaning, on-vectors, on-o
 ghost use Rattle.bv.specs.Ranges.{One, Two, Extended, Turned};
 ghost use Rattle.operators.specs.Gives.{Gives, Tells};
 
+// Kinds 2 to 12, 35 and 36. Ruled out: another operator for a kind; the operands exchanged.
 pub fn binary(kind: u8, w: u64, s: u64, t: u64) -> u64
     requires { ⌜ codeOf (shapeOf kind) ≡ 2 ⌝ ∗ ⌜ Two w s t ⌝ }
     ensures { λ r. ⌜ Gives (on-vectors (meaning kind) w s w t) w r ⌝ }
@@ -31,6 +32,7 @@ pub fn binary(kind: u8, w: u64, s: u64, t: u64) -> u64
     }
 }
 
+// Kinds 19 to 28. Ruled out: the signed order for an unsigned kind; a greater-than as a less-than.
 pub fn comparison(kind: u8, w: u64, s: u64, t: u64) -> bool
     requires { ⌜ codeOf (shapeOf kind) ≡ 8 ⌝ ∗ ⌜ Two w s t ⌝ }
     ensures { λ r. ⌜ on-vectors (meaning kind) w s w t ≡ truth r ⌝ }
@@ -50,6 +52,7 @@ pub fn comparison(kind: u8, w: u64, s: u64, t: u64) -> bool
     }
 }
 
+// Kinds 32 and 33. Ruled out: one for the other; the operand as it is.
 pub fn unary(kind: u8, w: u64, s: u64) -> u64
     requires { ⌜ codeOf (shapeOf kind) ≡ 11 ⌝ ∗ ⌜ One w s ⌝ }
     ensures { λ r. ⌜ Gives (on-one (meaning kind) [] (vector w s)) w r ⌝ }
@@ -61,6 +64,7 @@ pub fn unary(kind: u8, w: u64, s: u64) -> u64
     }
 }
 
+// Kinds 13 and 34, by k places. Ruled out: one for the other; by the width less k.
 pub fn rotation(kind: u8, w: u64, s: u64, k: u64) -> u64
     requires { ⌜ codeOf (shapeOf kind) ≡ 3 ⌝ ∗ ⌜ Turned w s k ⌝ }
     ensures { λ r. ⌜ Gives (on-one (meaning kind) (k ∷ []) (vector w s)) w r ⌝ }
@@ -72,6 +76,7 @@ pub fn rotation(kind: u8, w: u64, s: u64, k: u64) -> u64
     }
 }
 
+// Kinds 16 and 17, by i places. Ruled out: one for the other; to a width of i.
 pub fn extension(kind: u8, i: u64, m: u64, s: u64) -> u64
     requires { ⌜ codeOf (shapeOf kind) ≡ 6 ⌝ ∗ ⌜ Extended i m s ⌝ }
     ensures { λ r. ⌜ Gives (on-one (meaning kind) (i ∷ []) (vector m s)) (m + i) r ⌝ }
@@ -83,6 +88,7 @@ pub fn extension(kind: u8, i: u64, m: u64, s: u64) -> u64
     }
 }
 
+// Kinds 30 and 31, on Bools as 0 and 1. Ruled out: one for the other; the sum.
 pub fn connective(kind: u8, x: u64, y: u64) -> u64
     requires { ⌜ codeOf (shapeOf kind) ≡ 10 ⌝ ∗ ⌜ (x < 2) × (y < 2) ⌝ }
     ensures { λ r. ⌜ Tells (on-truths (meaning kind) (eqb x 1) (eqb y 1)) r ⌝ }

@@ -41,7 +41,8 @@ fn flag(b: bool) -> u64
     if b { 1 } else { 0 }
 }
 
-// The value of node i on the row, a Bool as 0 or 1. Its operands' numbers are lower.
+// The value of node i on the row, a Bool as 0 or 1. Its operands' numbers are lower. Ruled out: a variable's entry for its value; the operand
+// of an `ite` that is not chosen.
 pub fn value(
     bytes: &[&[u8]; BYTES],
     numbers: &[&[u64]; NUMBERS],
