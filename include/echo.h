@@ -10,7 +10,7 @@
  * The functions take slices: a pointer and a number of elements (not of bytes). For each slice the caller sees to it that
  *
  *   - the pointer is not null and is aligned for its element, also where the number is 0. For an empty slice hand in the address of
- *     any object of the element type;
+ *     any object of the element type, or use `struct echo_problem` at the end of this file, where it may be null;
  *   - that many elements can be read there, and for an output be written too;
  *   - an output overlaps no input, and the two outputs of replay_trace do not overlap each other. Inputs may overlap each other, since
  *     they are only read;
@@ -217,7 +217,7 @@ struct fewest_answer {
 
 /* What replay_trace answers. */
 struct trace_answer {
-    uint64_t number; /* ECHO_ACCEPTED, or why the trace is refused */
+    uint64_t number; /* ECHO_ACCEPTED, or why the problem or the trace is refused */
     uint64_t rows;   /* how many rows there are; 0 with a refusal */
 };
 
@@ -541,6 +541,158 @@ struct record_answer shorten_records(
 struct record_answer lengthen_records(
     const uint8_t *new_nodes, size_t new_len,
     uint8_t *out, size_t out_len);
+
+/*
+ * A problem as one thing: the slices that echo_ext takes, under the same names. The functions below take it and call the plain ones. Here
+ * a pointer may be null where its number of elements is 0, that of an output too; all else is as the plain functions ask and answer. A
+ * struct of zeros is the empty problem: `= {0}` in C, `= {}` in C++.
+ */
+struct echo_problem {
+    const uint8_t *nodes;
+    size_t nodes_len;
+    const uint8_t *bits;
+    size_t bits_len;
+    const uint64_t *side;
+    size_t side_len;
+    const uint64_t *roots;
+    size_t roots_len;
+    const uint8_t *names;
+    size_t names_len;
+    const uint64_t *name_start;
+    size_t name_start_len;
+    const uint64_t *name_len;
+    size_t name_len_len;
+    const uint64_t *var_node;
+    size_t var_node_len;
+    const uint64_t *var_width;
+    size_t var_width_len;
+    const uint8_t *anames;
+    size_t anames_len;
+    const uint64_t *aname_start;
+    size_t aname_start_len;
+    const uint64_t *aname_len;
+    size_t aname_len_len;
+    const uint64_t *index_width;
+    size_t index_width_len;
+    const uint64_t *value_width;
+    size_t value_width_len;
+    const uint8_t *fnames;
+    size_t fnames_len;
+    const uint64_t *fname_start;
+    size_t fname_start_len;
+    const uint64_t *fname_len;
+    size_t fname_len_len;
+    const uint64_t *func_width;
+    size_t func_width_len;
+};
+
+/* What the calls below hand over for a slice: the pointer, or that of some element where there are none. */
+static inline const uint8_t *echo_lent_bytes(const uint8_t *bytes, size_t len)
+{
+    static const uint8_t none = 0;
+    return len == 0 ? &none : bytes;
+}
+
+static inline const uint64_t *echo_lent_numbers(const uint64_t *numbers, size_t len)
+{
+    static const uint64_t none = 0;
+    return len == 0 ? &none : numbers;
+}
+
+/* The same for outputs. Nobody reads or writes the element that stands for none. */
+static inline uint8_t *echo_lent_out(uint8_t *out, size_t len)
+{
+    static uint8_t none = 0;
+    return len == 0 ? &none : out;
+}
+
+static inline uint64_t *echo_lent_numbers_out(uint64_t *out, size_t len)
+{
+    static uint64_t none = 0;
+    return len == 0 ? &none : out;
+}
+
+#define ECHO_LENT_PROBLEM(p) \
+    echo_lent_bytes(p->nodes, p->nodes_len), p->nodes_len, \
+    echo_lent_bytes(p->bits, p->bits_len), p->bits_len, \
+    echo_lent_numbers(p->side, p->side_len), p->side_len, \
+    echo_lent_numbers(p->roots, p->roots_len), p->roots_len, \
+    echo_lent_bytes(p->names, p->names_len), p->names_len, \
+    echo_lent_numbers(p->name_start, p->name_start_len), p->name_start_len, \
+    echo_lent_numbers(p->name_len, p->name_len_len), p->name_len_len, \
+    echo_lent_numbers(p->var_node, p->var_node_len), p->var_node_len, \
+    echo_lent_numbers(p->var_width, p->var_width_len), p->var_width_len, \
+    echo_lent_bytes(p->anames, p->anames_len), p->anames_len, \
+    echo_lent_numbers(p->aname_start, p->aname_start_len), p->aname_start_len, \
+    echo_lent_numbers(p->aname_len, p->aname_len_len), p->aname_len_len, \
+    echo_lent_numbers(p->index_width, p->index_width_len), p->index_width_len, \
+    echo_lent_numbers(p->value_width, p->value_width_len), p->value_width_len, \
+    echo_lent_bytes(p->fnames, p->fnames_len), p->fnames_len, \
+    echo_lent_numbers(p->fname_start, p->fname_start_len), p->fname_start_len, \
+    echo_lent_numbers(p->fname_len, p->fname_len_len), p->fname_len_len, \
+    echo_lent_numbers(p->func_width, p->func_width_len), p->func_width_len
+
+/* echo_ext: prints a problem. */
+static inline struct echo_answer echo_problem_print(const struct echo_problem *p, uint8_t *out, size_t out_len)
+{
+    return echo_ext(ECHO_LENT_PROBLEM(p), echo_lent_out(out, out_len), out_len);
+}
+
+/* echo_hidden: prints a problem with zeros for its constants. */
+static inline struct echo_answer echo_problem_hidden(const struct echo_problem *p, uint8_t *out, size_t out_len)
+{
+    return echo_hidden(ECHO_LENT_PROBLEM(p), echo_lent_out(out, out_len), out_len);
+}
+
+/* echo_let: prints a problem with shared terms bound by let. */
+static inline struct echo_answer echo_problem_let(const struct echo_problem *p, uint8_t *out, size_t out_len)
+{
+    return echo_let(ECHO_LENT_PROBLEM(p), echo_lent_out(out, out_len), out_len);
+}
+
+/* echo_formulas: writes the roots of a problem as the lines of a map file. */
+static inline struct echo_answer echo_problem_formulas(const struct echo_problem *p, uint8_t *out, size_t out_len)
+{
+    return echo_formulas(ECHO_LENT_PROBLEM(p), echo_lent_out(out, out_len), out_len);
+}
+
+/* echo_size: the length of a problem's script, and how many terms the walk enters. */
+static inline struct size_answer echo_problem_size(const struct echo_problem *p)
+{
+    return echo_size(ECHO_LENT_PROBLEM(p));
+}
+
+/* fewest_roots: the fewest roots with which a problem is still refused by the same number. */
+static inline struct fewest_answer echo_problem_fewest(const struct echo_problem *p)
+{
+    return fewest_roots(ECHO_LENT_PROBLEM(p));
+}
+
+/* replay_trace: which roots of a problem hold on each row of values. */
+static inline struct trace_answer echo_problem_replay(
+    const struct echo_problem *p, const uint64_t *values, size_t values_len,
+    uint64_t *masks, size_t masks_len, uint64_t *counts, size_t counts_len)
+{
+    return replay_trace(
+        ECHO_LENT_PROBLEM(p),
+        echo_lent_numbers(values, values_len), values_len,
+        echo_lent_numbers_out(masks, masks_len), masks_len,
+        echo_lent_numbers_out(counts, counts_len), counts_len);
+}
+
+/* ext_wf: the width of each node of a problem. */
+static inline struct width_answer echo_problem_widths(const struct echo_problem *p, uint64_t *out, size_t out_len)
+{
+    return ext_wf(
+        echo_lent_bytes(p->nodes, p->nodes_len), p->nodes_len,
+        echo_lent_bytes(p->bits, p->bits_len), p->bits_len,
+        echo_lent_numbers(p->side, p->side_len), p->side_len,
+        echo_lent_numbers(p->index_width, p->index_width_len), p->index_width_len,
+        echo_lent_numbers(p->value_width, p->value_width_len), p->value_width_len,
+        echo_lent_numbers_out(out, out_len), out_len);
+}
+
+#undef ECHO_LENT_PROBLEM
 
 #ifdef __cplusplus
 }

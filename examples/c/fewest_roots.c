@@ -19,17 +19,16 @@ static struct fewest_answer fewest(const uint64_t *roots, size_t count)
     static const uint64_t zero[1] = {0};
     static const uint64_t one[1] = {1};
     static const uint64_t eight[1] = {8};
-    /* What stands for an empty slice, which may not be null. */
-    static const uint8_t no_bytes[1] = {0};
-    static const uint64_t none[1] = {0};
-    return fewest_roots(
-        nodes, sizeof nodes,
-        no_bytes, 0, /* bits */
-        none, 0,     /* side */
-        roots, count,
-        x, 1, zero, 1, one, 1, zero, 1, eight, 1,        /* one variable: node 0, of width 8 */
-        no_bytes, 0, none, 0, none, 0, none, 0, none, 0, /* arrays */
-        no_bytes, 0, none, 0, none, 0, none, 0);         /* functions */
+    const struct echo_problem problem = {
+        .nodes = nodes, .nodes_len = sizeof nodes,
+        .roots = roots, .roots_len = count,
+        .names = x, .names_len = 1, /* one variable: node 0, of width 8 */
+        .name_start = zero, .name_start_len = 1,
+        .name_len = one, .name_len_len = 1,
+        .var_node = zero, .var_node_len = 1,
+        .var_width = eight, .var_width_len = 1,
+    };
+    return echo_problem_fewest(&problem);
 }
 
 static void tell(const char *label, struct fewest_answer answer)

@@ -1,6 +1,7 @@
 /*
  * Writes two roots as the lines of a map file. The first holds where a flag is set and a region ends within its limit, the second where the
- * region does not begin at the limit. Of the buffer only the lines are written; one byte less is refused, and cleared.
+ * region does not begin at the limit. Of the buffer only the lines are written; one byte less is refused, and cleared. The function is called
+ * with its slices one by one; the other programs here have them in a struct.
  */
 #include <stdio.h>
 #include <string.h>
@@ -30,6 +31,7 @@ static struct echo_answer lines(const uint8_t *nodes, size_t nodes_len, uint8_t 
     static const uint64_t len[4] = {5, 4, 4, 5};
     static const uint64_t node[4] = {0, 1, 2, 3};
     static const uint64_t width[4] = {8, 8, 8, 8};
+    /* What stands for an empty slice, which may not be null here. */
     static const uint8_t no_bytes[1] = {0};
     static const uint64_t no_numbers[1] = {0};
     return echo_formulas(

@@ -41,18 +41,19 @@ int main(void)
     const uint64_t var_node[1] = {0};
     const uint64_t var_width[1] = {8};
 
-    /* What stands for an empty slice, which may not be null. */
-    const uint8_t no_bytes[1] = {0};
-    const uint64_t no_numbers[1] = {0};
+    /* What is not named is empty: no side entries, no arrays, no functions. */
+    const struct echo_problem problem = {
+        .nodes = nodes, .nodes_len = sizeof nodes,
+        .bits = bits, .bits_len = 8,
+        .roots = roots, .roots_len = 1,
+        .names = names, .names_len = 1,
+        .name_start = name_start, .name_start_len = 1,
+        .name_len = name_len, .name_len_len = 1,
+        .var_node = var_node, .var_node_len = 1,
+        .var_width = var_width, .var_width_len = 1,
+    };
 
-    const struct size_answer size = echo_size(
-        nodes, sizeof nodes,
-        bits, 8,
-        no_numbers, 0, /* side */
-        roots, 1,
-        names, 1, name_start, 1, name_len, 1, var_node, 1, var_width, 1,
-        no_bytes, 0, no_numbers, 0, no_numbers, 0, no_numbers, 0, no_numbers, 0, /* arrays */
-        no_bytes, 0, no_numbers, 0, no_numbers, 0, no_numbers, 0);               /* functions */
+    const struct size_answer size = echo_problem_size(&problem);
     if (size.number != ECHO_ACCEPTED) {
         fprintf(stderr, "M2 is refused with %llu\n", (unsigned long long)size.number);
         return 1;
@@ -63,29 +64,12 @@ int main(void)
         fprintf(stderr, "no memory for %llu bytes\n", (unsigned long long)size.length);
         return 3;
     }
-    const struct echo_answer answer = echo_ext(
-        nodes, sizeof nodes,
-        bits, 8,
-        no_numbers, 0, /* side */
-        roots, 1,
-        names, 1, name_start, 1, name_len, 1, var_node, 1, var_width, 1,
-        no_bytes, 0, no_numbers, 0, no_numbers, 0, no_numbers, 0, no_numbers, 0, /* arrays */
-        no_bytes, 0, no_numbers, 0, no_numbers, 0, no_numbers, 0,                /* functions */
-        out, room);
-
+    const struct echo_answer answer = echo_problem_print(&problem, out, room);
     printf("M2 %llu %llu %llu\n", (unsigned long long)answer.number, (unsigned long long)answer.length, (unsigned long long)size.terms);
     /* The script has no byte 0 at its end: its length says where it ends. */
     int written = answer.number == ECHO_ACCEPTED && fwrite(out, 1, room, stdout) == room;
 
-    const struct echo_answer hidden = echo_hidden(
-        nodes, sizeof nodes,
-        bits, 8,
-        no_numbers, 0, /* side */
-        roots, 1,
-        names, 1, name_start, 1, name_len, 1, var_node, 1, var_width, 1,
-        no_bytes, 0, no_numbers, 0, no_numbers, 0, no_numbers, 0, no_numbers, 0, /* arrays */
-        no_bytes, 0, no_numbers, 0, no_numbers, 0, no_numbers, 0,                /* functions */
-        out, room);
+    const struct echo_answer hidden = echo_problem_hidden(&problem, out, room);
     written = written && hidden.number == ECHO_ACCEPTED && hidden.length == size.length && fwrite(out, 1, room, stdout) == room && fflush(stdout) == 0;
     free(out);
     if (!written) {

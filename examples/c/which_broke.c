@@ -47,9 +47,17 @@ int main(void)
     const uint64_t var_node[3] = {0, 1, 2};
     const uint64_t var_width[3] = {16, 16, 16};
 
-    /* What stands for an empty slice, which may not be null. */
-    const uint8_t no_bytes[1] = {0};
-    const uint64_t no_numbers[1] = {0};
+    /* What is not named is empty: no side entries, no arrays, no functions. */
+    const struct echo_problem problem = {
+        .nodes = nodes, .nodes_len = sizeof nodes,
+        .bits = bits, .bits_len = sizeof bits,
+        .roots = roots, .roots_len = 3,
+        .names = names, .names_len = sizeof names,
+        .name_start = name_start, .name_start_len = 3,
+        .name_len = name_len, .name_len_len = 3,
+        .var_node = var_node, .var_node_len = 3,
+        .var_width = var_width, .var_width_len = 3,
+    };
 
     /* The log: base, size and limit of each row. */
     const uint64_t values[3 * ROWS] = {
@@ -60,28 +68,7 @@ int main(void)
     };
     uint64_t masks[ROWS];
     uint64_t counts[ROWS];
-    const struct trace_answer answer = replay_trace(
-        nodes, sizeof nodes,
-        bits, sizeof bits,
-        no_numbers, 0,
-        roots, 3,
-        names, sizeof names,
-        name_start, 3,
-        name_len, 3,
-        var_node, 3,
-        var_width, 3,
-        no_bytes, 0,
-        no_numbers, 0,
-        no_numbers, 0,
-        no_numbers, 0,
-        no_numbers, 0,
-        no_bytes, 0,
-        no_numbers, 0,
-        no_numbers, 0,
-        no_numbers, 0,
-        values, 3 * ROWS,
-        masks, ROWS,
-        counts, ROWS);
+    const struct trace_answer answer = echo_problem_replay(&problem, values, 3 * ROWS, masks, ROWS, counts, ROWS);
     if (answer.number != ECHO_ACCEPTED) {
         printf("refused with %llu\n", (unsigned long long)answer.number);
         return 1;

@@ -19,6 +19,24 @@ fn header() -> BTreeMap<&'static str, u64> {
     found
 }
 
+/// Every function that takes a problem has one over `struct echo_problem`, and the test in C calls both.
+#[test]
+fn functions_over_the_struct() {
+    const TEST: &str = include_str!("../../../examples/c/entry_points.c");
+    let takes_a_problem = |part: &'static str| part.split_once("(\n    const uint8_t *nodes, ")?.0.split(' ').nth(1);
+    let plain: Vec<&str> = HEADER.split("\nstruct ").filter_map(takes_a_problem).collect();
+    assert_eq!(plain.len(), 8);
+    for name in plain {
+        let call =
+            HEADER.find(&format!("    return {name}(")).unwrap_or_else(|| panic!("{name} has no function over the struct"));
+        let over = HEADER[..call].rsplit("static inline struct ").next().and_then(|text| text.split(['(', ' ']).nth(1)).unwrap();
+        assert!(over.starts_with("echo_problem_"), "{over}");
+        for called in [name, over] {
+            assert!(TEST.contains(&format!(" {called}(")), "{called}");
+        }
+    }
+}
+
 #[test]
 fn limits_numbers_and_kinds() {
     let mut here: BTreeMap<String, u64> = BTreeMap::new();
