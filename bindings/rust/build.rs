@@ -1,5 +1,5 @@
-//! Finds the proved library libecho_c.a and links it: in the folder that ECHO_LIB_DIR names, else in target/staticlib of the
-//! repository that this package is part of.
+//! Finds the proved library libecho_c.a and links it: in the folder that ECHO_LIB_DIR names, else in lib of the archive that this package
+//! was unpacked from, else in target/staticlib of the repository that it is part of.
 
 use std::env;
 use std::path::{Path, PathBuf};
@@ -13,7 +13,10 @@ fn main() {
     let given = env::var_os("ECHO_LIB_DIR").filter(|named| !named.is_empty());
     let folder = match &given {
         Some(named) => package.join(named),
-        None => package.join("../../target/staticlib"),
+        None => {
+            let unpacked = package.join("../../lib");
+            if unpacked.join(LIBRARY).is_file() { unpacked } else { package.join("../../target/staticlib") }
+        }
     };
     let library = folder.join(LIBRARY);
     println!("cargo::rerun-if-changed={}", library.display());

@@ -8,6 +8,8 @@ macro_rules! kinds {
 
         /// How many kinds there are.
         pub const COUNT: u8 = [$($number as u8),*].len() as u8;
+
+        const NAMES: [&str; COUNT as usize] = [$(stringify!($name)),*];
     };
 }
 
@@ -92,4 +94,20 @@ kinds! {
     SELECT = 37;
     /// The number of a function, the width of the result, a place in `side` and a count n: a call with the n arguments there.
     CALL = 38;
+}
+
+/// The name of a kind, as the constant here has it: `name(2)` is `ADD`. `None` where there is no such kind.
+pub fn name(kind: u8) -> Option<&'static str> {
+    NAMES.get(usize::from(kind)).copied()
+}
+
+/// How many operands a kind has, the first ones of its record. `None` where there is no such kind.
+pub fn operand_count(kind: u8) -> Option<usize> {
+    match kind {
+        VAR | NOT | BV_NOT | NEG => Some(1),
+        EXTRACT | ITE => Some(3),
+        SELECT | CALL => Some(4),
+        _ if kind < COUNT => Some(2),
+        _ => None,
+    }
 }

@@ -5,7 +5,8 @@
 //! beforehand how long its script is, [`fewest_roots`] tells which roots of a refused one matter, [`replay_trace`] which assertions hold on
 //! logged values, [`ext_wf`] is the width pass alone, [`scripts`] cuts a file that joins scripts, and [`shorten_records`] and
 //! [`lengthen_records`] convert node records into shorter ones and back.
-//! Terms are node records ([`node`], [`kind`]), and every input is a slice that is lent for the call.
+//! Terms are node records ([`node`], [`kind`]), and every input is a slice that is lent for the call. An [`OwnedProblem`] has slices of its
+//! own, and is read from and written to files. The command `smt-echo` of this package is over the same functions (docs/COMMAND.md).
 //!
 //! Is there an 8-bit `x` with `x + 5 = x`?
 //!
@@ -50,17 +51,25 @@
 #![deny(missing_docs)]
 #![deny(unsafe_code)]
 
+mod csv;
 pub mod kind;
+mod layout;
+mod owned;
 #[allow(unsafe_code)]
 mod raw;
 mod records;
 mod refusal;
 mod scripts;
+mod text;
 mod traces;
 
+pub use csv::Trace;
+pub use layout::LayoutError;
+pub use owned::{Input, OwnedProblem};
 pub use records::{RecordRefusal, lengthen_records, shorten_records};
 pub use refusal::{Refusal, WidthRefusal};
 pub use scripts::{Scripts, next_script, scripts};
+pub use text::{TEXT_HEAD, TextError, node_parts, quoted_name};
 pub use traces::{TraceRefusal, replay_trace};
 
 /// Bytes of a node record.

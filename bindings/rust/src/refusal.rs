@@ -4,7 +4,8 @@ use std::error::Error;
 use std::fmt;
 
 /// Why [`echo_ext`](crate::echo_ext), [`echo_hidden`](crate::echo_hidden), [`echo_let`](crate::echo_let),
-/// [`echo_formulas`](crate::echo_formulas) and [`echo_size`](crate::echo_size) refuse a problem, and what [`fewest_roots`](crate::fewest_roots) tells of a refused one.
+/// [`echo_formulas`](crate::echo_formulas) and [`echo_size`](crate::echo_size) refuse a problem, and what [`fewest_roots`](crate::fewest_roots)
+/// tells of a refused one.
 ///
 /// If several things are wrong the order is: `Limit`, `Encoding`, `Malformed` (columns), `ArrayWidth`, `Malformed` (nodes), `Name`, `Shared`
 /// or for `echo_let` `Clash`, `Var` and `Signature` (declarations), then what the walk over the roots meets first, and `Room` last.
