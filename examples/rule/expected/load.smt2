@@ -1,0 +1,7 @@
+(set-logic QF_ABV)
+(declare-const |hi| (_ BitVec 20))
+(declare-const |lo| (_ BitVec 12))
+(declare-const |memory| (Array (_ BitVec 32) (_ BitVec 8)))
+(assert (= |hi| #b00000000000000000000))
+(assert (distinct (select |memory| (bvadd (concat |hi| #b000000000000) ((_ sign_extend 20) |lo|))) (select |memory| ((_ sign_extend 20) |lo|))))
+(check-sat)
