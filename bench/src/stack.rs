@@ -197,7 +197,7 @@ fn main() {
     println!("| problem | nodes | side entries | Rust, KB | port, KB |");
     println!("|---|---|---|---|---|");
     let mut worst = (0, 0);
-    let mut hidden = 0;
+    let (mut hidden, mut size, mut fewest) = (0, 0, 0);
     let (mut lets, mut shared) = (0, 0);
     let mut formulas = (0, "");
     for (label, p) in &all {
@@ -212,6 +212,8 @@ fn main() {
         println!("| {label} | {} | {} | {} | {} |", p.count(), p.side.len(), rust.div_ceil(1000), port.div_ceil(1000));
         worst = (worst.0.max(rust), worst.1.max(port));
         hidden = hidden.max(used(stack, &mut || assert_eq!(problem::hidden(p, &mut out), answer)));
+        size = size.max(used(stack, &mut || assert_eq!(problem::size(p).1, answer.1)));
+        fewest = fewest.max(used(stack, &mut || assert_eq!(problem::fewest(p).0, 0)));
         lets = lets.max(used(stack, &mut || assert_eq!(problem::lets(p, &mut out), answer)));
         let deep = used(stack, &mut || assert_eq!(problem::formulas(p, &mut out).0, 0));
         formulas = formulas.max((deep, label.as_str()));
@@ -223,6 +225,8 @@ fn main() {
     }
     println!("| the largest | | | {} | {} |", worst.0.div_ceil(1000), worst.1.div_ceil(1000));
     println!("| the largest, with constants hidden | | | | {} |", hidden.div_ceil(1000));
+    println!("| the largest, of a size | | | | {} |", size.div_ceil(1000));
+    println!("| the largest, the fewest roots | | | | {} |", fewest.div_ceil(1000));
     println!("| the largest, with let and nothing shared | | | | {} |", lets.div_ceil(1000));
     println!("| the largest, as formulas ({}) | | | | {} |", formulas.1, formulas.0.div_ceil(1000));
     println!("| the largest, with let and the root bound | | | | {} |", shared.div_ceil(1000));
