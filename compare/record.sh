@@ -16,7 +16,7 @@ if [ "${1:-}" = --rows ]; then
     "$room/record" rows "$2"
     exit
 fi
-for list in widths printer sizes hidden let formulas fewest scripts records traces; do mkdir -p "$here/../crates/replay_$list/data"; done
+for list in widths printer sizes hidden let formulas fewest scripts records traces reads; do mkdir -p "$here/../crates/replay_$list/data"; done
 cd "$here/.."
 "$room/record" widths crates/replay_widths/data/widths.bin "$@"
 "$room/record" printer crates/replay_printer/data/printer.bin "$@"
@@ -28,3 +28,4 @@ cd "$here/.."
 "$room/record" scripts crates/replay_scripts/data/scripts.bin "$@"
 "$room/record" records crates/replay_records/data/records.bin "$@"
 "$room/record" traces crates/replay_traces/data/traces.bin "$@"
+"$room/record" reads crates/replay_reads/data/reads.bin "$@"

@@ -1,9 +1,10 @@
 //! Makes the recorded lists: `record LIST OUT`, where LIST is widths, printer, sizes, hidden, let, fewest, formulas, scripts,
-//! records or traces. The problems follow
+//! records, traces or reads. The problems follow
 //! from a seed; the answers are the Rust's (oracle.rs), with what documents 01 and 02 add around it (added.rs), and with names that it takes
 //! in the place of those with bytes from 128 on (spelling.rs). Sizes are those of the Rust's scripts, and hidden scripts are put together
 //! from two of them (hidden.rs). Scripts with `let` are those of a printer of their own (lets.rs). The fewest roots are found by trying lists
-//! of them (fewest.rs). Where scripts end in a file is a model's answer (scripts.rs), and so are shorter records (records.rs) and the replay of traces (traces.rs).
+//! of them (fewest.rs). Where scripts end in a file is a model's answer (scripts.rs), and so are shorter records (records.rs),
+//! the replay of traces (traces.rs) and scripts read back (reads.rs).
 mod added;
 mod alphabets;
 mod arrays;
@@ -20,6 +21,8 @@ mod list;
 mod oracle;
 mod printer;
 mod problem;
+mod reads;
+mod reads_problems;
 mod records;
 mod scripts;
 mod spelling;
@@ -329,6 +332,35 @@ fn record_traces(out: &str, long: bool) {
     finish(&list, &tally, out, long);
 }
 
+fn record_reads(out: &str, long: bool) {
+    reads_problems::check_model();
+    let mut list = list::List::new(b"READS  1");
+    let mut tally = Tally::default();
+    for c in reads_problems::all() {
+        let (room, a) = reads_problems::answer(&c);
+        let p = &a.problem;
+        let columns = [
+            &p.side,
+            &p.roots,
+            &p.name_start,
+            &p.name_len,
+            &p.var_node,
+            &p.var_width,
+            &p.aname_start,
+            &p.aname_len,
+            &p.index_width,
+            &p.value_width,
+            &p.fname_start,
+            &p.fname_len,
+            &p.func_width,
+        ];
+        assert!(!columns.iter().any(|c| c.contains(&FILL)), "an output has the number that the replay fills with");
+        tally.note(&c.label, c.want, a.number);
+        list.add(&list::of_read(&c.script, &room, &a));
+    }
+    finish(&list, &tally, out, long);
+}
+
 /// Of the accepted traces, rows as scripts: the problem's script with the row's values asserted too. A file's name ends in the answer that is
 /// wanted: sat exactly where every assertion holds.
 fn write_rows(folder: &str) {
@@ -412,10 +444,13 @@ fn run() {
         (Some("scripts"), Some(out)) => record_scripts(out, long),
         (Some("records"), Some(out)) => record_records(out, long),
         (Some("traces"), Some(out)) => record_traces(out, long),
+        (Some("reads"), Some(out)) => record_reads(out, long),
         (Some("rows"), Some(folder)) => write_rows(folder),
         (Some("formulas"), Some(out)) => record_formulas(out, long),
         _ => {
-            eprintln!("record widths|printer|sizes|hidden|let|fewest|formulas|scripts|records|traces OUT [--clauses], record rows FOLDER");
+            eprintln!(
+                "record widths|printer|sizes|hidden|let|fewest|formulas|scripts|records|traces|reads OUT [--clauses], record rows FOLDER"
+            );
             std::process::exit(2);
         }
     }

@@ -1,9 +1,10 @@
 -- What the project promises of the printer's answers. A reader who believes the definitions (crate `echo_spec`: what is
 -- printed and what is refused; crate `smtlib`: what bytes mean by the standard) can stop at this page.
 --
--- Contents of this crate: here, the printer and the width pass; `ArrayClaims`, widths of arrays by the table (L5); `SizeClaims`, room for a script, known beforehand (document 02, L1); `HiddenClaims`, scripts with
--- addresses hidden (L10). Beside each stand instances (`Instances`, `ArrayInstances`, `SizeInstances`, `HiddenInstances`), which show that
--- its claims are not empty.
+-- Contents of this crate: here, the printer and the width pass; `ArrayClaims`, widths of arrays by the table (L5); `SizeClaims`, room for a
+-- script, known beforehand (document 02, L1); `HiddenClaims`, scripts with addresses hidden (L10); `ReadClaims`, scripts read back (L6).
+-- Beside each stand instances (`Instances`, `ArrayInstances`, `SizeInstances`, `HiddenInstances`, `ReadInstances`), which show that its
+-- claims are not empty.
 use Prim.Native.Nat.{ℕ, suc, _-_, _≤_, _<_}
 use denote.Ref.{now}
 use mathlib.Core.Path.{_≡_, refl, sym, ap, _∙_}

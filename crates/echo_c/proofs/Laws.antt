@@ -7,6 +7,13 @@ use Rattle.sizes.specs.Size.{SizeAnswer}
 use Rattle.fewest.specs.Fewest.{FewestAnswer}
 use Rattle.c_answers.specs.Answered.{Chosen}
 use Rattle.traces.specs.Trace.{TraceAnswer}
+use Rattle.echo_spec.specs.Input.{Problem}
+use Rattle.readback.specs.ReadAnswers as reading
+use Rattle.script_reader.specs.Outputs.{readBack}
+use Rattle.script_reader.specs.declared.Outcome.{Outcome}
+use Rattle.script_reader.specs.declared.Outcome.the-variants.{Read, Refused}
+use Rattle.read_answers.specs.Answered.{told, sizesIn, readNumbers}
+use Rattle.read_answers.specs.declared.ReadAnswer.{ReadAnswer}
 
 abbrev answer : ℕ → ℕ → List ℕ → Answer
 answer n k out = record { number = n; count = k; output = out }
@@ -28,3 +35,19 @@ rows n k masks counts = record { number = n; rows = k; masks = masks; counts = c
 
 pub trace-given : {n m k l : ℕ} {masks counts : List ℕ} {a : TraceAnswer} → (n ≡ m) × (k ≡ l) → rows m l masks counts ≡ a → rows n k masks counts ≡ a
 trace-given {masks = masks} {counts = counts} e h = (λ i. rows (e .0 i) (e .1 i) masks counts) ∙ h
+
+-- a script that is read back, or is refused
+read-numbers : (q : Outcome) (o : Problem) → record { number = told q; sizes = sizesIn q; output = o } ≡ readBack q o
+read-numbers (Read z) o = refl
+read-numbers (Refused e) o = refl
+
+pub read-given : {a : ReadAnswer} (q : Outcome) (o : Problem) {x : reading.ReadAnswer}
+    → (a .number ≡ told q) × (a .nodes ≡ sizesIn q .nodes) × (a .bits ≡ sizesIn q .bits) × (a .side ≡ sizesIn q .side) × (a .roots ≡ sizesIn q .roots) × (a .names ≡ sizesIn q .names) × (a .variables ≡ sizesIn q .variables) × (a .anames ≡ sizesIn q .anames) × (a .arrays ≡ sizesIn q .arrays) × (a .fnames ≡ sizesIn q .fnames) × (a .functions ≡ sizesIn q .functions)
+    → readBack q o ≡ x → readNumbers a o ≡ x
+read-given {a} q o {x} e h =
+    (λ i. record {
+      number = e .0 i;
+      sizes = record { nodes = e .1 i; bits = e .2 i; side = e .3 i; roots = e .4 i; names = e .5 i; variables = e .6 i; anames = e .7 i; arrays = e .8 i; fnames = e .9 i; functions = e .10 i };
+      output = o;
+    })
+    ∙ read-numbers q o ∙ h

@@ -4,6 +4,7 @@ pub mod fewest_form;
 pub mod formula_form;
 pub mod hidden_form;
 pub mod let_form;
+pub mod read;
 pub mod records;
 pub mod scripts;
 pub mod size;

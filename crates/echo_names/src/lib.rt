@@ -100,7 +100,8 @@ fn byte_ok(c: u8) -> bool
     c != b'\\'
 }
 
-fn bytes_ok(name: &[u8]) -> bool
+// Each byte of the name may stand in one. Ruled out: a name with a bar; one that is taken for its first byte.
+pub fn bytes_ok(name: &[u8]) -> bool
     ensures { λ r. ⌜ r ≡ every byteOk (now (name .entry)) ⌝ }
 {
     let mut i = 0;
@@ -113,8 +114,8 @@ fn bytes_ok(name: &[u8]) -> bool
     true
 }
 
-// There is a first byte, and it is none that SMT-LIB keeps for solvers.
-fn first_ok(name: &[u8]) -> bool
+// There is a first byte, and it is none that SMT-LIB keeps for solvers. Ruled out: the empty name; a name that begins with @.
+pub fn first_ok(name: &[u8]) -> bool
     ensures { λ r. ⌜ r ≡ firstOk (now (name .entry)) ⌝ }
 {
     if name.len() == 0 {

@@ -1,0 +1,5 @@
+pub mod Checked
+pub mod Strict
+pub mod Body
+pub mod Whole
+pub mod Assertions

@@ -1,0 +1,13 @@
+pub mod Heap
+pub mod Filled
+pub mod Within
+pub mod Chains
+pub mod Adding
+pub mod Entering
+pub mod Settling
+pub mod Stacks
+pub mod Pairs
+pub mod Candidates
+pub mod Going
+pub mod Start
+pub mod Examples

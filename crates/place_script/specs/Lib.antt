@@ -1,0 +1,5 @@
+pub mod Variables
+pub mod Roots
+pub mod Zeros
+pub mod Uncalled
+pub mod Scripts

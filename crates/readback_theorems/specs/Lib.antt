@@ -1,0 +1,3 @@
+pub mod Printables
+pub mod Decided
+pub mod Answered

@@ -1,0 +1,4 @@
+pub mod TermsRead
+pub mod ScriptsRead
+pub mod TermsStrict
+pub mod ScriptsStrict

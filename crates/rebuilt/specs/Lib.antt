@@ -1,0 +1,14 @@
+pub mod Layout
+pub mod Tables
+pub mod Built
+pub mod Constants
+pub mod Known
+pub mod Placing
+pub mod Puts
+pub mod Start
+pub mod Nodes
+pub mod Accept
+pub mod Uses
+pub mod Shared
+pub mod Accepted
+pub mod Inputs

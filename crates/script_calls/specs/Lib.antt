@@ -1,0 +1,4 @@
+pub mod Bars
+pub mod Flags
+pub mod Texts
+pub mod Scan

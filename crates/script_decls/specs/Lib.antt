@@ -1,0 +1,4 @@
+pub mod Lines
+pub mod Sorts
+pub mod Tails
+pub mod Going

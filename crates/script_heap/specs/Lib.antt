@@ -1,0 +1,4 @@
+pub mod Told
+pub mod Laws
+pub mod Sides
+pub mod Constants

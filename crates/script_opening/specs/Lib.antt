@@ -1,0 +1,3 @@
+-- How a script begins.
+pub mod Openings
+pub mod Laws

@@ -1,0 +1,5 @@
+pub mod Terms
+pub mod Forms
+pub mod Closing
+pub mod Going
+pub mod Loop

@@ -1,0 +1,207 @@
+// The nodes of a term, placed as its text is gone over: each operand first, then the constants among them, then the term's own node.
+// Under "Ruled out" stand wrong programs that a public function's contract refuses.
+ghost use mathlib.Core.Path.{_≡_};
+ghost use Prim.Native.Nat.{_+_, _≤_, _<_};
+ghost use Rattle.heap_laws.specs.Heap.{countIn};
+ghost use Rattle.script_place.specs.Terms.{Term, State, PlacedAs, OpenedTo, Begins, BegunTo, Pushable, MoreTo, Finished, Closes, ClosedTo};
+use script_ends::Seen;
+use script_ends::end_call;
+use script_ends::end_operator;
+use script_ends::end_select;
+use script_ends::one_more;
+use script_ends::result_width;
+use script_heads::Head;
+use script_heads::head_at;
+use script_heap::BITS;
+use script_heap::COUNT;
+use script_heap::HEAP;
+use script_heap::NODES;
+use script_heap::Settled;
+use script_heap::TOP;
+use script_heap::push_constant;
+use script_heap::push_node;
+use script_names::TABLE;
+
+// A term that is placed: its node, or the place of its digits if it is a constant; its width, 0 of a Bool; and the place after it.
+pub enum Placed {
+    Over,
+    Node(u64, u64, usize),
+    Constant(usize, u64, usize),
+}
+
+// A term by its head: it is placed; it is a call without arguments; or its operands begin at a place, with so many stores to close.
+enum Begun {
+    Done(Placed),
+    Nullary(u64, u64, usize),
+    Open(usize, usize),
+}
+
+// An operand that waits now: its width and the place after it.
+enum More {
+    Over,
+    To(u64, usize),
+}
+
+// ---------------------------------------------------------------- heads
+
+// A term that is to become a node, if there is room for it and those around it.
+fn opened(heap: &[u64; HEAP], levels: u64, e: usize, n: usize) -> Begun
+    requires { ⌜ (countIn (now heap) ≤ 2048) × (levels ≤ 2048) ⌝ }
+    ensures { λ r. ⌜ OpenedTo (countIn (now (heap .entry))) levels e n r ⌝ }
+{
+    let count = heap[COUNT];
+    if count + levels >= 2048 {
+        return Begun::Done(Placed::Over);
+    }
+    Begun::Open(e, n)
+}
+
+// What a term begins with.
+fn begin(heap: &[u64; HEAP], x: Head, at: usize, levels: u64) -> Begun
+    requires { ⌜ Begins (now heap) x at levels ⌝ }
+    ensures { λ r. ⌜ BegunTo (now (heap .entry)) x at levels r ⌝ }
+{
+    match x {
+        Head::No => Begun::Done(Placed::Over),
+        Head::Constant(e) => Begun::Done(Placed::Constant(at + 2, (e - (at + 2)) as u64, e)),
+        Head::Variable(k, w, e) => Begun::Done(Placed::Node(k as u64, w, e)),
+        Head::Nullary(g, w, e) => Begun::Nullary(g as u64, w, e),
+        Head::Operator(k, m, i, j, e) => opened(heap, levels, e, 0),
+        Head::Call(g, p, w, e) => opened(heap, levels, e, 0),
+        Head::Select(a, i, v, n, e) => opened(heap, levels, e, n),
+    }
+}
+
+// ---------------------------------------------------------------- operands
+
+// The operand waits for the term around it to end.
+fn pushed(s: &[u8], heap: &mut [u64; HEAP], z: Placed) -> More
+    requires { ⌜ Pushable (now s) z ⌝ }
+    ensures { λ r. ⌜ MoreTo (now (s .entry)) (now (heap .entry)) (now (heap .exit)) z r ⌝ }
+{
+    match z {
+        Placed::Over => More::Over,
+        Placed::Node(i, w, e) => {
+            if push_node(heap, i) {
+                return More::To(w, e);
+            }
+            More::Over
+        }
+        Placed::Constant(p, w, e) => {
+            if push_constant(s, heap, p) {
+                return More::To(w, e);
+            }
+            More::Over
+        }
+    }
+}
+
+// ---------------------------------------------------------------- ends
+
+fn finished(r: Settled, w: u64, e: usize) -> Placed
+    ensures { λ p. ⌜ Finished r w e p ⌝ }
+{
+    match r {
+        Settled::Over => Placed::Over,
+        Settled::At(i) => Placed::Node(i, w, e),
+    }
+}
+
+// The numeral, if there are as many.
+fn numeral_or_zero(m: u64, least: u64, i: u64) -> u64
+    ensures { λ r. ⌜ (least ≤ m → r ≡ i) × (m < least → r ≡ 0) ⌝ }
+{
+    if m >= least { i } else { 0 }
+}
+
+// The term ends with its bracket at place e.
+fn closed(
+    s: &[u8],
+    heap: &mut [u64; HEAP],
+    nodes: &mut [u8; NODES],
+    bits: &mut [u8; BITS],
+    x: Head,
+    base: usize,
+    v: Seen,
+    e: usize,
+) -> Placed
+    requires { ⌜ Closes (now s) (now heap) (now nodes) (now bits) x base v e ⌝ }
+    ensures { λ r. ⌜ ClosedTo (now (s .entry)) (now (heap .entry)) (now (nodes .entry)) (now (bits .entry)) (now (heap .exit)) (now (nodes .exit)) (now (bits .exit)) x base v e r ⌝ }
+{
+    match x {
+        Head::Operator(k, m, i, j, from) => {
+            let a = numeral_or_zero(m, 1, i);
+            let b = numeral_or_zero(m, 2, j);
+            let r = end_operator(s, heap, nodes, bits, base, k, a, b, v.first);
+            finished(r, result_width(k, a, b, v.first, v.second), e + 1)
+        }
+        Head::Call(g, p, w, from) => {
+            let r = end_call(s, heap, nodes, bits, base, g as u64, w);
+            finished(r, w, e + 1)
+        }
+        Head::Select(a, i, w, n, from) => {
+            let r = end_select(s, heap, nodes, bits, base, n, a as u64);
+            finished(r, w, e + 1)
+        }
+        Head::No => Placed::Over,
+        Head::Constant(from) => Placed::Over,
+        Head::Variable(k, w, from) => Placed::Over,
+        Head::Nullary(g, w, from) => Placed::Over,
+    }
+}
+
+// ---------------------------------------------------------------- terms
+
+// The term at a place, under so many terms that are not ended. Ruled out: a constant placed before another term; the node of a term before those
+// of its operands; an operand's node left out of the limit of a term around it.
+pub fn place(
+    s: &[u8],
+    t: &[u64; TABLE],
+    h: &[u64; 4],
+    heap: &mut [u64; HEAP],
+    nodes: &mut [u8; NODES],
+    bits: &mut [u8; BITS],
+    at: usize,
+    levels: u64,
+) -> Placed
+    requires { ⌜ ((q : Term (now s) (now t) (now h) at) × State (q .declarations) (now s) (now heap) (now nodes) (now bits) levels) ⌝ }
+    ensures { λ r. ⌜ ((q : Term (now (s .entry)) (now (t .entry)) (now (h .entry)) at) (g : State (q .declarations) (now (s .entry)) (now (heap .entry)) (now (nodes .entry)) (now (bits .entry)) levels)
+        → PlacedAs q g (now (heap .exit)) (now (nodes .exit)) (now (bits .exit)) r) ⌝ }
+{
+    let x = head_at(s, t, h, at);
+    let y = begin(heap, x, at, levels);
+    match y {
+        Begun::Done(p) => p,
+        Begun::Nullary(g, w, e) => {
+            let top = heap[TOP] as usize;
+            let r = end_call(s, heap, nodes, bits, top, g, w);
+            finished(r, w, e)
+        }
+        Begun::Open(from, stores) => {
+            let base = heap[TOP] as usize;
+            let mut e = from;
+            let mut n = stores;
+            let mut v = Seen {
+                count: 0,
+                first: 0,
+                second: 0,
+            };
+            loop {
+                if s[e] == b' ' {
+                    let z = place(s, t, h, heap, nodes, bits, e + 1, levels + 1);
+                    let More::To(w, f) = pushed(s, heap, z) else {
+                        return Placed::Over;
+                    };
+                    v = one_more(v, w);
+                    e = f;
+                } else {
+                    if n == 0 {
+                        return closed(s, heap, nodes, bits, x, base, v, e);
+                    }
+                    n -= 1;
+                    e += 1;
+                }
+            }
+        }
+    }
+}

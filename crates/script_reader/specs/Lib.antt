@@ -1,0 +1,2 @@
+-- What `read_script` answers, and what its outputs become.
+pub mod Outputs

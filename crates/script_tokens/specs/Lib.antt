@@ -1,0 +1,4 @@
+pub mod Reached
+pub mod Bytes
+pub mod Stretches
+pub mod Numerals
