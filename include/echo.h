@@ -1,8 +1,8 @@
 /*
  * The printer `echo_ext`, the same with constants hidden `echo_hidden`, the same with shared terms bound by let `echo_let`, the roots as the
  * lines of a map file `echo_formulas`, the size of a script `echo_size`, the fewest roots that still refuse `fewest_roots`, the replay of a trace
- * `replay_trace`, the width pass `ext_wf`, `next_script`, which cuts a file of scripts, and the conversions of node records `shorten_records`
- * and `lengthen_records`, for C and C++.
+ * `replay_trace`, the width pass `ext_wf`, `next_script`, which cuts a file of scripts, `read_script`, which reads a script back into a problem,
+ * and the conversions of node records `shorten_records` and `lengthen_records`, for C and C++.
  *
  * The library is target/staticlib/libecho_c.a, written by `rt staticlib echo_c`. It is for x86-64 with the System V calling
  * convention. It allocates nothing, keeps nothing between calls and needs only memcpy and memset of the C library.
@@ -12,8 +12,8 @@
  *   - the pointer is not null and is aligned for its element, also where the number is 0. For an empty slice hand in the address of
  *     any object of the element type, or use `struct echo_problem` at the end of this file, where it may be null;
  *   - that many elements can be read there, and for an output be written too;
- *   - an output overlaps no input, and the two outputs of replay_trace do not overlap each other. Inputs may overlap each other, since
- *     they are only read;
+ *   - an output overlaps no input, and the two outputs of replay_trace, and the eighteen of read_script, do not overlap each other. Inputs
+ *     may overlap each other, since they are only read;
  *   - no other thread writes an input, or touches an output, until the call is back.
  *
  * That is all that is asked. What the elements are is free: each input is answered, by an acceptance or by a refusal, and nothing
@@ -35,20 +35,22 @@ extern "C" {
  * any of names, anames and fnames.
  */
 enum {
-    ECHO_NODE_BYTES = 17,        /* bytes of a node record */
-    ECHO_MAX_NODES = 2048,       /* node records */
-    ECHO_MAX_NODES_LEN = 34816,  /* elements of nodes: ECHO_MAX_NODES records */
-    ECHO_MAX_BITS_LEN = 131072,  /* elements of bits */
-    ECHO_MAX_SIDE_LEN = 8192,    /* elements of side */
-    ECHO_MAX_ROOTS_LEN = 256,    /* elements of roots */
-    ECHO_MAX_COLUMN_LEN = 512,   /* elements of a column */
-    ECHO_MAX_ARENA_LEN = 16384,  /* elements of an arena */
-    ECHO_MAX_ARRAY_WIDTH = 65536 /* the widest index and the widest value of an array */
+    ECHO_NODE_BYTES = 17,         /* bytes of a node record */
+    ECHO_MAX_NODES = 2048,        /* node records */
+    ECHO_MAX_NODES_LEN = 34816,   /* elements of nodes: ECHO_MAX_NODES records */
+    ECHO_MAX_BITS_LEN = 131072,   /* elements of bits */
+    ECHO_MAX_SIDE_LEN = 8192,     /* elements of side */
+    ECHO_MAX_ROOTS_LEN = 256,     /* elements of roots */
+    ECHO_MAX_COLUMN_LEN = 512,    /* elements of a column */
+    ECHO_MAX_ARENA_LEN = 16384,   /* elements of an arena */
+    ECHO_MAX_ARRAY_WIDTH = 65536, /* the widest index and the widest value of an array */
+    ECHO_MAX_SCRIPT_DEPTH = 6146  /* brackets that are open at once in a script that read_script accepts */
 };
 
 /*
  * The numbers that are answered. ECHO_WIDE and ECHO_VALUES are replay_trace's alone, which besides answers what echo_ext does.
- * ECHO_SHORT_RECORD is lengthen_records' alone; the conversions of records have their own lists, further down. Of the others echo_ext,
+ * ECHO_SHORT_RECORD is lengthen_records' alone; the conversions of records have their own lists, further down. ECHO_NO_SCRIPT is
+ * read_script's alone, which besides answers ECHO_ACCEPTED, ECHO_LIMIT or ECHO_ROOM. Of the others echo_ext,
  * echo_hidden and echo_formulas answer any but ECHO_CLASH, echo_let any but ECHO_SHARED, echo_size and fewest_roots any but ECHO_ROOM and
  * ECHO_CLASH. ext_wf answers ECHO_ACCEPTED, ECHO_MALFORMED, ECHO_ENCODING, ECHO_LIMIT, ECHO_ROOM or ECHO_ARRAY_WIDTH.
  *
@@ -111,7 +113,10 @@ enum {
      */
     ECHO_ENCODING = 8,
 
-    /* An input is longer than its limit; of replay_trace also more than 64 roots, one for each bit of a mask. Split the problem. */
+    /*
+     * An input is longer than its limit; of replay_trace also more than 64 roots, one for each bit of a mask. Split the problem. Of
+     * read_script: the problem that the script is rebuilt as is over a limit, or a number of it does not fit the 32 bits of its record.
+     */
     ECHO_LIMIT = 9,
 
     /*
@@ -129,6 +134,12 @@ enum {
 
     /* An element of index_width or value_width is 0 or above ECHO_MAX_ARRAY_WIDTH, whether a node names the array or not. */
     ECHO_ARRAY_WIDTH = 12,
+
+    /*
+     * Of read_script alone: the bytes are no problem's script. A script is what echo_ext prints, byte for byte; a problem may have any
+     * number of nodes, bits, side entries and roots and any operand here, but no width of 2^64 or more.
+     */
+    ECHO_NO_SCRIPT = 13,
 
     /* Of replay_trace alone: a term that a root reaches is wider than 64 bits, or a select or call. A rotation's amount is no term. */
     ECHO_WIDE = 14,
@@ -232,6 +243,24 @@ struct width_answer {
 struct script_answer {
     uint64_t found;  /* 1 if there is a script, 0 if not */
     uint64_t length; /* the length of the first script; 0 if there is none */
+};
+
+/*
+ * What read_script answers: how many elements of each output are used, all 0 with a refusal. The columns of a table are of one length,
+ * told once.
+ */
+struct read_answer {
+    uint64_t number;    /* ECHO_ACCEPTED, or why the script is refused */
+    uint64_t nodes;     /* of nodes: bytes, ECHO_NODE_BYTES a record */
+    uint64_t bits;      /* of bits */
+    uint64_t side;      /* of side */
+    uint64_t roots;     /* of roots */
+    uint64_t names;     /* of names */
+    uint64_t variables; /* of each of name_start, name_len, var_node and var_width */
+    uint64_t anames;    /* of anames */
+    uint64_t arrays;    /* of each of aname_start, aname_len, index_width and value_width */
+    uint64_t fnames;    /* of fnames */
+    uint64_t functions; /* of each of fname_start, fname_len and func_width */
 };
 
 /*
@@ -512,6 +541,77 @@ struct width_answer ext_wf(
  * by file_len where there is no such line; it is not recursive.
  */
 struct script_answer next_script(const uint8_t *file, size_t file_len);
+
+/*
+ * Reads a script back into a problem: its nodes, bits, side entries, roots and tables, in eighteen outputs that are the inputs of echo_ext
+ * in its order. Outputs as long as the limits above always suffice.
+ *
+ * Accepted: number is ECHO_ACCEPTED, each output begins with its part of the problem, as long as the answer says, and every element past
+ * that is what it was before the call. echo_ext prints the problem as the same script, byte for byte.
+ *
+ * Refused: all elements of all outputs are 0. The order is
+ *
+ *   ECHO_NO_SCRIPT    the bytes are no problem's script: other white space, a comment, a leading zero, declare-fun for a variable, another
+ *                     logic line than the printer's, an operator with other operands than it takes, a name that the printer refuses, ..
+ *   ECHO_LIMIT        the rebuilt problem is over a limit, or a number of it does not fit the 32 bits of its record
+ *   ECHO_ROOM         an output is shorter than its part
+ *
+ * A script does not tell which problem it was printed from, so the nodes are placed by a rule: the variables in the order of their
+ * declarations; then for each function in order that no assertion calls a call on zeros; then the terms, each as its last operand ends. Equal
+ * constants, of one width and the same bits, are one node; the amount of a rotation is a constant as wide as the rotation. A new constant
+ * stands just before the first term, in the order of nodes, that uses it, several for one term in the order of the script. Bits, side
+ * entries and names follow the nodes and tables without gaps; an empty list starts at the end so far.
+ *
+ * Stack: reading is recursive, and ECHO_NO_SCRIPT comes before ECHO_LIMIT, so that a script nested deeply is read to its end. What it
+ * takes is no more than echo_read_stack(script_len) bytes, as measured; the proofs say nothing about the stack. Who takes files from
+ * strangers either calls on a thread with that much, or asks echo_script_depth first: a script deeper than ECHO_MAX_SCRIPT_DEPTH is never
+ * accepted, so that it can be turned away without the call, and 4 MB are enough for one that is not.
+ */
+struct read_answer read_script(
+    const uint8_t *script, size_t script_len,
+    uint8_t *nodes, size_t nodes_len,
+    uint8_t *bits, size_t bits_len,
+    uint64_t *side, size_t side_len,
+    uint64_t *roots, size_t roots_len,
+    uint8_t *names, size_t names_len,
+    uint64_t *name_start, size_t name_start_len,
+    uint64_t *name_len, size_t name_len_len,
+    uint64_t *var_node, size_t var_node_len,
+    uint64_t *var_width, size_t var_width_len,
+    uint8_t *anames, size_t anames_len,
+    uint64_t *aname_start, size_t aname_start_len,
+    uint64_t *aname_len, size_t aname_len_len,
+    uint64_t *index_width, size_t index_width_len,
+    uint64_t *value_width, size_t value_width_len,
+    uint8_t *fnames, size_t fnames_len,
+    uint64_t *fname_start, size_t fname_start_len,
+    uint64_t *fname_len, size_t fname_len_len,
+    uint64_t *func_width, size_t func_width_len);
+
+/* The bytes of stack that read_script takes at most for a script of so many bytes, as measured. */
+static inline size_t echo_read_stack(size_t script_len)
+{
+    return 1500000 + 20 * script_len;
+}
+
+/* The most brackets that are open at once in a script. A name stands between bars, and its brackets are none. Any bytes are answered. */
+static inline size_t echo_script_depth(const uint8_t *script, size_t script_len)
+{
+    size_t depth = 0;
+    size_t most = 0;
+    int in_name = 0;
+    for (size_t i = 0; i < script_len; i++) {
+        if (script[i] == '|') {
+            in_name = !in_name;
+        } else if (!in_name && script[i] == '(') {
+            depth++;
+            most = depth > most ? depth : most;
+        } else if (!in_name && script[i] == ')' && depth > 0) {
+            depth--;
+        }
+    }
+    return most;
+}
 
 /*
  * Shorter records: the kind byte of each node and then only the operands that its kind has, each a little-endian number of 4 bytes. The

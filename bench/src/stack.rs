@@ -1,66 +1,13 @@
-//! How much stack the two need on deep problems. Each problem is printed once by each, in a thread whose stack is filled with a
-//! pattern before; what lies between the call and the lowest byte that differs afterwards was used.
+//! How much stack the two need on deep problems. Each problem is printed once by each.
 mod problem;
 mod shapes;
 #[allow(dead_code)]
 mod traces;
+mod used;
 use problem::{Answer, Decoded, Problem, kind};
-use std::ffi::{c_int, c_void};
-
-/// The C library's, which the standard library links anyway: its own threads do not take a stack that is lent.
-mod c {
-    use super::*;
-    #[repr(C, align(16))]
-    pub struct Attributes(pub [u8; 256]);
-    unsafe extern "C" {
-        pub fn pthread_attr_init(a: *mut Attributes) -> c_int;
-        pub fn pthread_attr_setstack(a: *mut Attributes, low: *mut c_void, size: usize) -> c_int;
-        pub fn pthread_create(
-            thread: *mut usize,
-            a: *const Attributes,
-            start: extern "C" fn(*mut c_void) -> *mut c_void,
-            with: *mut c_void,
-        ) -> c_int;
-        pub fn pthread_join(thread: usize, result: *mut *mut c_void) -> c_int;
-    }
-}
+use used::{stack, used};
 
 const SIZE: usize = 16 << 20;
-const PATTERN: u8 = 0xA5;
-
-struct Job<'a> {
-    call: &'a mut dyn FnMut(),
-    /// The address of a local of the caller: the used stack is counted from here.
-    top: usize,
-}
-
-#[inline(never)]
-extern "C" fn start(with: *mut c_void) -> *mut c_void {
-    // Safety: `used` lends the job for as long as the thread runs.
-    let job = unsafe { &mut *with.cast::<Job>() };
-    job.top = (&raw const job) as usize;
-    (job.call)();
-    std::ptr::null_mut()
-}
-
-/// Runs the call on a stack of its own and answers how many bytes of it were touched.
-fn used(stack: &mut [u8], call: &mut dyn FnMut()) -> usize {
-    stack.fill(PATTERN);
-    let mut job = Job { call, top: 0 };
-    let low = stack.as_mut_ptr();
-    // Safety: the stack and the job outlive the thread, which is joined; the length is a multiple of the page size, and so is the start.
-    unsafe {
-        let mut a = c::Attributes([0; 256]);
-        let mut thread = 0;
-        assert_eq!(c::pthread_attr_init(&mut a), 0);
-        assert_eq!(c::pthread_attr_setstack(&mut a, low.cast(), SIZE), 0);
-        assert_eq!(c::pthread_create(&mut thread, &a, start, (&raw mut job).cast()), 0);
-        assert_eq!(c::pthread_join(thread, std::ptr::null_mut()), 0);
-    }
-    let lowest = stack.iter().position(|b| *b != PATTERN).unwrap();
-    assert!(lowest > 4096, "the stack was too small");
-    job.top - (low as usize + lowest)
-}
 
 /// One step of a chain: a term of 8 bits over the term given, nested as the label says.
 type Step = fn(&mut Problem, &Leaf, u32) -> u32;
@@ -170,9 +117,8 @@ fn selects(n: usize, at: usize) -> Problem {
 }
 
 fn main() {
-    let mut room = vec![0u8; SIZE + 4096];
-    let skip = room.as_ptr().align_offset(4096);
-    let stack = &mut room[skip..skip + SIZE];
+    let mut room = Vec::new();
+    let stack = stack(&mut room, SIZE);
     let mut out = vec![0u8; 4 << 20];
     let mut all: Vec<(String, Problem)> = Vec::new();
     for s in STEPS {

@@ -21,7 +21,7 @@ static int checks;
     } while (0)
 
 /* An exact allocation with a copy. It is never null, and never given back: the process is short. */
-static void *kept[4096];
+static void *kept[8192];
 static size_t kept_count;
 
 static void *keep(size_t size)
@@ -555,6 +555,151 @@ static void traces(void)
     CHECK(answer.number == ECHO_VALUES && answer.rows == 0);
 }
 
+/* The eighteen outputs of read_script, each as long as the slice of a problem and some elements more, and filled. */
+struct outputs {
+    uint8_t *bytes[5];     /* nodes, bits, names, anames, fnames */
+    uint64_t *numbers[13]; /* the others, in order */
+    size_t bytes_len[5];
+    size_t numbers_len[13];
+};
+
+static void lengths_of(const struct echo_problem *p, struct outputs *o)
+{
+    const size_t bytes_len[5] = {p->nodes_len, p->bits_len, p->names_len, p->anames_len, p->fnames_len};
+    const size_t numbers_len[13] = {
+        p->side_len, p->roots_len, p->name_start_len, p->name_len_len, p->var_node_len, p->var_width_len, p->aname_start_len,
+        p->aname_len_len, p->index_width_len, p->value_width_len, p->fname_start_len, p->fname_len_len, p->func_width_len};
+    memcpy(o->bytes_len, bytes_len, sizeof bytes_len);
+    memcpy(o->numbers_len, numbers_len, sizeof numbers_len);
+}
+
+/* One of them, told by its place, is one element short; none where the place is past all. */
+static struct outputs lent(const struct echo_problem *p, size_t more, size_t one_short)
+{
+    struct outputs o;
+    lengths_of(p, &o);
+    for (size_t k = 0; k < 5; k++) {
+        o.bytes_len[k] = k == one_short ? o.bytes_len[k] - 1 : o.bytes_len[k] + more;
+        o.bytes[k] = filled(o.bytes_len[k]);
+    }
+    for (size_t k = 0; k < 13; k++) {
+        o.numbers_len[k] = k + 5 == one_short ? o.numbers_len[k] - 1 : o.numbers_len[k] + more;
+        o.numbers[k] = (uint64_t *)keep(o.numbers_len[k] * sizeof *o.numbers[k]);
+        for (size_t i = 0; i < o.numbers_len[k]; i++) {
+            o.numbers[k][i] = FILL;
+        }
+    }
+    return o;
+}
+
+static struct read_answer read_into(const char *script, size_t script_len, struct outputs *o)
+{
+    return read_script(
+        bytes_of(script, script_len), script_len,
+        o->bytes[0], o->bytes_len[0], o->bytes[1], o->bytes_len[1],
+        o->numbers[0], o->numbers_len[0], o->numbers[1], o->numbers_len[1],
+        o->bytes[2], o->bytes_len[2],
+        o->numbers[2], o->numbers_len[2], o->numbers[3], o->numbers_len[3],
+        o->numbers[4], o->numbers_len[4], o->numbers[5], o->numbers_len[5],
+        o->bytes[3], o->bytes_len[3],
+        o->numbers[6], o->numbers_len[6], o->numbers[7], o->numbers_len[7],
+        o->numbers[8], o->numbers_len[8], o->numbers[9], o->numbers_len[9],
+        o->bytes[4], o->bytes_len[4],
+        o->numbers[10], o->numbers_len[10], o->numbers[11], o->numbers_len[11], o->numbers[12], o->numbers_len[12]);
+}
+
+static void refused_reading(const char *script, size_t script_len, struct outputs o, uint64_t number)
+{
+    struct read_answer answer = read_into(script, script_len, &o);
+    CHECK(answer.number == number);
+    CHECK(answer.nodes == 0 && answer.bits == 0 && answer.side == 0 && answer.roots == 0 && answer.names == 0 && answer.variables == 0);
+    CHECK(answer.anames == 0 && answer.arrays == 0 && answer.fnames == 0 && answer.functions == 0);
+    for (size_t k = 0; k < 5; k++) {
+        for (size_t i = 0; i < o.bytes_len[k]; i++) {
+            CHECK(o.bytes[k][i] == 0);
+        }
+    }
+    for (size_t k = 0; k < 13; k++) {
+        for (size_t i = 0; i < o.numbers_len[k]; i++) {
+            CHECK(o.numbers[k][i] == 0);
+        }
+    }
+}
+
+/* The script of a problem that is as reading places it: it is read as that problem, and refused where an output is one element short. */
+static void read_back(const struct echo_problem *p, const char *script)
+{
+    const uint8_t *bytes[5] = {p->nodes, p->bits, p->names, p->anames, p->fnames};
+    const uint64_t *numbers[13] = {p->side, p->roots, p->name_start, p->name_len, p->var_node, p->var_width, p->aname_start,
+        p->aname_len, p->index_width, p->value_width, p->fname_start, p->fname_len, p->func_width};
+    for (size_t more = 0; more <= 2; more++) {
+        struct outputs wanted = {{0}, {0}, {0}, {0}};
+        lengths_of(p, &wanted);
+        struct outputs o = lent(p, more, 18);
+        struct read_answer answer = read_into(script, strlen(script), &o);
+        CHECK(answer.number == ECHO_ACCEPTED);
+        CHECK(answer.nodes == p->nodes_len && answer.bits == p->bits_len && answer.side == p->side_len && answer.roots == p->roots_len);
+        CHECK(answer.names == p->names_len && answer.variables == p->var_node_len);
+        CHECK(answer.anames == p->anames_len && answer.arrays == p->index_width_len);
+        CHECK(answer.fnames == p->fnames_len && answer.functions == p->func_width_len);
+        for (size_t k = 0; k < 5; k++) {
+            for (size_t i = 0; i < o.bytes_len[k]; i++) {
+                CHECK(o.bytes[k][i] == (i < wanted.bytes_len[k] ? bytes[k][i] : (uint8_t)FILL));
+            }
+        }
+        for (size_t k = 0; k < 13; k++) {
+            for (size_t i = 0; i < o.numbers_len[k]; i++) {
+                CHECK(o.numbers[k][i] == (i < wanted.numbers_len[k] ? numbers[k][i] : (uint64_t)FILL));
+            }
+        }
+    }
+    struct outputs used = {{0}, {0}, {0}, {0}};
+    lengths_of(p, &used);
+    for (size_t k = 0; k < 18; k++) {
+        if ((k < 5 ? used.bytes_len[k] : used.numbers_len[k - 5]) > 0) {
+            refused_reading(script, strlen(script), lent(p, 1, k), ECHO_ROOM);
+        }
+    }
+    for (size_t end = 0; end < strlen(script); end++) {
+        if (end % 16 == 0 || end + 4 > strlen(script)) {
+            refused_reading(script, end, lent(p, 0, 18), ECHO_NO_SCRIPT);
+        }
+    }
+}
+
+static void read_again(void)
+{
+    static const char wide[] = "(set-logic QF_BV)\n(declare-const |x| (_ BitVec 4294967296))\n(check-sat)\n";
+    static const struct record records[6] = {
+        {ECHO_KIND_VAR, {24, 0, 0, 0}},
+        {ECHO_KIND_VAR, {16, 0, 0, 0}},
+        {ECHO_KIND_SELECT, {0, 0, 0, 1}},
+        {ECHO_KIND_CONST, {0, 16, 0, 0}}, /* just before the call that uses it */
+        {ECHO_KIND_CALL, {0, 16, 2, 2}},
+        {ECHO_KIND_EQ, {2, 4, 0, 0}},
+    };
+    static const uint64_t side[4] = {0, 1, 0, 3};
+    struct echo_problem p = empty();
+    read_back(&p, "(set-logic QF_BV)\n(check-sat)\n");
+    p = m2();
+    read_back(&p, "(set-logic QF_BV)\n(declare-const |x| (_ BitVec 8))\n(assert (= (bvadd |x| #b00000101) |x|))\n(check-sat)\n");
+    refused_reading(wide, sizeof wide - 1, lent(&p, 0, 18), ECHO_LIMIT);
+    p = rich();
+    p.nodes = nodes_of(records, 6);
+    p.side = numbers_of(side, 4);
+    read_back(&p,
+        "(set-logic QF_AUFBV)\n"
+        "(declare-const |i| (_ BitVec 24))\n"
+        "(declare-const |v| (_ BitVec 16))\n"
+        "(declare-const |m| (Array (_ BitVec 24) (_ BitVec 16)))\n"
+        "(declare-fun |f| ((_ BitVec 24) (_ BitVec 16)) (_ BitVec 16))\n"
+        "(assert (= (select (store |m| |i| |v|) |i|) (|f| |i| #b0101010101010101)))\n"
+        "(check-sat)\n");
+    CHECK(echo_script_depth(bytes_of("(a |((| (b) ((c)))", 18), 18) == 3);
+    CHECK(echo_script_depth(bytes_of("))((", 4), 4) == 2 && echo_script_depth(bytes_of("", 0), 0) == 0);
+    CHECK(echo_read_stack(1) > echo_read_stack(0));
+}
+
 /* What is handed over is never null, and is the slice itself where it has elements. */
 static void never_null(void)
 {
@@ -601,6 +746,7 @@ int main(void)
     at_the_limits();
     records();
     files();
+    read_again();
     printf("entry points: %d checks\n", checks);
     while (kept_count > 0) {
         free(kept[--kept_count]);

@@ -2,12 +2,14 @@
 """Runs smt-echo on every entry of recorded lists and compares what it does with the recorded answers.
 
   try_smt_echo.py PROGRAM LIST ..      a LIST is a file crates/replay_*/data/*.bin (docs/RECORDED.md): the printer's, the hidden scripts',
-                                       the scripts' with let, the formulas', the sizes', the fewest roots' or the traces'
+                                       the scripts' with let, the formulas', the sizes', the fewest roots', the traces' or the scripts' that
+                                       are read back
 
 Of an accepted problem the result is compared; of a refused one the number, and something to look at must be told. What is recorded with 10
 has a result here, since the command sets aside as much as it needs. Each problem of the printer's list is also shown as text and read back:
 the binary layout must be the one begun with, and the text must be the same again. A trace is handed over as CSV, its columns in the
-opposite order; one whose values are no whole number of rows has no CSV and is left out.
+opposite order; one whose values are no whole number of rows has no CSV and is left out. What a script is read as is also printed again. A
+script that is refused with 9 has nothing to look at, nor has one that is nested too deeply or longer than 1 MB.
 """
 import os
 import struct
@@ -19,7 +21,7 @@ from problem import SIZES, layout
 from try_command import packed, recorded
 
 WORDS = {b'PRINTER2': ['print'], b'HIDDEN 2': ['print', '--hidden'], b'LET    2': ['print', '--let'], b'FORMULA2': ['formulas'],
-         b'SIZES  2': ['size'], b'FEWEST 1': ['fewest'], b'TRACES 1': ['replay']}
+         b'SIZES  2': ['size'], b'FEWEST 1': ['fewest'], b'TRACES 1': ['replay'], b'READS  1': ['read']}
 
 
 class Tally:
@@ -106,6 +108,28 @@ def traces(program, tally, csv):
             tally.refused(number, ran)
 
 
+def reads(program, tally):
+    for s in packed(tally.path, b'READS  1'):
+        head = struct.unpack_from('<30I', s)
+        script, number = s[120:120 + head[0]], head[19]
+        nodes, bits, side, roots, names, v, anames, a, fnames, f = head[20:]
+        problem, place = b'', 120 + head[0]
+        for count, size in zip((nodes, bits, side, roots, names, v, v, v, v, anames, a, a, a, a, fnames, f, f, f), SIZES):
+            problem += struct.pack('<Q', count) + s[place:place + count * size]
+            place += count * size
+        tally.entry(number)
+        ran = status, out, told = run(program, ['read'], script)
+        if number in (0, 10):
+            tally.check('read', status == 0 and told == [] and (number == 10 or out == problem))
+            tally.check('printed again', run(program, ['print'], out) == (0, script, []))
+            tally.check('printed as it is', run(program, ['print'], script) == (0, script, []))
+        elif number == 13 and len(told) == 2:
+            tally.refused(number, ran)
+        else:
+            tally.check('refused with %d: %s' % (number, told), status == 1 and out == b'' and len(told) == 1 and told[0].startswith('refused: %d ' % number))
+            tally.check('nothing to look at', number == 9 or len(script) > 1 << 20 or script.count(b'(') > 6146)
+
+
 def main(program, paths):
     wrong = 0
     for path in paths:
@@ -114,6 +138,8 @@ def main(program, paths):
         if title == b'TRACES 1':
             with tempfile.TemporaryDirectory() as folder:
                 traces(program, tally, os.path.join(folder, 'trace.csv'))
+        elif title == b'READS  1':
+            reads(program, tally)
         else:
             problems(program, title, tally)
         print(path, 'tried', tally.tried, 'left out', tally.left, 'wrong', tally.wrong)

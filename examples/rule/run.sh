@@ -124,6 +124,13 @@ cmp cut/0.smt2 out/call.smt2
 cmp cut/1.smt2 out/load.smt2
 cmp cut/2.smt2 out/mask.smt2
 
+echo "Of the release only scripts are kept. Support has the nodes of a rule again, and what they are printed as:"
+smt-echo read --show -o out/mask.read cut/2.smt2
+sed 's/^/    /' out/mask.read
+smt-echo read cut/2.smt2 | smt-echo print | cmp - cut/2.smt2
+smt-echo replay cut/2.smt2 rows.csv > replayed
+smt-echo replay problems/mask rows.csv | diff - replayed
+
 diff -r "$story/expected" out
 if [ "$solvers" = ' z3 cvc5' ]; then
     # README.md's story: commands behind a dollar sign, and what they write.

@@ -5,7 +5,8 @@ use crate::Problem;
 /// A problem with slices of its own: [`Problem`]'s eighteen, under the same names. [`lend`](OwnedProblem::lend) hands it to the functions.
 ///
 /// It is read from and written to two forms, the binary layout ([`from_layout`](OwnedProblem::from_layout), [`Problem::to_layout`]) and the
-/// text form ([`from_text`](OwnedProblem::from_text), [`Problem::to_text`]). docs/FORMATS.md has both.
+/// text form ([`from_text`](OwnedProblem::from_text), [`Problem::to_text`]). docs/FORMATS.md has both. [`read_script`](crate::read_script) reads
+/// it from its script.
 ///
 /// ```
 /// use smt_echo::{OwnedProblem, echo_size};
@@ -37,6 +38,30 @@ pub struct OwnedProblem {
     pub fname_start: Vec<u64>,
     pub fname_len: Vec<u64>,
     pub func_width: Vec<u64>,
+}
+
+/// The eighteen slices of a problem as outputs, under the names of [`Problem`].
+#[derive(Debug)]
+#[allow(missing_docs)]
+pub struct ProblemMut<'a> {
+    pub nodes: &'a mut [u8],
+    pub bits: &'a mut [u8],
+    pub side: &'a mut [u64],
+    pub roots: &'a mut [u64],
+    pub names: &'a mut [u8],
+    pub name_start: &'a mut [u64],
+    pub name_len: &'a mut [u64],
+    pub var_node: &'a mut [u64],
+    pub var_width: &'a mut [u64],
+    pub anames: &'a mut [u8],
+    pub aname_start: &'a mut [u64],
+    pub aname_len: &'a mut [u64],
+    pub index_width: &'a mut [u64],
+    pub value_width: &'a mut [u64],
+    pub fnames: &'a mut [u8],
+    pub fname_start: &'a mut [u64],
+    pub fname_len: &'a mut [u64],
+    pub func_width: &'a mut [u64],
 }
 
 /// The names of the eighteen inputs, in order.
@@ -97,6 +122,30 @@ impl OwnedProblem {
             fname_start: &self.fname_start,
             fname_len: &self.fname_len,
             func_width: &self.func_width,
+        }
+    }
+
+    /// The problem's slices, lent as outputs: what [`read_script_into`](crate::read_script_into) writes.
+    pub fn lend_mut(&mut self) -> ProblemMut<'_> {
+        ProblemMut {
+            nodes: &mut self.nodes,
+            bits: &mut self.bits,
+            side: &mut self.side,
+            roots: &mut self.roots,
+            names: &mut self.names,
+            name_start: &mut self.name_start,
+            name_len: &mut self.name_len,
+            var_node: &mut self.var_node,
+            var_width: &mut self.var_width,
+            anames: &mut self.anames,
+            aname_start: &mut self.aname_start,
+            aname_len: &mut self.aname_len,
+            index_width: &mut self.index_width,
+            value_width: &mut self.value_width,
+            fnames: &mut self.fnames,
+            fname_start: &mut self.fname_start,
+            fname_len: &mut self.fname_len,
+            func_width: &mut self.func_width,
         }
     }
 

@@ -3,14 +3,14 @@
 //! The library asks of its caller what include/echo.h lists, and a safe caller of the functions here cannot fail in it:
 //!
 //! - each pointer comes from a slice, so it is not null, is aligned, and is good for its length;
-//! - the output is a `&mut` slice, so no input overlaps it, and no other thread has it;
+//! - each output is a `&mut` slice, so no input and no other output overlaps it, and no other thread has it;
 //! - the inputs are `&` slices, so nobody writes them during the call; the library only reads them and keeps no pointer;
 //! - the structs that are answered are declared as in the header, and any bits are a value of their fields;
 //! - nothing is asked of the elements.
 //!
 //! The library never unwinds.
 
-use crate::Problem;
+use crate::{Problem, ProblemMut};
 
 #[repr(C)]
 pub struct EchoAnswer {
@@ -57,8 +57,23 @@ pub struct TraceAnswer {
     pub rows: u64,
 }
 
+#[repr(C)]
+pub struct ReadAnswer {
+    pub number: u64,
+    pub nodes: u64,
+    pub bits: u64,
+    pub side: u64,
+    pub roots: u64,
+    pub names: u64,
+    pub variables: u64,
+    pub anames: u64,
+    pub arrays: u64,
+    pub fnames: u64,
+    pub functions: u64,
+}
+
 mod c {
-    use super::{EchoAnswer, FewestAnswer, RecordAnswer, ScriptAnswer, SizeAnswer, TraceAnswer, WidthAnswer};
+    use super::{EchoAnswer, FewestAnswer, ReadAnswer, RecordAnswer, ScriptAnswer, SizeAnswer, TraceAnswer, WidthAnswer};
 
     unsafe extern "C" {
         pub fn echo_ext(
@@ -364,6 +379,47 @@ mod c {
         ) -> WidthAnswer;
 
         pub fn next_script(file: *const u8, file_len: usize) -> ScriptAnswer;
+
+        pub fn read_script(
+            script: *const u8,
+            script_len: usize,
+            nodes: *mut u8,
+            nodes_len: usize,
+            bits: *mut u8,
+            bits_len: usize,
+            side: *mut u64,
+            side_len: usize,
+            roots: *mut u64,
+            roots_len: usize,
+            names: *mut u8,
+            names_len: usize,
+            name_start: *mut u64,
+            name_start_len: usize,
+            name_len: *mut u64,
+            name_len_len: usize,
+            var_node: *mut u64,
+            var_node_len: usize,
+            var_width: *mut u64,
+            var_width_len: usize,
+            anames: *mut u8,
+            anames_len: usize,
+            aname_start: *mut u64,
+            aname_start_len: usize,
+            aname_len: *mut u64,
+            aname_len_len: usize,
+            index_width: *mut u64,
+            index_width_len: usize,
+            value_width: *mut u64,
+            value_width_len: usize,
+            fnames: *mut u8,
+            fnames_len: usize,
+            fname_start: *mut u64,
+            fname_start_len: usize,
+            fname_len: *mut u64,
+            fname_len_len: usize,
+            func_width: *mut u64,
+            func_width_len: usize,
+        ) -> ReadAnswer;
 
         pub fn shorten_records(old: *const u8, old_len: usize, out: *mut u8, out_len: usize) -> RecordAnswer;
 
@@ -716,6 +772,52 @@ pub fn ext_wf(nodes: &[u8], bits: &[u8], side: &[u64], index_width: &[u64], valu
 pub fn next_script(file: &[u8]) -> ScriptAnswer {
     // SAFETY: the list at the top.
     unsafe { c::next_script(file.as_ptr(), file.len()) }
+}
+
+pub fn read_script(script: &[u8], out: &mut ProblemMut<'_>) -> ReadAnswer {
+    // SAFETY: the list at the top.
+    unsafe {
+        c::read_script(
+            script.as_ptr(),
+            script.len(),
+            out.nodes.as_mut_ptr(),
+            out.nodes.len(),
+            out.bits.as_mut_ptr(),
+            out.bits.len(),
+            out.side.as_mut_ptr(),
+            out.side.len(),
+            out.roots.as_mut_ptr(),
+            out.roots.len(),
+            out.names.as_mut_ptr(),
+            out.names.len(),
+            out.name_start.as_mut_ptr(),
+            out.name_start.len(),
+            out.name_len.as_mut_ptr(),
+            out.name_len.len(),
+            out.var_node.as_mut_ptr(),
+            out.var_node.len(),
+            out.var_width.as_mut_ptr(),
+            out.var_width.len(),
+            out.anames.as_mut_ptr(),
+            out.anames.len(),
+            out.aname_start.as_mut_ptr(),
+            out.aname_start.len(),
+            out.aname_len.as_mut_ptr(),
+            out.aname_len.len(),
+            out.index_width.as_mut_ptr(),
+            out.index_width.len(),
+            out.value_width.as_mut_ptr(),
+            out.value_width.len(),
+            out.fnames.as_mut_ptr(),
+            out.fnames.len(),
+            out.fname_start.as_mut_ptr(),
+            out.fname_start.len(),
+            out.fname_len.as_mut_ptr(),
+            out.fname_len.len(),
+            out.func_width.as_mut_ptr(),
+            out.func_width.len(),
+        )
+    }
 }
 
 pub fn shorten_records(old: &[u8], out: &mut [u8]) -> RecordAnswer {

@@ -12,8 +12,8 @@ use std::process::{Command, Stdio};
 
 const PROGRAM: &str = env!("CARGO_BIN_EXE_smt-echo");
 
-const SUBCOMMANDS: [&str; 10] =
-    ["print", "size", "widths", "formulas", "fewest", "split", "replay", "shorten", "lengthen", "show"];
+const SUBCOMMANDS: [&str; 11] =
+    ["print", "size", "widths", "formulas", "fewest", "split", "read", "replay", "shorten", "lengthen", "show"];
 
 const M2: &str = "problem\nvariable |x| 8 node 0\n0 var 8\n1 const 5 8\n2 add 0 1\n3 eq 2 0\nroot 3\n";
 
@@ -644,16 +644,19 @@ fn files() {
     fs::write(path("slip"), M2.replace("add", "plus")).unwrap();
     fs::File::create(path("huge")).unwrap().set_len(1 << 40).unwrap(); // a hole, which takes no room
 
-    assert_eq!(run(&["print", &path("m2")], b"").done(), M2_SCRIPT.as_bytes());
+    for name in ["m2", "script"] {
+        assert_eq!(run(&["print", &path(name)], b"").done(), M2_SCRIPT.as_bytes());
+    }
     assert_eq!(shell("smt-echo size -- -m2", &folder), (0, "length 103\nterms 5\n".into()));
+    let none =
+        "is no problem: it begins neither with the line `problem`, nor with a count of the binary layout, nor with `(set-logic `";
     for (name, why) in [
         ("missing", "cannot be read: No such file or directory (os error 2)"),
         ("", "cannot be read: Is a directory (os error 21)"),
         ("m2/x", "cannot be read: Not a directory (os error 20)"),
         ("empty", "is empty, and no problem: the empty problem is the line `problem`"),
-        ("script", "is a script, and a problem is wanted: scripts are not read back here"),
-        ("text", "is no problem: it begins neither with the line `problem` nor with a count of the binary layout"),
-        ("binary", "is no problem: it begins neither with the line `problem` nor with a count of the binary layout"),
+        ("text", none),
+        ("binary", none),
         ("short", "is no problem in the binary layout: ends early in input 1, nodes"),
         ("zeros", "is no problem in the binary layout: bytes are left over after input 18, func_width"),
         ("huge", "is longer than 16777216 bytes, the most that are read"),
@@ -802,4 +805,59 @@ fn deep() {
     let wrong = text.replace("|x| 8", "|x| 9");
     let (number, look) = run(&["print"], wrong.as_bytes()).refused();
     assert_eq!((number, look.as_str()), (4, "below node 1, `neg 0`: node 0, `var 8`, has width 8, and variable 0, |x|, has 9"));
+}
+
+/// Scripts read back: by `read`, and wherever a problem is wanted.
+#[test]
+fn scripts_read_back() {
+    let layout = run(&["show", "--binary"], M2.as_bytes()).done();
+    assert_eq!(run(&["read"], M2_SCRIPT.as_bytes()).done(), layout);
+    assert_eq!(run(&["read", "--show"], M2_SCRIPT.as_bytes()).done(), run(&["show"], &layout).done());
+    for subcommand in [&["print"][..], &["print", "--hidden"], &["size"], &["widths"], &["formulas"], &["fewest"], &["show"]] {
+        assert_eq!(run(subcommand, M2_SCRIPT.as_bytes()).done(), run(subcommand, &layout).done(), "{subcommand:?}");
+    }
+    assert_eq!(run(&["print"], &run(&["read"], M2_SCRIPT.as_bytes()).done()).done(), M2_SCRIPT.as_bytes());
+
+    // 13, with the line to look at
+    let change = |from: &str, to: &str| {
+        assert!(M2_SCRIPT.contains(from), "{from}");
+        M2_SCRIPT.replace(from, to)
+    };
+    for (script, look) in [
+        (change("(check-sat)\n", ""), "the end: a script ends with the line `(check-sat)`"),
+        (change("(check-sat)\n", "(check-sat)\n; that is all\n"), "line 5: more follows the line `(check-sat)`"),
+        (M2_SCRIPT.repeat(2), "line 5: more follows the line `(check-sat)`; `smt-echo split` cuts scripts that stand end to end"),
+        (change("QF_BV", "QF_ABV"), "line 1: the logic is not the one of these declarations"),
+        (
+            change("BitVec 8", "BitVec 08"),
+            "line 2: it is no declaration as the printer writes it, or its name is refused or given before",
+        ),
+        (
+            change("|x| (_", "|let| (_"),
+            "line 2: it is no declaration as the printer writes it, or its name is refused or given before",
+        ),
+        (change("(bvadd |x|", "(bvadd |y|"), "line 3: it is no assertion over these declarations as the printer writes it"),
+        (
+            change("(check-sat)", "(declare-const |z| (_ BitVec 8))\n(check-sat)"),
+            "line 4: it is no assertion over these declarations as the printer writes it",
+        ),
+        (change("(= (bvadd", "(=  (bvadd"), "line 3: it is no assertion over these declarations as the printer writes it"),
+        (change("#b00000101", "#b101"), "line 3: it is no assertion over these declarations as the printer writes it"),
+    ] {
+        assert_eq!(run(&["read"], script.as_bytes()).refused(), (13, look.to_string()), "{script}");
+        assert_eq!(run(&["size"], script.as_bytes()).refused(), (13, look.to_string()), "{script}");
+    }
+    assert_eq!(run(&["read"], b"(check-sat)\n").refused(), (13, "line 1: a script begins with the line of its logic".into()));
+    let told = run(&["read"], b"Hello, world!\n");
+    assert!(told.status == 1 && told.err.starts_with("refused: 13 NoScript: the bytes are no problem's script"), "{told:?}");
+
+    // 9: a width that its record cannot hold, and a script nested more deeply than there are nodes
+    let wide = run(
+        &["read"],
+        change("BitVec 8", "BitVec 4294967296").replace("(assert (= (bvadd |x| #b00000101) |x|))\n", "").as_bytes(),
+    );
+    assert!(wide.status == 1 && wide.err.starts_with("refused: 9 Limit: "), "{wide:?}");
+    let deep = change("(= (bvadd |x| #b00000101) |x|)", &("(not ".repeat(200_000) + "(= |x| |x|)" + &")".repeat(200_000)));
+    let deep = run(&["read"], deep.as_bytes());
+    assert!(deep.status == 1 && deep.err.starts_with("refused: 9 Limit: "), "{deep:?}");
 }

@@ -37,6 +37,13 @@ fn functions_over_the_struct() {
     }
 }
 
+/// The stack of a reading is told by the same numbers.
+#[test]
+fn stack_of_a_reading() {
+    let (base, byte) = (read_stack(0), read_stack(1) - read_stack(0));
+    assert!(HEADER.contains(&format!("    return {base} + {byte} * script_len;\n")));
+}
+
 #[test]
 fn limits_numbers_and_kinds() {
     let mut here: BTreeMap<String, u64> = BTreeMap::new();
@@ -50,11 +57,13 @@ fn limits_numbers_and_kinds() {
         ("ECHO_MAX_COLUMN_LEN", MAX_COLUMN_LEN),
         ("ECHO_MAX_ARENA_LEN", MAX_ARENA_LEN),
         ("ECHO_MAX_ARRAY_WIDTH", MAX_ARRAY_WIDTH as usize),
+        ("ECHO_MAX_SCRIPT_DEPTH", MAX_SCRIPT_DEPTH),
         ("ECHO_ACCEPTED", 0),
     ] {
         here.insert(name.into(), value as u64);
     }
     here.insert("ECHO_SHORT_RECORD".into(), RecordRefusal::ShortRecord.number());
+    here.insert("ECHO_NO_SCRIPT".into(), ReadRefusal::NoScript.number());
     for refusal in Refusal::ALL {
         // Words of a name are parted by a low line there.
         let name = format!("{refusal:?}").replace("ArrayWidth", "Array_Width");
@@ -71,5 +80,5 @@ fn limits_numbers_and_kinds() {
 
     let there: BTreeMap<String, u64> = header().into_iter().map(|(name, value)| (name.to_string(), value)).collect();
     assert_eq!(here, there);
-    assert_eq!(here.len(), 9 + 16 + 39);
+    assert_eq!(here.len(), 10 + 17 + 39);
 }

@@ -1,6 +1,6 @@
-//! What is read: a file or standard input, and a problem in either of its forms.
+//! What is read: a file or standard input, and a problem in any of its forms.
 
-use crate::Failure;
+use crate::{Failure, read};
 use smt_echo::{OwnedProblem, TEXT_HEAD};
 use std::fmt;
 use std::fs::File;
@@ -56,13 +56,14 @@ impl Source {
         let bytes = self.bytes(PROBLEM)?;
         if bytes.is_empty() {
             Err(self.not_done("is empty, and no problem: the empty problem is the line `problem`".into()))
-        } else if bytes.starts_with(b"(set-logic ") {
-            Err(self.not_done("is a script, and a problem is wanted: scripts are not read back here".into()))
+        } else if bytes.starts_with(read::HEAD) {
+            read::script(&bytes)
         } else if bytes.starts_with(TEXT_HEAD.as_bytes()) {
             OwnedProblem::from_text(&bytes).map_err(|error| self.malformed(error))
         } else if bytes.len() >= 8 && bytes[4..8] != [0; 4] {
             Err(self.not_done(
-                "is no problem: it begins neither with the line `problem` nor with a count of the binary layout".into(),
+                "is no problem: it begins neither with the line `problem`, nor with a count of the binary layout, nor with `(set-logic `"
+                    .into(),
             ))
         } else {
             OwnedProblem::from_layout(&bytes)

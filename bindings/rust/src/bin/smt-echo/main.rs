@@ -30,6 +30,7 @@ commands! {
     formulas
     fewest
     split
+    read
     replay
     shorten
     lengthen
@@ -128,8 +129,8 @@ fn overview() -> String {
         text += &format!("    {:10}{}\n", command.name, command.summary);
     }
     text += "\n\
-        FILE is read, or standard input where it is left out or `-`. A problem is in the binary layout or in the text form, told by its\n\
-        first bytes; a trace is CSV. The result goes to standard output, or with `-o FILE` to a file, whole or not at all; all else to\n\
+        FILE is read, or standard input where it is left out or `-`. A problem is in the binary layout, in the text form or a script, told\n\
+        by its first bytes; a trace is CSV. The result goes to standard output, or with `-o FILE` to a file, whole or not at all; all else to\n\
         standard error.\n\n\
         Exit status: 0 done; 1 refused, with the number and what to look at; 2 a wrong command line, a file that cannot be read or\n\
         written, an input that is none, or a result over what memory allows.\n\n\
