@@ -16,15 +16,15 @@ if [ "${1:-}" = --rows ]; then
     "$room/record" rows "$2"
     exit
 fi
-for list in widths printer sizes hidden let formulas fewest scripts records traces reads; do mkdir -p "$here/../crates/replay_$list/data"; done
+for list in problems scripts records traces reads; do mkdir -p "$here/../crates/replay_$list/data"; done
 cd "$here/.."
-"$room/record" widths crates/replay_widths/data/widths.bin "$@"
-"$room/record" printer crates/replay_printer/data/printer.bin "$@"
-"$room/record" sizes crates/replay_sizes/data/sizes.bin "$@"
-"$room/record" hidden crates/replay_hidden/data/hidden.bin "$@"
-"$room/record" let crates/replay_let/data/let.bin "$@"
-"$room/record" fewest crates/replay_fewest/data/fewest.bin "$@"
-"$room/record" formulas crates/replay_formulas/data/formulas.bin "$@"
+"$room/record" widths crates/replay_problems/data/widths.bin "$@"
+"$room/record" printer crates/replay_problems/data/printer.bin "$@"
+"$room/record" sizes crates/replay_problems/data/sizes.bin "$@"
+"$room/record" hidden crates/replay_problems/data/hidden.bin "$@"
+"$room/record" let crates/replay_problems/data/let.bin "$@"
+"$room/record" fewest crates/replay_problems/data/fewest.bin "$@"
+"$room/record" formulas crates/replay_problems/data/formulas.bin "$@"
 "$room/record" scripts crates/replay_scripts/data/scripts.bin "$@"
 "$room/record" records crates/replay_records/data/records.bin "$@"
 "$room/record" traces crates/replay_traces/data/traces.bin "$@"

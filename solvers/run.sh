@@ -6,7 +6,7 @@
 # 2 if nothing could be asked. docs/SOLVERS.md says what the report means.
 set -eu
 here=$(cd "$(dirname "$0")" && pwd)
-list=$here/../crates/replay_printer/data/printer.bin
+list=$here/../crates/replay_problems/data/printer.bin
 case "${1:-}" in
     "" | -*) ;;
     *) list=$1; shift ;;
