@@ -20,13 +20,13 @@ use Rattle.echo_spec.specs.Render.{render}
 use Rattle.echo_spec.specs.Answers.{script, endlessWith, endlessRefusal}
 use Rattle.echo_bytes.specs.declared.Place.{Place}
 use Rattle.echo_bytes.specs.Page.{Page, page, written}
-use Rattle.lent.specs.Lent.{Slice, dagAt}
+use Rattle.lent.specs.Lent.{Slice, problemAt, dagAt}
 use Rattle.sliver_kernel.specs.Pass.{Passed, ext-wf-short, passed-within}
 use Rattle.echo_kernel.specs.declared.Out.{Out}
 use Rattle.echo_kernel.specs.declared.Out.the-variants.{Done, Refused}
 use Rattle.echo_kernel.specs.Scripts.{plainScript, declaredChecks, tablesRefusal}
 use Rattle.echo_kernel.specs.Outcomes.{Wrote}
-use Rattle.echo_kernel.specs.Prepared.{WellFormed, Filled, Filling, Measure}
+use Rattle.echo_kernel.specs.Prepared.{WellFormed, Filled, Filling, Preparing, Measure}
 
 pub bits-binary : (p : Problem) → T (encoded (p .nodes) (p .bits)) → T (every (λ b. leb b 1) (p .bits))
 unfolding encoded
@@ -82,6 +82,52 @@ module _ (p : Problem) (ws : List ℕ) where
         → Wrote (declaredChecks (dagOf p) ws (walkRoots (dagOf p) ws (p .roots))) text pg o l → Wrote (tablesRefusal p ws) text pg o l
     unfolding tablesRefusal dagOf
     names-passed s w = rw (n, s) w
+
+-- ---------------------------------------------------------------- the same, with the tables that are filled
+
+-- what is left of the checks
+checks-left : (p : Problem) (ws : List ℕ) → namesOk (dagOf p) ≡ true → unshared (nodesOf (p .nodes)) (p .side) (p .roots) ≡ true
+    → tablesRefusal p ws ≡ declaredChecks (dagOf p) ws (walkRoots (dagOf p) ws (p .roots))
+unfolding tablesRefusal dagOf
+checks-left p ws n s = rw (n, s) refl
+
+module _ (B N : List Slice) (ws : List ℕ) {entries codes first : List ℕ} where
+  -- a check that is refused with r
+  none-prepared : {r : ℕ} → 0 < r → tablesRefusal (problemAt B N) ws ≡ r → Preparing B N ws r entries codes first
+  none-prepared h e = record { refused = λ z. e; passed = λ z. absurd (omega arith); prepared = λ z. absurd (omega arith) }
+
+  pub names-refused : namesOk (dagAt B N) ≡ false → Preparing B N ws 2 entries codes first
+  names-refused e = none-prepared (omega arith) (unfold tablesRefusal in rw e refl)
+
+  module _ (n : namesOk (dagAt B N) ≡ true) where
+    pub sharing-refused : unshared (nodesOf (problemAt B N .nodes)) (problemAt B N .side) (problemAt B N .roots) ≡ false → Preparing B N ws 6 entries codes first
+    unfolding dagOf
+    sharing-refused e = none-prepared (omega arith) (unfold tablesRefusal in rw (n, e) refl)
+
+    module _ (s : unshared (nodesOf (problemAt B N .nodes)) (problemAt B N .side) (problemAt B N .roots) ≡ true) where
+      module _ {d : ℕ} (f : Filling B N ws d entries codes first) where
+        pub filling-refused : 0 < d → Preparing B N ws d entries codes first
+        filling-refused h = none-prepared h (checks-left (problemAt B N) ws n s ∙ f .refused h _)
+
+        pub roots-told : WellFormed (problemAt B N) ws → d ≤ 0 → {r : ℕ} → r ≡ walkRoots (dagAt B N) ws (problemAt B N .roots) → Preparing B N ws r entries codes first
+        roots-told w h {r} e =
+            let t : tablesRefusal (problemAt B N) ws ≡ r = checks-left (problemAt B N) ws n s ∙ f .passed h _ ∙ sym e in
+            record {
+              refused = λ z. t;
+              passed = λ z. omega arith;
+              prepared = λ z.
+                  let g = f .filled h in
+                  record { formed = w; aligned = g .aligned; marked = g .marked; entered = g .entered; declarable = g .declarable; walked = omega arith };
+            }
+
+-- what is refused, and what is written where nothing is
+module _ {B N : List Slice} {ws : List ℕ} {r : ℕ} {entries codes first : List ℕ} (h : Preparing B N ws r entries codes first) where
+  pub prepare-refused : 0 < r → {text : List ℕ} {pg : Page} {l : List ℕ} → Wrote (tablesRefusal (problemAt B N) ws) text pg (Refused r) l
+  prepare-refused z = wrote-refused (tablesRefusal (problemAt B N) ws) (h .refused z) z
+
+  pub prepare-done : r ≤ 0 → {q : Place} {text : List ℕ} {pg : Page} {l : List ℕ} → page q l ≡ written pg text
+      → Wrote (tablesRefusal (problemAt B N) ws) text pg (Done q) l
+  prepare-done z w = wrote-done (tablesRefusal (problemAt B N) ws) (h .passed z) w
 
 -- ---------------------------------------------------------------- from the limits on
 

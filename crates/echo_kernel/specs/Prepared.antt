@@ -10,7 +10,7 @@ use Rattle.echo_spec.specs.Widths.{arrayWidthsOk, ext-wf}
 use Rattle.echo_spec.specs.Tables.{columnsOk}
 use Rattle.echo_spec.specs.Walk.{walkRoots, checks}
 use Rattle.echo_spec.specs.Answers.{endlessWith}
-use Rattle.echo_kernel.specs.Scripts.{declaredChecks}
+use Rattle.echo_kernel.specs.Scripts.{declaredChecks, tablesRefusal}
 use Rattle.echo_spec.specs.ColumnLaws.{Aligned}
 use Rattle.lent.specs.Lent.{Slice, problemAt, dagAt}
 use Rattle.echo_tables.specs.Found.{Entries}
@@ -54,3 +54,9 @@ pub record Prepared (B N : List Slice) (ws entries codes first : List ℕ) : Typ
   pub entered : Entries (problemAt B N .var-node) entries
   pub declarable : Declarable B N first
   pub walked : walkRoots (dagAt B N) ws (problemAt B N .roots) ≡ 0
+
+-- what the checks from the names on are refused with, and the tables where they are not
+pub record Preparing (B N : List Slice) (ws : List ℕ) (r : ℕ) (entries codes first : List ℕ) : Type 0 where
+  pub refused : 0 < r → tablesRefusal (problemAt B N) ws ≡ r
+  pub passed : r ≤ 0 → tablesRefusal (problemAt B N) ws ≡ 0
+  pub prepared : r ≤ 0 → Prepared B N ws entries codes first

@@ -30,16 +30,15 @@ use refusals::VAR;
 ghost use mathlib.Core.Path.{_≡_};
 ghost use Prim.Native.Nat.{ℕ, _+_, _≤_, _<_};
 ghost use lib.ListN.{length, getD};
-ghost use Rattle.lent.specs.Lent.{problemAt, dagAt, problemOf};
+ghost use Rattle.lent.specs.Lent.{problemAt, problemOf};
 ghost use Rattle.echo_bytes.specs.Page.{page, start, after, written};
 ghost use Rattle.echo_walk.specs.Ready.{textAt, Ready, Fine};
 ghost use Rattle.echo_spec.specs.Input.{queryOf};
-ghost use Rattle.echo_spec.specs.Walk.{walkRoots};
 ghost use Rattle.lent.specs.Clearing.{Zeros};
 ghost use Rattle.echo_spec.specs.Answers.{script, endlessRefusal, echo-ext-answer};
-ghost use Rattle.echo_kernel.specs.Scripts.{rootText, rootsText, AllFine, plainScript, declaredChecks, tablesRefusal};
+ghost use Rattle.echo_kernel.specs.Scripts.{rootText, rootsText, AllFine, plainScript, tablesRefusal};
 ghost use Rattle.echo_kernel.specs.Outcomes.{Wrote, answered};
-ghost use Rattle.echo_kernel.specs.Prepared.{Prepared, WellFormed, Filling, Measure};
+ghost use Rattle.echo_kernel.specs.Prepared.{Prepared, WellFormed, Filling, Preparing, Measure};
 
 // ---------------------------------------------------------------- roots
 
@@ -169,29 +168,30 @@ pub fn fill(
     0
 }
 
-// The plain script of a problem without shared operators, from the declared variables on. Ruled out: a root's refusal before that of a
-// declared function; a script though a root is refused.
-pub fn printed(
+// The checks from the names on, in order: the first refusal, or 0 with the tables filled that the walk looks up. The tables are 0 at first.
+// Ruled out: a root's refusal before that of a declared function; a shared operator let through.
+pub fn prepare(
     bytes: &[&[u8]; BYTES],
     numbers: &[&[u64]; NUMBERS],
     ws: &[u64],
-    out: &mut [u8],
-) -> Out
-    requires { ⌜ WellFormed (problemAt (now bytes) (now numbers)) (now ws) ⌝ }
-    ensures { λ r. ⌜ Wrote (declaredChecks (dagAt (now (bytes .entry)) (now (numbers .entry))) (now (ws .entry)) (walkRoots (dagAt (now (bytes .entry)) (now (numbers .entry))) (now (ws .entry)) (problemAt (now (bytes .entry)) (now (numbers .entry)) .roots))) (plainScript (problemAt (now (bytes .entry)) (now (numbers .entry))) (now (ws .entry))) (page start (now (out .entry))) r (now (out .exit)) ⌝ }
+    entries: &mut [u64; MAX_NODES],
+    codes: &mut [u64; MAX_NODES],
+    first: &mut [u64; MAX_ENTRIES],
+) -> u64
+    requires { ⌜ WellFormed (problemAt (now bytes) (now numbers)) (now ws) × Zeros (now codes) ⌝ }
+    ensures { λ r. ⌜ Preparing (now (bytes .entry)) (now (numbers .entry)) (now (ws .entry)) r (now (entries .exit)) (now (codes .exit)) (now (first .exit)) ⌝ }
 {
-    let mut entries = [0u64; MAX_NODES];
-    let mut codes = [0u64; MAX_NODES];
-    let mut first = [0u64; MAX_ENTRIES];
-    let d = fill(bytes, numbers, ws, &mut entries, &mut codes, &mut first);
+    if !echo_checks::names_ok(bytes, numbers) {
+        return NAME;
+    }
+    if !echo_sharing::unshared(bytes[NODES], numbers[SIDE], numbers[ROOTS]) {
+        return SHARED;
+    }
+    let d = fill(bytes, numbers, ws, entries, codes, first);
     if d > 0 {
-        return Out::Refused(d);
+        return d;
     }
-    let e = echo_tables::roots_refused(bytes, numbers, ws, &codes, numbers[ROOTS]);
-    if e > 0 {
-        return Out::Refused(e);
-    }
-    Out::Done(print(bytes, numbers, ws, &entries, &codes, &first, out))
+    echo_tables::roots_refused(bytes, numbers, ws, codes, numbers[ROOTS])
 }
 
 // From the names on: the columns are of one length, and the nodes well formed and of these widths.
@@ -199,13 +199,14 @@ fn tables(bytes: &[&[u8]; BYTES], numbers: &[&[u64]; NUMBERS], ws: &[u64], out: 
     requires { ⌜ WellFormed (problemAt (now bytes) (now numbers)) (now ws) ⌝ }
     ensures { λ r. ⌜ Wrote (tablesRefusal (problemAt (now (bytes .entry)) (now (numbers .entry))) (now (ws .entry))) (plainScript (problemAt (now (bytes .entry)) (now (numbers .entry))) (now (ws .entry))) (page start (now (out .entry))) r (now (out .exit)) ⌝ }
 {
-    if !echo_checks::names_ok(bytes, numbers) {
-        return Out::Refused(NAME);
+    let mut entries = [0u64; MAX_NODES];
+    let mut codes = [0u64; MAX_NODES];
+    let mut first = [0u64; MAX_ENTRIES];
+    let e = prepare(bytes, numbers, ws, &mut entries, &mut codes, &mut first);
+    if e > 0 {
+        return Out::Refused(e);
     }
-    if !echo_sharing::unshared(bytes[NODES], numbers[SIDE], numbers[ROOTS]) {
-        return Out::Refused(SHARED);
-    }
-    printed(bytes, numbers, ws, out)
+    Out::Done(print(bytes, numbers, ws, &entries, &codes, &first, out))
 }
 
 // The checks before the names, in order, and the widths of the nodes. Ruled out: a limit told after the encoding; a node that is not well

@@ -1,7 +1,7 @@
 -- What each way out of `size_of` answers. Assumes nothing.
 use Prim.Native.Nat.{ℕ, zero, suc, _+_, _^_, _-_, _≤_, _<_, min}
 use mathlib.Core.Path.{_≡_, refl, sym, ap, _∙_}
-use mathlib.Core.List.{List}
+use mathlib.Core.List.{List, []}
 use native.Mathlib.Omega.{arith}
 use lib.Dec.{T, lt→ltb, le→leb}
 use lib.ListN.{length, getD}
@@ -10,6 +10,7 @@ use Rattle.echo_spec.specs.Input.{Problem, arrayWidths, nodesOf, dagOf, largest
 use Rattle.echo_spec.specs.Answers.{script, endlessRefusal}
 use Rattle.echo_bytes.specs.declared.Place.{Place}
 use Rattle.echo_bytes.specs.Page.{Page, page, start, written}
+use Rattle.echo_bytes.specs.Laws.{written-full}
 use Rattle.refusals.specs.declared.EchoError.{EchoError}
 use Rattle.refusals.specs.Numbers.{errorNumber}
 use Rattle.echo_kernel.specs.declared.Out.{Out}
@@ -27,6 +28,10 @@ use Rattle.echo_size.specs.Sized.{answered, Columns}
 -- a column of numbers that each have 64 bits
 pub column-fits : (xs : List ℕ) → ((i : ℕ) → getD xs i 0 < 2 ^ 64) → T (every fits64 xs)
 column-fits xs h = places-every fits64 0 xs (λ i l. let m = h i in le→leb (getD xs i 0) largest (omega arith))
+
+-- the place that a text comes to in a buffer of no bytes
+pub sized-place : (text : List ℕ) {n : ℕ} → n ≡ held (length text) → page (record { at = 0; need = n }) [] ≡ written (page start []) text
+sized-place text {n} e = written-full start [] text n (omega arith) (omega arith)
 
 none-told : (q : Query) (x : ℕ) → 0 < x → _≡_ {A = SizeAnswer} (record { number = x; length = 0; terms = 0 }) (sizeWith x q)
 unfolding sizeWith

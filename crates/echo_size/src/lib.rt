@@ -1,13 +1,24 @@
 // Room for a script, known beforehand (document 02, L1): the entry point `echo_size` over the same inputs as `echo_ext` and no output.
+use echo_bytes::Place;
 use echo_kernel::Out;
 use lent::BYTES;
 use lent::NODES;
 use lent::NUMBERS;
 use lent::ROOTS;
 use lent::SIDE;
+use lent::node_count;
 use refusals::EchoError;
+use refusals::MAX_ENTRIES;
+use refusals::MAX_NODES;
 ghost use mathlib.Core.Path.{_≡_};
+ghost use mathlib.Core.List.{[]};
+ghost use Rattle.echo_spec.specs.Input.{queryOf};
+ghost use Rattle.echo_spec.specs.Answers.{script, endlessRefusal};
 ghost use Rattle.lent.specs.Lent.{problemAt, problemOf};
+ghost use Rattle.echo_bytes.specs.Page.{page, start};
+ghost use Rattle.echo_kernel.specs.Scripts.{plainScript, tablesRefusal};
+ghost use Rattle.echo_kernel.specs.Outcomes.{Wrote};
+ghost use Rattle.echo_kernel.specs.Prepared.{WellFormed};
 ghost use Rattle.sizes.specs.Size.{echo-size-answer};
 ghost use Rattle.echo_size.specs.Sized.{answered, Columns};
 
@@ -19,13 +30,42 @@ pub enum Size {
     Refused(EchoError),
 }
 
-// The size of a lent problem: every check but the one for room, the script counted and not written, and the terms counted.
+// From the names on, where the nodes are well formed and of these widths: the first refusal, or the place that printing the script into a
+// buffer of no bytes comes to. Nothing is printed but the lines before the roots.
+fn sized(bytes: &[&[u8]; BYTES], numbers: &[&[u64]; NUMBERS], ws: &[u64]) -> Out
+    requires { ⌜ WellFormed (problemAt (now bytes) (now numbers)) (now ws) ⌝ }
+    ensures { λ r. ⌜ Wrote (tablesRefusal (problemAt (now (bytes .entry)) (now (numbers .entry))) (now (ws .entry))) (plainScript (problemAt (now (bytes .entry)) (now (numbers .entry))) (now (ws .entry))) (page start []) r [] ⌝ }
+{
+    let mut entries = [0u64; MAX_NODES];
+    let mut codes = [0u64; MAX_NODES];
+    let mut first = [0u64; MAX_ENTRIES];
+    let e = echo_kernel::prepare(bytes, numbers, ws, &mut entries, &mut codes, &mut first);
+    if e > 0 {
+        return Out::Refused(e);
+    }
+    let n = echo_lengths::script_length(bytes, numbers, ws, &entries, &codes, &first);
+    Out::Done(Place { at: 0, need: n })
+}
+
+// Every check but the one for room, in order, and then the length of the script.
+fn measured(bytes: &[&[u8]; BYTES], numbers: &[&[u64]; NUMBERS]) -> Out
+    ensures { λ r. ⌜ Wrote (endlessRefusal (problemAt (now (bytes .entry)) (now (numbers .entry)))) (script (queryOf (problemAt (now (bytes .entry)) (now (numbers .entry))))) (page start []) r [] ⌝ }
+{
+    let mut ws = [0u64; MAX_NODES];
+    let e = echo_kernel::measure(bytes, numbers, &mut ws);
+    if e > 0 {
+        return Out::Refused(e);
+    }
+    let n = node_count(bytes[NODES]);
+    sized(bytes, numbers, &ws[..n])
+}
+
+// The size of a lent problem: its length, and the terms counted.
 fn size_of(bytes: &[&[u8]; BYTES], numbers: &[&[u64]; NUMBERS]) -> Size
     requires { ⌜ Columns (problemAt (now bytes) (now numbers)) ⌝ }
     ensures { λ r. ⌜ answered r ≡ echo-size-answer (problemAt (now (bytes .entry)) (now (numbers .entry))) ⌝ }
 {
-    let mut none = [0u8; 0];
-    match echo_kernel::checked(bytes, numbers, &mut none) {
+    match measured(bytes, numbers) {
         Out::Refused(e) => Size::Refused(refusals::error_of(e)),
         Out::Done(p) => {
             let terms = echo_terms::count_terms(bytes[NODES], numbers[SIDE], numbers[ROOTS]);

@@ -34,9 +34,9 @@ entry t x = getD t x 1
 unfoldable pub counted : List ℕ → ℕ → List ℕ → ℕ
 counted t c xs = held (c + sumOver (entry t) xs)
 
--- a node and the operands of its form, by the table
-unfoldable pub formTerms : List ℕ → List ℕ → Form → ℕ
-formTerms t side f = held (1 + sumOver (λ (o : Operand). entry t (o .node)) (formOperands side f))
+-- so many, and the entries of the operands of a form
+unfoldable pub formSum : List ℕ → ℕ → List ℕ → Form → ℕ
+formSum t c side f = held (c + sumOver (λ (o : Operand). entry t (o .node)) (formOperands side f))
 
 -- nodes within the limit, and well formed with these side entries, and with some bits and arrays
 pub record Countable (nodes side : List ℕ) : Type 0 where
@@ -85,37 +85,37 @@ pairs-sum f (suc n) (x ∷ v ∷ side) h =
     let e : suc n + suc n ≡ suc (suc (n + n)) = omega arith in
     rw e (omega arith)
 
-module _ (t side : List ℕ) {f : Form} where
+module _ (t : List ℕ) (c : ℕ) (side : List ℕ) {f : Form} where
   -- in the arm of a match on a form
-  pub leaf-terms : f ≡ Leaf → 1 ≡ formTerms t side f
-  unfolding formTerms sumOver
-  leaf-terms q = rw q refl
+  pub leaf-sum : f ≡ Leaf → c ≤ largest → c ≡ formSum t c side f
+  unfolding formSum sumOver
+  leaf-sum q h = rw q (omega arith)
 
-  pub one-terms : {a : ℕ} {w : Bool} → f ≡ One a w → {x r : ℕ} → x ≡ entry t a → r ≡ held (1 + x) → r ≡ formTerms t side f
-  unfolding formTerms sumOver
-  one-terms q p e = rw q (omega arith)
+  pub one-sum : {a : ℕ} {w : Bool} → f ≡ One a w → {x r : ℕ} → x ≡ entry t a → r ≡ held (c + x) → r ≡ formSum t c side f
+  unfolding formSum sumOver
+  one-sum q p e = rw q (omega arith)
 
-  pub two-terms : {a b : ℕ} {w : Bool} → f ≡ Two a b w → {x y s r : ℕ} → x ≡ entry t a → s ≡ held (1 + x) → y ≡ entry t b → r ≡ held (s + y)
-      → r ≡ formTerms t side f
-  unfolding formTerms sumOver
-  two-terms q p e p′ e′ = rw q (omega arith)
+  pub two-sum : {a b : ℕ} {w : Bool} → f ≡ Two a b w → {x y s r : ℕ} → x ≡ entry t a → s ≡ held (c + x) → y ≡ entry t b → r ≡ held (s + y)
+      → r ≡ formSum t c side f
+  unfolding formSum sumOver
+  two-sum q p e p′ e′ = rw q (omega arith)
 
-  pub choice-terms : {a b c : ℕ} → f ≡ Choice a b c → {x y z s s′ r : ℕ} → x ≡ entry t a → s ≡ held (1 + x) → y ≡ entry t b → s′ ≡ held (s + y)
-      → z ≡ entry t c → r ≡ held (s′ + z) → r ≡ formTerms t side f
-  unfolding formTerms sumOver
-  choice-terms q p e p′ e′ p″ e″ = rw q (omega arith)
+  pub choice-sum : {a b d : ℕ} → f ≡ Choice a b d → {x y z s s′ r : ℕ} → x ≡ entry t a → s ≡ held (c + x) → y ≡ entry t b → s′ ≡ held (s + y)
+      → z ≡ entry t d → r ≡ held (s′ + z) → r ≡ formSum t c side f
+  unfolding formSum sumOver
+  choice-sum q p e p′ e′ p″ e″ = rw q (omega arith)
 
-  pub chain-terms : {j s n : ℕ} → f ≡ Chain j s n → n + n ≤ length (drop s side) → {x c r : ℕ} → x ≡ entry t j → c ≡ held (1 + x)
-      → r ≡ counted t c (take (n + n) (drop s side)) → r ≡ formTerms t side f
-  unfolding formTerms counted sumOver
-  chain-terms {j} {s} {n} q h p e g =
+  pub chain-sum : {j s n : ℕ} → f ≡ Chain j s n → n + n ≤ length (drop s side) → {x k r : ℕ} → x ≡ entry t j → k ≡ held (c + x)
+      → r ≡ counted t k (take (n + n) (drop s side)) → r ≡ formSum t c side f
+  unfolding formSum counted sumOver
+  chain-sum {j} {s} {n} q h p e g =
       let a = pairs-sum (entry t) n (drop s side) h in
       let b = sum-append (λ (o : Operand). entry t (o .node)) (levels n (drop s side)) (vector j ∷ []) in
       rw q (omega arith)
 
-  pub arguments-terms : {s n : ℕ} → f ≡ Arguments s n → {r : ℕ} → r ≡ counted t 1 (take (s + n - s) (drop s side)) → r ≡ formTerms t side f
-  unfolding formTerms counted
-  arguments-terms {s} {n} q e =
+  pub arguments-sum : {s n : ℕ} → f ≡ Arguments s n → {r : ℕ} → r ≡ counted t c (take (s + n - s) (drop s side)) → r ≡ formSum t c side f
+  unfolding formSum counted
+  arguments-sum {s} {n} q e =
       let z : s + n - s ≡ n = omega arith in
       let a = sum-map (λ (o : Operand). entry t (o .node)) vector (take n (drop s side)) in
       let e′ = rw z at e in
@@ -158,13 +158,13 @@ module _ {t side nodes : List ℕ} {i : ℕ} (c : Countable nodes side) (f : Fil
     pub node-within : FormInside side (formAs m (shape m))
     node-within = rw (e ∙ sym here) (node-inside (c .bits) (c .arrays) side (nodesOf nodes) i (omega (arith, c .formed)))
 
-    step-held : {x : ℕ} → x ≡ formTerms t side (formAs m (shape m)) → x ≡ held (countStep side (nodesOf nodes) (countsBelow side (nodesOf nodes) i) i)
-    unfolding formTerms countStep
+    step-held : {x : ℕ} → x ≡ formSum t 1 side (formAs m (shape m)) → x ≡ held (countStep side (nodesOf nodes) (countsBelow side (nodesOf nodes) i) i)
+    unfolding formSum countStep
     step-held q =
         q ∙ (λ k. held (1 + sumOver (λ (o : Operand). entry t (o .node)) (form-operands side ((e ∙ sym here) k) (shape ((e ∙ sym here) k)) k)))
         ∙ sums-held t (countsBelow side (nodesOf nodes) i) (f .at) (λ (o : Operand). o .node) 1 (operandsAs side own (shape own))
 
-    pub filled-next : {x : ℕ} → x ≡ formTerms t side (formAs m (shape m)) → Filled (set t i x) side nodes (i + 1)
+    pub filled-next : {x : ℕ} → x ≡ formSum t 1 side (formAs m (shape m)) → Filled (set t i x) side nodes (i + 1)
     unfolding upto
     filled-next {x} q = record { long = length-set t i x ∙ f .long; at = λ j. rw add-one (by-place (step-held q) j (eqb j i) refl) }
       where

@@ -16,7 +16,7 @@ ghost use Rattle.echo_tables.specs.Forms.{formAs};
 ghost use Rattle.echo_tables.specs.Uses.{FormInside};
 ghost use Rattle.sizes.specs.Sums.{sumOver};
 ghost use Rattle.sizes.specs.Count.{countsBelow};
-ghost use Rattle.echo_terms.specs.TermTable.{held, entry, counted, formTerms, Countable};
+ghost use Rattle.echo_terms.specs.TermTable.{held, entry, counted, formSum, Countable};
 
 const LARGEST: u64 = 18446744073709551615;
 
@@ -35,8 +35,9 @@ fn at(t: &[u64], i: u64) -> u64
     if k < t.len() { t[k] } else { 1 }
 }
 
-// So many terms, and those of each node of a list, as often as it stands there.
-fn add_each(t: &[u64], c: u64, xs: &[u64]) -> u64
+// So much, and the entries of each node of a list, as often as it stands there. Ruled out: a node that stands there twice added once; a
+// sum that wraps.
+pub fn add_each(t: &[u64], c: u64, xs: &[u64]) -> u64
     ensures { λ r. ⌜ r ≡ counted (now (t .entry)) c (now (xs .entry)) ⌝ }
 {
     let mut s = c;
@@ -61,21 +62,21 @@ fn add_pairs(t: &[u64], c: u64, side: &[u64], s: u64, n: u64) -> u64
     add_each(t, c, &side[from..to])
 }
 
-// The terms of a node, by the form of its operands and the terms of the nodes below it.
-fn form_terms(t: &[u64], side: &[u64], f: Form) -> u64
+// So much, and the entries of the operands of a form. Ruled out: a rotation's amount added; the values of stores left out.
+pub fn form_sum(t: &[u64], c: u64, side: &[u64], f: Form) -> u64
     requires { ⌜ FormInside (now side) f ⌝ }
-    ensures { λ r. ⌜ r ≡ formTerms (now (t .entry)) (now (side .entry)) f ⌝ }
+    ensures { λ r. ⌜ r ≡ formSum (now (t .entry)) c (now (side .entry)) f ⌝ }
 {
     match f {
-        Form::Leaf => 1,
-        Form::One(a, w) => plus(1, at(t, a)),
-        Form::Two(a, b, w) => plus(plus(1, at(t, a)), at(t, b)),
-        Form::Choice(a, b, c) => plus(plus(plus(1, at(t, a)), at(t, b)), at(t, c)),
-        Form::Chain(j, s, n) => add_pairs(t, plus(1, at(t, j)), side, s, n),
+        Form::Leaf => c,
+        Form::One(a, w) => plus(c, at(t, a)),
+        Form::Two(a, b, w) => plus(plus(c, at(t, a)), at(t, b)),
+        Form::Choice(a, b, d) => plus(plus(plus(c, at(t, a)), at(t, b)), at(t, d)),
+        Form::Chain(j, s, n) => add_pairs(t, plus(c, at(t, j)), side, s, n),
         Form::Arguments(s, n) => {
             let from = s as usize;
             let to = from + n as usize;
-            add_each(t, 1, &side[from..to])
+            add_each(t, c, &side[from..to])
         }
     }
 }
@@ -83,9 +84,9 @@ fn form_terms(t: &[u64], side: &[u64], f: Form) -> u64
 // The terms of a node, by the terms of the nodes below it.
 fn node_terms(t: &[u64], side: &[u64], n: Node) -> u64
     requires { ⌜ FormInside (now side) (formAs (nodeOf n) (input.shape (nodeOf n))) ⌝ }
-    ensures { λ r. ⌜ r ≡ formTerms (now (t .entry)) (now (side .entry)) (formAs (nodeOf n) (input.shape (nodeOf n))) ⌝ }
+    ensures { λ r. ⌜ r ≡ formSum (now (t .entry)) 1 (now (side .entry)) (formAs (nodeOf n) (input.shape (nodeOf n))) ⌝ }
 {
-    form_terms(t, side, operands(blast_kernel::shape(n.kind), n))
+    form_sum(t, 1, side, operands(blast_kernel::shape(n.kind), n))
 }
 
 // The terms of the roots' trees, together. Ruled out: a leaf that is entered twice counted once; a rotation's amount counted; a store

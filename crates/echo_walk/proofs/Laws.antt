@@ -231,7 +231,7 @@ module _ (B N F : List Slice) (Y : List ℕ) (ready : Ready B N F Y) (i : ℕ) w
         by-plan true = tt
         by-plan false = own-below (dagAt B N) (length (problemAt B N .bits)) (widthsIn F) (problemAt B N .bits) (ready .widths) i here
 
-    node-text : {f : Form} → f ≡ styleAt B N F .form i → styleAt B N F .head i ++ formText (textAt B N F) (problemAt B N .side) f ≡ textAt B N F i
+    pub node-text : {f : Form} → f ≡ styleAt B N F .form i → styleAt B N F .head i ++ formText (textAt B N F) (problemAt B N .side) f ≡ textAt B N F i
     unfolding plain planned dagOf
     node-text e = rw e (sym (text-passed (styleAt B N F) i form-below))
 

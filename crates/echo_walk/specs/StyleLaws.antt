@@ -100,11 +100,11 @@ text-passed s i l =
 
 -- ---------------------------------------------------------------- the text of a tree
 
-entry-first : (side : List ℕ) (s : ℕ) → s < length side → drop s side ≡ getD side s 0 ∷ drop (s + 1) side
+pub entry-first : (side : List ℕ) (s : ℕ) → s < length side → drop s side ≡ getD side s 0 ∷ drop (s + 1) side
 entry-first side s h = rw (add-one, drop-cons side s 0 h) refl
 
 -- the first pair stands last
-levels-first : (g : ℕ → List ℕ) (side : List ℕ) (s n : ℕ) → levelsText g side s (suc n) ≡ levelsText g side (s + 1 + 1) n ++ twoText g (getD side s 0) (getD side (s + 1) 0)
+pub levels-first : (g : ℕ → List ℕ) (side : List ℕ) (s n : ℕ) → levelsText g side s (suc n) ≡ levelsText g side (s + 1 + 1) n ++ twoText g (getD side s 0) (getD side (s + 1) 0)
 unfolding levelsText
 levels-first g side s zero =
     let a : s + (0 + 0) ≡ s = omega arith in

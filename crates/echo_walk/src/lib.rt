@@ -209,7 +209,8 @@ fn head_const(
     push_bits(bits, n.a, n.b, p, out)
 }
 
-fn head_rotation(
+// Ruled out: the amount as it is, and not modulo the width; the amount of another rotation.
+pub fn head_rotation(
     bytes: &[&[u8]; BYTES],
     numbers: &[&[u64]; NUMBERS],
     tables: &[&[u64]; TABLES],
@@ -230,7 +231,8 @@ fn head_rotation(
     echo_lines::open_one(symbols, n.kind, k, p, out)
 }
 
-fn head_select(
+// Ruled out: the name of another array; one store too few.
+pub fn head_select(
     bytes: &[&[u8]; BYTES],
     numbers: &[&[u64]; NUMBERS],
     tables: &[&[u64]; TABLES],
@@ -250,7 +252,8 @@ fn head_select(
     echo_lines::open_select(name_at(anames, starts, lens, n.a), n.d, p, out)
 }
 
-fn head_call(
+// Ruled out: the name of another function; a bracket before a call without arguments.
+pub fn head_call(
     bytes: &[&[u8]; BYTES],
     numbers: &[&[u64]; NUMBERS],
     tables: &[&[u64]; TABLES],
@@ -270,8 +273,9 @@ fn head_call(
     echo_lines::open_call(name_at(fnames, starts, lens, n.a), n.d, p, out)
 }
 
-// The heads of operators: of a record with two numerals, with one, with none.
-fn head_indexed(
+// The heads of operators: of a record with two numerals, with one, with none. Ruled out: the two numerals exchanged; the symbol of another
+// kind.
+pub fn head_indexed(
     bytes: &[&[u8]; BYTES],
     numbers: &[&[u64]; NUMBERS],
     symbols: &[u8; SYMBOLS],
@@ -356,8 +360,8 @@ pub fn push_named(p: Place, i: u64, out: &mut [u8]) -> Place
     c.byte(out, 124)
 }
 
-// A blank, and the text of a leaf: a variable's name or a constant.
-fn echo_leaf(
+// A blank, and the text of a leaf: a variable's name or a constant. Ruled out: a leaf without the blank; the name of another variable.
+pub fn echo_leaf(
     bytes: &[&[u8]; BYTES],
     numbers: &[&[u64]; NUMBERS],
     tables: &[&[u64]; TABLES],

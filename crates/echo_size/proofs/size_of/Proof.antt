@@ -11,21 +11,14 @@ use Rattle.echo_size.proofs.Sizing.{size-refused, countable, size-told}
 abbrev P : tie.Start → Problem
 P s = problemAt (s .args .bytes .now) (s .args .numbers .now)
 
-slice-aggregate-checked : tie.Need-slice-aggregate-checked
-slice-aggregate-checked c = search needs
-
-checked-requires : tie.Need-checked-requires
-checked-requires c κs = search needs
+measured-requires : tie.Need-measured-requires
+measured-requires c κs = search needs
 
 enum-known-e : tie.Need-enum-known-e
 enum-known-e c = search needs
 
 error-of-requires : tie.Need-error-of-requires
-error-of-requires c κs =
-    let start = c .before .before .before .before .before .before in
-    let checked = c .before .before .before .before .checked in
-    let e = c .before .e in
-    listed (P start) (checked .ensures) (e .given .1)
+error-of-requires c κs = listed (P (c .before .before .before .before)) (c .before .before .before .measured .ensures) (c .before .e .given .1)
 
 enum-known-p : tie.Need-enum-known-p
 enum-known-p c = search needs
@@ -40,34 +33,19 @@ element-copy-out-count-terms-3 : tie.Need-element-copy-out-count-terms-3
 element-copy-out-count-terms-3 c = search needs
 
 count-terms-requires : tie.Need-count-terms-requires
-count-terms-requires c κs =
-    let start = c .before .before .before .before .before .before .before .before .before in
-    let checked = c .before .before .before .before .before .before .before .checked in
-    let p = c .before .before .before .before .p in
-    countable (P start) (checked .ensures) (p .given .1)
+count-terms-requires c κs = countable (P (c .before .before .before .before .before .before .before)) (c .before .before .before .before .before .before .measured .ensures) (c .before .before .before .before .p .given .1)
 
 returns : tie.Need-returns
-returns c =
-    let start = c .before .before .before .before .before .before .before in
-    let checked = c .before .before .before .before .before .checked in
-    let e = c .before .before .e in
-    let error-of = c .error-of in
-    size-refused (P start) (checked .ensures) (error-of .result) (e .given .1) (error-of .ensures)
+returns c = size-refused (P (c .before .before .before .before .before)) (c .before .before .before .before .measured .ensures) (c .error-of .result) (c .before .before .e .given .1) (c .error-of .ensures)
 
 returns-2 : tie.Need-returns-2
-returns-2 c =
-    let start = c .before .before .before .before .before .before .before .before .before .before in
-    let checked = c .before .before .before .before .before .before .before .before .checked in
-    let p = c .before .before .before .before .before .p in
-    let count-terms = c .count-terms in
-    size-told (P start) (checked .ensures) (p .given .1) (start .pre) (count-terms .ensures)
+returns-2 c = size-told (P (c .before .before .before .before .before .before .before .before)) (c .before .before .before .before .before .before .before .measured .ensures) (c .before .before .before .before .before .p .given .1) (c .before .before .before .before .before .before .before .before .pre) (c .count-terms .ensures)
 
 pub size-of-spec : {M : Type 1} → statement M
 size-of-spec =
     tie.close
     (tie.spec
-    slice-aggregate-checked
-    checked-requires
+    measured-requires
     enum-known-e
     error-of-requires
     enum-known-p

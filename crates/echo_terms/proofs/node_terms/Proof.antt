@@ -4,7 +4,7 @@ use Rattle.echo_terms.proofs.node_terms.Statement.{statement}
 use Rattle.echo_terms.proofs.node_terms.Tie as tie
 use mathlib.Core.Path.{ap, sym, subst, _∙_}
 use Rattle.echo_tables.specs.Uses.{FormInside}
-use Rattle.echo_terms.specs.TermTable.{formTerms}
+use Rattle.echo_terms.specs.TermTable.{formSum}
 
 shape-requires : tie.Need-shape-requires
 shape-requires c κs = search needs
@@ -12,8 +12,8 @@ shape-requires c κs = search needs
 operands-requires : tie.Need-operands-requires
 operands-requires c κs = search needs
 
-form-terms-requires : tie.Need-form-terms-requires
-form-terms-requires c κs =
+form-sum-requires : tie.Need-form-sum-requires
+form-sum-requires c κs =
     let start = c .before .before .before .before in
     let operands = c .operands in
     subst (FormInside (start .args .side .now)) (sym (operands .ensures)) (start .pre)
@@ -22,8 +22,8 @@ returns : tie.Need-returns
 returns c =
     let start = c .before .before .before .before .before in
     let operands = c .before .operands in
-    let form-terms = c .form-terms in
-    form-terms .ensures ∙ ap (formTerms (start .args .t .now) (start .args .side .now)) (operands .ensures)
+    let form-sum = c .form-sum in
+    form-sum .ensures ∙ ap (formSum (start .args .t .now) 1 (start .args .side .now)) (operands .ensures)
 
 pub node-terms-spec : {M : Type 1} → statement M
-node-terms-spec = tie.close (tie.spec shape-requires operands-requires form-terms-requires returns)
+node-terms-spec = tie.close (tie.spec shape-requires operands-requires form-sum-requires returns)

@@ -1,11 +1,11 @@
--- `echo_terms::form_terms` meets its contract, arm by arm. Assumes nothing.
+-- `echo_terms::form_sum` meets its contract, arm by arm. Assumes nothing.
 use borrow.Author.Needs.{needs}
-use Rattle.echo_terms.proofs.form_terms.Statement.{statement}
-use Rattle.echo_terms.proofs.form_terms.Tie as tie
+use Rattle.echo_terms.proofs.form_sum.Statement.{statement}
+use Rattle.echo_terms.proofs.form_sum.Tie as tie
 use mathlib.Core.Path.{subst}
 use native.Mathlib.Omega.{arith}
 use Rattle.echo_tables.specs.Uses.{FormInside}
-use Rattle.echo_terms.specs.TermTable.{leaf-terms, one-terms, two-terms, choice-terms, chain-terms, arguments-terms}
+use Rattle.echo_terms.specs.TermTable.{leaf-sum, one-sum, two-sum, choice-sum, chain-sum, arguments-sum}
 
 enum-told : tie.Need-enum-told
 enum-told c = search needs
@@ -104,7 +104,7 @@ returns : tie.Need-returns
 returns c =
     let start = c .before .before .before .before in
     let enum-told = c .enum-told in
-    leaf-terms (start .args .t .now) (start .args .side .now) (enum-told .given .1)
+    leaf-sum (start .args .t .now) (start .args .c) (start .args .side .now) (enum-told .given .1) (omega (arith, start .good))
 
 returns-2 : tie.Need-returns-2
 returns-2 c =
@@ -112,7 +112,7 @@ returns-2 c =
     let f = c .before .before .before .f in
     let at = c .before .at in
     let plus = c .plus in
-    one-terms (start .args .t .now) (start .args .side .now) (f .given .1) (at .ensures) (plus .ensures)
+    one-sum (start .args .t .now) (start .args .c) (start .args .side .now) (f .given .1) (at .ensures) (plus .ensures)
 
 returns-3 : tie.Need-returns-3
 returns-3 c =
@@ -122,7 +122,7 @@ returns-3 c =
     let plus2 = c .before .before .plus2 in
     let at3 = c .before .at3 in
     let plus3 = c .plus3 in
-    two-terms (start .args .t .now) (start .args .side .now) (f2 .given .1) (at2 .ensures) (plus2 .ensures) (at3 .ensures) (plus3 .ensures)
+    two-sum (start .args .t .now) (start .args .c) (start .args .side .now) (f2 .given .1) (at2 .ensures) (plus2 .ensures) (at3 .ensures) (plus3 .ensures)
 
 returns-4 : tie.Need-returns-4
 returns-4 c =
@@ -134,7 +134,7 @@ returns-4 c =
     let plus5 = c .before .before .plus5 in
     let at6 = c .before .at6 in
     let plus6 = c .plus6 in
-    choice-terms (start .args .t .now) (start .args .side .now) (f3 .given .1) (at4 .ensures) (plus4 .ensures) (at5 .ensures) (plus5 .ensures) (at6 .ensures) (plus6 .ensures)
+    choice-sum (start .args .t .now) (start .args .c) (start .args .side .now) (f3 .given .1) (at4 .ensures) (plus4 .ensures) (at5 .ensures) (plus5 .ensures) (at6 .ensures) (plus6 .ensures)
 
 returns-5 : tie.Need-returns-5
 returns-5 c =
@@ -143,17 +143,17 @@ returns-5 c =
     let at7 = c .before .before .at7 in
     let plus7 = c .before .plus7 in
     let add-pairs = c .add-pairs in
-    chain-terms (start .args .t .now) (start .args .side .now) (f4 .given .1) (subst (FormInside (start .args .side .now)) (f4 .given .1) (start .pre)) (at7 .ensures) (plus7 .ensures) (add-pairs .ensures)
+    chain-sum (start .args .t .now) (start .args .c) (start .args .side .now) (f4 .given .1) (subst (FormInside (start .args .side .now)) (f4 .given .1) (start .pre)) (at7 .ensures) (plus7 .ensures) (add-pairs .ensures)
 
 returns-6 : tie.Need-returns-6
 returns-6 c =
     let start = c .before .before .before .before .before .before .before in
     let f5 = c .before .before .before .f5 in
     let add-each = c .add-each in
-    arguments-terms (start .args .t .now) (start .args .side .now) (f5 .given .1) (add-each .ensures)
+    arguments-sum (start .args .t .now) (start .args .c) (start .args .side .now) (f5 .given .1) (add-each .ensures)
 
-pub form-terms-spec : {M : Type 1} → statement M
-form-terms-spec =
+pub form-sum-spec : {M : Type 1} → statement M
+form-sum-spec =
     tie.close
     (tie.spec
     enum-told
