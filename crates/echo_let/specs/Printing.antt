@@ -16,7 +16,7 @@ use Rattle.echo_spec.specs.Input.{Problem, Dag, Node, arrayWidths, shape, no-no
 use Rattle.echo_spec.specs.Widths.{ext-wf}
 use Rattle.echo_spec.specs.Names.{namesOk}
 use Rattle.echo_spec.specs.Sharing.{usesOfAll, usedOnce, unshared}
-use Rattle.echo_spec.specs.Tables.{declarationsOf}
+use Rattle.echo_spec.specs.Tables.{declarationsOf, decl-vars-ok, decl-funcs-ok}
 use Rattle.echo_spec.specs.ColumnLaws.{Aligned}
 use Rattle.echo_spec.specs.Trees.{treesOver, treeOf}
 use Rattle.echo_spec.specs.Walk.{formula, sortOk, walkAll, walk, walkRoots, tableChecks, checks}
@@ -46,9 +46,9 @@ use Rattle.echo_kernel.specs.declared.Out.{Out}
 use Rattle.echo_kernel.specs.declared.Out.the-variants.{Done, Refused}
 use Rattle.echo_kernel.specs.Scripts.{rootText, rootsText, plainScript, declaredChecks}
 use Rattle.echo_kernel.specs.Outcomes.{Wrote}
-use Rattle.echo_kernel.specs.Prepared.{WellFormed, Filled, Measure}
+use Rattle.echo_kernel.specs.Prepared.{WellFormed, Filled, Filling, Prepared, Measure}
 use Rattle.echo_kernel.proofs.Checking.{bits-binary, wrote-refused, wrote-done, wrote-as, measured-checks}
-use Rattle.echo_kernel.proofs.Answering.{outcome-refused}
+use Rattle.echo_kernel.proofs.Answering.{outcome-refused, outcome-done}
 
 -- ---------------------------------------------------------------- the script, and what it is refused with from the names on
 
@@ -85,10 +85,112 @@ pub record RootsFree (B N : List Slice) (ws roots : List ℕ) : Type 0 where
   pub here : (k : ℕ) → k < length roots → getD roots k 0 < length (dagAt B N .nodes)
   pub free : (k : ℕ) → k < length roots → refusedAt (dagAt B N) ws (getD roots k 0) ≡ 0
 
-pub record LetPrepared (B N : List Slice) (ws entries codes first table : List ℕ) : Type 0 where
+-- some operator is shared
+abbrev pub SomeShared : List Slice → List Slice → Type 0
+SomeShared B N = unshared (nodesOf (problemAt B N .nodes)) (problemAt B N .side) (problemAt B N .roots) ≡ false
+
+-- ---------------------------------------------------------------- before the roots, and after
+
+-- the lines before the roots
+abbrev pub openingText : List Slice → List Slice → List ℕ → List ℕ
+openingText B N ws = logicText (declarationsOf (dagAt B N) ws) ++ declarationsText (declarationsOf (dagAt B N) ws)
+
+-- the tables that were filled, whatever the first calls are
+pub record Tabled (B N : List Slice) (ws entries codes : List ℕ) : Type 0 where
+  pub first : List ℕ
   pub filled : Filled B N ws entries codes first
-  pub flagged : Flagged B N table
+
+-- what the declared variables and functions are refused with, or the lines before the roots and the tables
+pub record Opened (B N : List Slice) (ws lent : List ℕ) (o : Out) (entries codes l : List ℕ) : Type 0 where
+  pub wrote : Wrote (declaredChecks (dagAt B N) ws 0) (openingText B N ws) (page start lent) o l
+  pub tabled : declaredChecks (dagAt B N) ws 0 ≡ 0 → Tabled B N ws entries codes
+
+-- what the plain roots ask
+pub record PlainTables (B N : List Slice) (ws entries codes Y : List ℕ) : Type 0 where
+  pub tabled : Tabled B N ws entries codes
+  pub symbols : Y ≡ symbolTable
   pub walked : walkRoots (dagAt B N) ws (problemAt B N .roots) ≡ 0
+
+-- behind the lines before the roots the plain script is whole
+pub record PlainAfter (B N : List Slice) (ws : List ℕ) (before after : Page) : Type 0 where
+  pub all : (lent : List ℕ) → before ≡ written (page start lent) (openingText B N ws) → after ≡ written (page start lent) (plainScript (problemAt B N) ws)
+
+-- what the roots with `let` ask; whether some whole term is refused
+pub record LetTabled (B N : List Slice) (ws entries codes Y : List ℕ) (refused : Bool) : Type 0 where
+  pub tabled : Tabled B N ws entries codes
+  pub symbols : Y ≡ symbolTable
+  pub some : SomeShared B N
+  pub is : refused ≡ ltb 0 (walkRoots (dagAt B N) ws (problemAt B N .roots))
+
+-- behind the lines before the roots they are refused, or the script is whole
+pub record LetAfter (B N : List Slice) (ws : List ℕ) (before : Page) (o : Out) (l : List ℕ) : Type 0 where
+  pub all : (lent : List ℕ) → before ≡ written (page start lent) (openingText B N ws)
+      → Wrote (letRoots (dagAt B N) ws (usesAt B N) (problemAt B N .roots)) (sharedScript (problemAt B N) ws) (page start lent) o l
+
+-- by what the tables were filled with
+module _ {B N : List Slice} {ws lent l : List ℕ} {d : ℕ} {entries codes first : List ℕ} (f : Filling B N ws d entries codes first) where
+  pub opened-refused : 0 < d → Opened B N ws lent (Refused d) entries codes l
+  opened-refused h =
+      record { wrote = wrote-refused (declaredChecks (dagAt B N) ws 0) (f .refused h 0) h; tabled = λ z. let y = f .refused h 0 in absurd (omega arith) }
+
+  pub opened-done : d ≤ 0 → {p : Place} → page p l ≡ written (page start lent) (openingText B N ws) → Opened B N ws lent (Done p) entries codes l
+  opened-done h e = record { wrote = wrote-done (declaredChecks (dagAt B N) ws 0) (f .passed h 0) e; tabled = λ z. record { first = first; filled = f .filled h } }
+
+-- whether some whole term is refused, by the number
+pub refused-is : (w : ℕ) {e : ℕ} → e ≡ w → 0 < e → true ≡ ltb 0 w
+refused-is zero q h = absurd (omega arith)
+refused-is (suc w) q h = sym (lt-ltb 0 (suc w) (omega arith))
+
+pub free-is : (w : ℕ) {e : ℕ} → e ≡ w → e ≤ 0 → false ≡ ltb 0 w
+free-is zero q h = refl
+free-is (suc w) q h = absurd (omega arith)
+
+pub some-refused : (w : ℕ) {b : Bool} → b ≡ ltb 0 w → b ≡ true → 0 < w
+some-refused zero q t = let z : _≡_ {A = ℕ} 0 1 = ap (λ (b : Bool). cond b 1 0) (sym q ∙ t) in absurd (omega arith)
+some-refused (suc w) q t = omega arith
+
+pub none-refused : (w : ℕ) {b : Bool} → b ≡ ltb 0 w → b ≡ false → w ≡ 0
+none-refused zero q t = refl
+none-refused (suc w) q t =
+    let z : _≡_ {A = ℕ} 1 0 = ap (λ (b : Bool). cond b 1 0) (sym (lt-ltb 0 (suc w) (omega arith)) ∙ sym q ∙ t) in
+    absurd (omega arith)
+
+-- once nothing declared is refused the rest is told
+pub declared-refused : (d : Dag) (ws : List ℕ) {n : ℕ} → declaredChecks d ws 0 ≡ n → 0 < n → (w : ℕ) → declaredChecks d ws w ≡ n
+declared-refused d ws e h w = go (decl-vars-ok d) (decl-funcs-ok d ws) e h
+  where
+    go : (a b : Bool) {n : ℕ} → (unless a 4 orElse unless b 7 orElse 0) ≡ n → 0 < n → (unless a 4 orElse unless b 7 orElse w) ≡ n
+    go false b e h = e
+    go true false e h = e
+    go true true e h = absurd (omega arith)
+
+pub declared-passed : (d : Dag) (ws : List ℕ) → declaredChecks d ws 0 ≡ 0 → (w : ℕ) → declaredChecks d ws w ≡ w
+declared-passed d ws e w = go (decl-vars-ok d) (decl-funcs-ok d ws) e
+  where
+    go : (a b : Bool) → (unless a 4 orElse unless b 7 orElse 0) ≡ 0 → (unless a 4 orElse unless b 7 orElse w) ≡ w
+    go false b e = absurd (omega arith)
+    go true false e = absurd (omega arith)
+    go true true e = refl
+
+-- the two ways out of what is declared
+module _ {B N : List Slice} {ws lent l : List ℕ} {o : Out} {entries codes : List ℕ} (h : Opened B N ws lent o entries codes l) where
+  pub told-refused : {n : ℕ} → o ≡ Refused n → (w : ℕ) {text : List ℕ} {pg : Page} {m : List ℕ} → Wrote (declaredChecks (dagAt B N) ws w) text pg (Refused n) m
+  told-refused f w =
+      let t = outcome-refused (declaredChecks (dagAt B N) ws 0) (openingText B N ws) (h .wrote) f in
+      wrote-refused _ (declared-refused (dagAt B N) ws (t .0) (t .1) w) (t .1)
+
+  module _ {p : Place} (f : o ≡ Done p) where
+    none : declaredChecks (dagAt B N) ws 0 ≡ 0
+    none = outcome-done (declaredChecks (dagAt B N) ws 0) (openingText B N ws) (h .wrote) f .0
+
+    pub told-text : page p l ≡ written (page start lent) (openingText B N ws)
+    told-text = outcome-done (declaredChecks (dagAt B N) ws 0) (openingText B N ws) (h .wrote) f .1
+
+    pub told-tabled : Tabled B N ws entries codes
+    told-tabled = h .tabled none
+
+    pub told-rest : {w : ℕ} {text : List ℕ} {pg : Page} {q : Out} {m : List ℕ} → Wrote w text pg q m → Wrote (declaredChecks (dagAt B N) ws w) text pg q m
+    told-rest {w} t = wrote-as (sym (declared-passed (dagAt B N) ws none w)) t
 
 -- ---------------------------------------------------------------- roots
 
@@ -171,10 +273,19 @@ module _ (B N : List Slice) {ws : List ℕ} (h : WellFormed (problemAt B N) ws) 
   unfolding dagOf
   let-free w e p = letRefused.roots-free (dagAt B N) ws (length (problemAt B N .bits)) (h .widths) (h .counted) (usesAt B N) (problemAt B N .roots) (omega arith)
 
+-- what the plain writers ask
+pub prepared : {B N : List Slice} {ws entries codes Y : List ℕ} (h : PlainTables B N ws entries codes Y) → Prepared B N ws entries codes (h .tabled .first)
+prepared h =
+    let f = h .tabled .filled in
+    record { formed = f .formed; aligned = f .aligned; marked = f .marked; entered = f .entered; declarable = f .declarable; walked = h .walked }
+
 -- from the counts of uses
 pub flags-of : (B N : List Slice) {table : List ℕ} {some : Bool} → SharedAt B N some table → some ≡ true → Flagged B N table
 unfolding dagOf shared usesIn
 flags-of B N s e = record { flags = record { at = λ j l. s .flags e .at j l ∙ rw (lt-ltb j (length (nodesOf (problemAt B N .nodes))) l) refl } }
+
+pub some-flags : (B N : List Slice) {table : List ℕ} {some : Bool} → SharedAt B N some table → SomeShared B N → Flagged B N table
+some-flags B N s e = flags-of B N s (s .is ∙ ap not e)
 
 -- ---------------------------------------------------------------- the script
 
