@@ -1,8 +1,11 @@
 -- The claims on `echo_formulas` at problems: each speaks of something.
-use Prim.Native.Nat.{ℕ}
-use mathlib.Core.Path.{_≡_, refl}
+use Prim.Native.Nat.{ℕ, _≤_}
+use mathlib.Core.Path.{_≡_, refl, _∙_}
 use mathlib.Core.List.{List, [], _∷_, _++_}
 use mathlib.Core.Logic.{inl, _≢_}
+use mathlib.Core.Bool.{false}
+use lib.ListN.{take, replicate}
+use native.Mathlib.Omega.{arith}
 use Rattle.lists.specs.Bytes.{bytes}
 use Rattle.reading.specs.Kinds.{Const, Add, Mul, Eq, Not}
 use Rattle.reading.specs.Trees.{Tree, variable, constant, apply, none, more}
@@ -10,12 +13,27 @@ use Rattle.echo_spec.specs.Input.{Problem}
 use Rattle.echo_spec.specs.Answers.{reading}
 use Rattle.echo_spec.specs.Examples.{node, lent, sum}
 use Rattle.echo_spec.specs.LetExamples.{over}
+use Rattle.refusals.specs.declared.EchoError.the-variants.{Room}
+use Rattle.echo_kernel.specs.declared.Echo.the-variants.{Refused}
+use Rattle.echo_kernel.specs.Outcomes.{answered}
 use Rattle.formulas.specs.Phrases.{Reads, ReadsLines}
 use Rattle.formula_text.specs.Notation.{formula}
+use Rattle.formula_answers.specs.Answers.{echo-formulas-answer}
 use Rattle.formula_answers.specs.AnswerExamples.{formulasMeet}
 use Rattle.formula_theorems.specs.LeftOut.{parentheses, endsInside}
 use Rattle.formula_theorems.specs.MapLines.{declarationsIn, mapLines}
-use Rattle.claims.specs.FormulaClaims.{FormulasAccepts, formulas-one-reading, formula-one-reading, bracket-pair-needed, equal-lines-equal-trees}
+use Rattle.claims.specs.FormulaClaims.{
+  FormulasAccepts,
+  formulas-accepts-exactly,
+  formulas-room-only,
+  formulas-one-reading,
+  formula-one-reading,
+  bracket-pair-needed,
+  fewest-brackets,
+  equal-lines-equal-trees,
+  formulas-print,
+  formulas-refuse,
+}
 
 abbrev x : Tree
 x = variable (bytes "x")
@@ -71,6 +89,26 @@ product-pair u r =
 product-without : Reads (declarationsIn product) (bytes "|x| * |x| + #b00000101 == |x|") plusTree
 unfolding formulasMeet product plus
 product-without = formula-one-reading plus (lent 60) plus-accepted plusTree (inl refl) plusTree .1 refl
+
+-- no text that says it has fewer
+product-fewest : (b : List ℕ) → Reads (declarationsIn product) b productTree → 1 ≤ parentheses false b
+unfolding formulasMeet product parentheses
+product-fewest b r = fewest-brackets product (lent 60) product-accepted productTree (inl refl) b r
+
+-- ---------------------------------------------------------------- calls
+
+-- a call with room for the line prints it, one with a byte less is refused with 10 and clears what was lent
+product-printed : take 32 (echo-formulas-answer product (lent 60) .output) ≡ bytes "|x| * (|x| + #b00000101) == |x|\n"
+unfolding formulasMeet product
+product-printed = formulas-print product (lent 60) (echo-formulas-answer product (lent 60) .output) 32 refl .1 ∙ product-line
+
+product-room : echo-formulas-answer product (lent 31) .number ≡ 10
+unfolding formulasMeet product
+product-room = formulas-room-only product (lent 31) .1 (formulas-accepts-exactly product (lent 60) .0 product-accepted .0, omega arith)
+
+product-refused : (out : List ℕ) → answered (Refused Room) out ≡ echo-formulas-answer product (lent 31) → out ≡ replicate 31 0
+unfolding formulasMeet product
+product-refused out c = formulas-refuse product (lent 31) out Room c .1
 
 -- ---------------------------------------------------------------- lines
 
