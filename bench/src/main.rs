@@ -217,6 +217,42 @@ fn formulas(label: &str, p: &Problem, out: &mut [u8]) {
     );
 }
 
+/// The script read back, beside printing what was read.
+fn read(label: &str, p: &Problem, out: &mut [u8]) {
+    let Answer(number, length) = problem::echo(p, out);
+    assert_eq!(number, 0, "{label}");
+    let script = out[..length as usize].to_vec();
+    let mut room = problem::room();
+    let answer = problem::read(&script, &mut room);
+    if answer.0 == 9 {
+        println!("| {label} | {length} | 9: its problem, without names that overlap, is over a limit | | | |");
+        return;
+    }
+    assert_eq!(answer.0, 0, "{label}");
+    let again = problem::cut(room.clone(), answer);
+    assert_eq!(problem::echo(&again, out), Answer(0, length), "{label}");
+    assert!(out[..script.len()] == script[..], "{label}: the bytes differ");
+    let t = pairs(&mut || { black_box(problem::echo(&again, out)); }, &mut || {
+        black_box(problem::read(&script, &mut room));
+    });
+    println!(
+        "| {label} | {length} | {:.1} | {:.1} | {:.2} | {:.2} to {:.2} |",
+        t.rust * 1e6,
+        t.port * 1e6,
+        t.ratio[0],
+        t.ratio[1],
+        t.ratio[2]
+    );
+}
+
+fn reads_table(all: &[(&str, Problem)], out: &mut [u8]) {
+    println!("| read back, port alone | script bytes | printed us | read us | ratio | 10th to 90th |");
+    println!("|---|---|---|---|---|---|");
+    for (label, p) in all {
+        read(label, p, out);
+    }
+}
+
 fn formulas_table(all: &[(&str, Problem)], out: &mut [u8]) {
     println!("| formulas, port alone | script bytes | formula bytes | script us | formulas us | ratio | ratio for a byte | 10th to 90th |");
     println!("|---|---|---|---|---|---|---|---|");
@@ -274,6 +310,11 @@ fn main() {
     if wanted == "traces" {
         return traces_table::table();
     }
+    if wanted == "reads" {
+        let only = std::env::args().nth(2).unwrap_or_default();
+        let some: Vec<_> = shapes::all().into_iter().filter(|s| s.0.contains(&only)).collect();
+        return reads_table(&some, &mut vec![0u8; 48 << 20]);
+    }
     if wanted == "formulas" {
         return formulas_table(&shapes::all(), &mut vec![0u8; 48 << 20]);
     }
@@ -326,6 +367,8 @@ fn main() {
     }
     println!();
     formulas_table(&all, &mut out);
+    println!();
+    reads_table(&all, &mut out);
     println!();
     println!("| let, nothing shared, port alone | script bytes | plain us | let us | ratio | 10th to 90th |");
     println!("|---|---|---|---|---|---|");

@@ -248,13 +248,27 @@ pub struct Size(pub u64, pub u64, pub u64);
 #[derive(Clone, Copy, PartialEq, Eq, Debug)]
 pub struct Fewest(pub u64, pub u64, pub u64, pub u64);
 
+/// Number, and how many elements are used of nodes, bits, side entries, roots, and of each table its names and its lines.
+#[repr(C)]
+#[derive(Clone, Copy, PartialEq, Eq, Debug)]
+#[allow(dead_code)]
+pub struct Read(pub u64, pub [u64; 10]);
+
 #[rustfmt::skip]
 mod port {
-    use super::{Answer, Fewest, Size};
+    use super::{Answer, Fewest, Read, Size};
     type B = *const u8;
     type N = *const u64;
+    type MB = *mut u8;
+    type MN = *mut u64;
     type L = usize;
     unsafe extern "C" {
+        pub fn read_script(
+            script: B, _: L, nodes: MB, _: L, bits: MB, _: L, side: MN, _: L, roots: MN, _: L,
+            names: MB, _: L, name_start: MN, _: L, name_len: MN, _: L, var_node: MN, _: L, var_width: MN, _: L,
+            anames: MB, _: L, aname_start: MN, _: L, aname_len: MN, _: L, index_width: MN, _: L, value_width: MN, _: L,
+            fnames: MB, _: L, fname_start: MN, _: L, fname_len: MN, _: L, func_width: MN, _: L,
+        ) -> Read;
         pub fn echo_ext(
             nodes: B, _: L, bits: B, _: L, side: N, _: L, roots: N, _: L,
             names: B, _: L, name_start: N, _: L, name_len: N, _: L, var_node: N, _: L, var_width: N, _: L,
@@ -433,6 +447,76 @@ pub fn widths(p: &Problem, out: &mut [u64]) -> Answer {
             p.nodes.as_ptr(), p.nodes.len(), p.bits.as_ptr(), p.bits.len(), p.side.as_ptr(), p.side.len(),
             p.index_width.as_ptr(), p.index_width.len(), p.value_width.as_ptr(), p.value_width.len(),
             out.as_mut_ptr(), out.len(),
+        )
+    }
+}
+
+/// A problem with as much room as the limits ask for, to read a script into.
+#[allow(dead_code)]
+pub fn room() -> Problem {
+    let (bytes, column) = (vec![0; 16_384], vec![0; 512]);
+    Problem {
+        nodes: vec![0; 34_816],
+        bits: vec![0; 131_072],
+        side: vec![0; 8_192],
+        roots: vec![0; 256],
+        names: bytes.clone(),
+        name_start: column.clone(),
+        name_len: column.clone(),
+        var_node: column.clone(),
+        var_width: column.clone(),
+        anames: bytes.clone(),
+        aname_start: column.clone(),
+        aname_len: column.clone(),
+        index_width: column.clone(),
+        value_width: column.clone(),
+        fnames: bytes,
+        fname_start: column.clone(),
+        fname_len: column.clone(),
+        func_width: column,
+    }
+}
+
+/// The problem without what lies past its parts.
+#[allow(dead_code)]
+pub fn cut(mut p: Problem, Read(_, sizes): Read) -> Problem {
+    let [nodes, bits, side, roots, names, variables, anames, arrays, fnames, functions] = sizes.map(|n| n as usize);
+    p.nodes.truncate(nodes);
+    p.bits.truncate(bits);
+    p.side.truncate(side);
+    p.roots.truncate(roots);
+    p.names.truncate(names);
+    p.anames.truncate(anames);
+    p.fnames.truncate(fnames);
+    for column in [&mut p.name_start, &mut p.name_len, &mut p.var_node, &mut p.var_width] {
+        column.truncate(variables);
+    }
+    for column in [&mut p.aname_start, &mut p.aname_len, &mut p.index_width, &mut p.value_width] {
+        column.truncate(arrays);
+    }
+    for column in [&mut p.fname_start, &mut p.fname_len, &mut p.func_width] {
+        column.truncate(functions);
+    }
+    p
+}
+
+/// A script read back into a problem with room for it.
+#[rustfmt::skip]
+#[allow(dead_code)]
+pub fn read(script: &[u8], p: &mut Problem) -> Read {
+    // Safety: each pair is a slice's, and none overlaps another.
+    unsafe {
+        port::read_script(
+            script.as_ptr(), script.len(),
+            p.nodes.as_mut_ptr(), p.nodes.len(), p.bits.as_mut_ptr(), p.bits.len(),
+            p.side.as_mut_ptr(), p.side.len(), p.roots.as_mut_ptr(), p.roots.len(),
+            p.names.as_mut_ptr(), p.names.len(), p.name_start.as_mut_ptr(), p.name_start.len(), p.name_len.as_mut_ptr(), p.name_len.len(),
+            p.var_node.as_mut_ptr(), p.var_node.len(), p.var_width.as_mut_ptr(), p.var_width.len(),
+            p.anames.as_mut_ptr(), p.anames.len(), p.aname_start.as_mut_ptr(), p.aname_start.len(),
+            p.aname_len.as_mut_ptr(), p.aname_len.len(),
+            p.index_width.as_mut_ptr(), p.index_width.len(), p.value_width.as_mut_ptr(), p.value_width.len(),
+            p.fnames.as_mut_ptr(), p.fnames.len(), p.fname_start.as_mut_ptr(), p.fname_start.len(),
+            p.fname_len.as_mut_ptr(), p.fname_len.len(), p.func_width.as_mut_ptr(), p.func_width.len(),
         )
     }
 }

@@ -3,6 +3,7 @@
 #[path = "../added.rs"]
 #[allow(dead_code)]
 mod added;
+mod back;
 mod check;
 mod clauses;
 #[path = "../hidden.rs"]
@@ -15,6 +16,9 @@ mod port;
 #[path = "../problem.rs"]
 #[allow(dead_code)]
 mod problem;
+#[path = "../reads.rs"]
+#[allow(dead_code)]
+mod reads;
 mod reduce;
 mod seen;
 mod show;
@@ -144,6 +148,9 @@ struct Tally {
     told: BTreeMap<u32, usize>,
     terms: u64,
     most_terms: u64,
+    /// scripts that were read back, whole and with a change, by number
+    read: BTreeMap<u32, usize>,
+    changed_read: BTreeMap<u32, usize>,
 }
 
 fn row(name: &str, m: &BTreeMap<u32, usize>) {
@@ -181,6 +188,8 @@ impl Tally {
         row("printer", &self.printer);
         row("width pass", &self.widths);
         row("sizes", &self.told);
+        row("scripts read back", &self.read);
+        row("scripts with a change read back", &self.changed_read);
         println!("terms compared: {}, most of a problem {}", self.terms, self.most_terms);
         println!("script bytes compared: {}, longest script {}", self.script_bytes, self.longest);
         println!("distinct problems: {} of {count}", self.distinct.len());
@@ -274,6 +283,19 @@ fn compare(count: u64, seed: u64) -> bool {
             println!("problem {i} of seed {seed}");
             report_script(HIDDEN, "hidden", &problem_of(&all, i, &mut numbers_of(seed, i)).0, lent, fill);
             return false;
+        }
+
+        if want.number == 0 {
+            match back::both(&want.result, &mut rng) {
+                Ok([whole, changed]) => {
+                    *t.read.entry(whole).or_default() += 1;
+                    *t.changed_read.entry(changed).or_default() += 1;
+                }
+                Err(what) => {
+                    println!("problem {i} of seed {seed}, its script read back\n{what}");
+                    return false;
+                }
+            }
         }
 
         let full = added::width_answer(&p, usize::MAX);

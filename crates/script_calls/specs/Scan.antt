@@ -5,7 +5,7 @@ use mathlib.Core.List.{List, [], _∷_, _++_}
 use mathlib.Core.Bool.{Bool, true, false, _||_}
 use mathlib.Core.Option.{Option, none, some}
 use native.Mathlib.Omega.{arith}
-use lib.Dec.{T, eqb, eqb→eq}
+use lib.Dec.{T, eqb, ltb, eqb→eq, ltb→lt, nltb→le}
 use borrow.Author.Tests.{eqb-false}
 use lib.ListN.{length, drop, getD, set, length-set}
 use lib.Seq.{set-out, getD-set-same, getD-set-other}
@@ -182,14 +182,47 @@ module _ (s : List ℕ) (D : Declarations) (n : Name) (l : List ℕ) {r : Entry}
 
 -- ---------------------------------------------------------------- the assertions
 
--- No name is left: the flags are those of the assertions.
-pub flagged : {s t h : List ℕ} {D : Declarations} → Known s t h D → (from p : ℕ) (l : List ℕ) (ts : List Tree) → AssertionsAt s D from ts → Scanned s D from p l → namesFrom none (drop p s) ≡ []
-    → Flagged D (treesFrom ts) l
+-- The flags are those of the assertions, where they are those of the names in the bytes.
+flagged-by : {s t h : List ℕ} {D : Declarations} → Known s t h D → (from : ℕ) (l : List ℕ) (ts : List Tree) → AssertionsAt s D from ts → length l ≡ 512
+    → ((g : ℕ) → g < 512 → g < length (D .functions) → getD l g 0 ≡ flag (stands (functionAt D g .name) (drop from s))) → Flagged D (treesFrom ts) l
 unfolding printable
-flagged {s} {t} {h} {D} κ from p l ts x y e = record {
-  long = y .long;
+flagged-by {s} {t} {h} {D} κ from l ts x y e = record {
+  long = y;
   flags = λ g m k.
       (let i = own-numbers s D from κ g k in
-      scan-end s D from p l y e g m k ∙ ap flag (assertions-call D (barred (readingOf D ts) (and-T (declarable D) (allBool D (treesFrom ts)) (κ .declarable) (x .bools))) (functionAt D g .name)
+      e g m k ∙ ap flag (assertions-call D (barred (readingOf D ts) (and-T (declarable D) (allBool D (treesFrom ts)) (κ .declarable) (x .bools))) (functionAt D g .name)
       (record { variable = i .variable; array = i .array }) s from ts x));
 }
+
+-- No name is left.
+pub flagged : {s t h : List ℕ} {D : Declarations} → Known s t h D → (from p : ℕ) (l : List ℕ) (ts : List Tree) → AssertionsAt s D from ts → Scanned s D from p l → namesFrom none (drop p s) ≡ []
+    → Flagged D (treesFrom ts) l
+flagged {s} {D = D} κ from p l ts x y e = flagged-by κ from l ts x (y .long) (scan-end s D from p l y e)
+
+-- Every function has its flag, whatever is left.
+pub flagged-all : {s t h : List ℕ} {D : Declarations} → Known s t h D → (from p : ℕ) (l : List ℕ) (ts : List Tree) → AssertionsAt s D from ts → Scanned s D from p l
+    → ((g : ℕ) → g < 512 → g < length (D .functions) → getD l g 0 ≡ 1) → Flagged D (treesFrom ts) l
+flagged-all {s} {D = D} κ from p l ts x y all = flagged-by κ from l ts x (y .long) (λ g m k. (let (b, q, u) = y .told g m k in by-flag g b q u (all g m k)))
+  where
+    by-flag : (g : ℕ) (b : Bool) → getD l g 0 ≡ flag b → stands (functionAt D g .name) (drop from s) ≡ (b || stands (functionAt D g .name) (drop p s)) → getD l g 0 ≡ 1
+        → getD l g 0 ≡ flag (stands (functionAt D g .name) (drop from s))
+    by-flag g true q u e = q ∙ ap flag (sym u)
+    by-flag g false q u e = let z : _≡_ {A = ℕ} 0 1 = sym q ∙ e in absurd (omega arith)
+
+-- a flag that is set stays
+ones-kept : (o : Option ℕ) (l : List ℕ) (d : ℕ) → d ≤ length l → ((g : ℕ) → g < d → getD l g 0 ≡ 1) → (g : ℕ) → g < d → getD (marked o l) g 0 ≡ 1
+ones-kept none l d m h g k = h g k
+ones-kept (some j) l d m h g k = by-number (eqb g j) refl
+  where
+    by-number : (b : Bool) → eqb g j ≡ b → getD (set l j 1) g 0 ≡ 1
+    by-number true q = let z : g ≡ j = eqb→eq g j (true→T q) in rw z (getD-set-same l j 1 0 (omega arith))
+    by-number false q = getD-set-other l j g 1 0 (eqb-false g j q) ∙ h g k
+
+-- the flags up to d, and after one more name those from there up to e
+pub ones-more : (o : Option ℕ) (l : List ℕ) (d : ℕ) {l′ : List ℕ} {e : ℕ} → l′ ≡ marked o l → d ≤ length l → ((g : ℕ) → g < d → getD l g 0 ≡ 1) → ((g : ℕ) → g < e → d ≤ g → getD l′ g 0 ≡ 1)
+    → (g : ℕ) → g < e → getD l′ g 0 ≡ 1
+ones-more o l d {l′} {e} q m x y g k = by-test (ltb g d) refl
+  where
+    by-test : (b : Bool) → ltb g d ≡ b → getD l′ g 0 ≡ 1
+    by-test true p = ap (λ (z : List ℕ). getD z g 0) q ∙ ones-kept o l d m x g (ltb→lt g d (true→T p))
+    by-test false p = y g k (nltb→le g d (rw p tt))

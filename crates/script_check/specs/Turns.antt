@@ -15,7 +15,7 @@ use Rattle.sort_reader.specs.Sorted.{sorted}
 use Rattle.script_header.specs.Header.{headerIn, HeaderAt, HeaderTo}
 use Rattle.script_header.specs.declared.Header.{Header}
 use Rattle.script_header.specs.declared.Header.the-variants.{No as NoHeader, Read}
-use Rattle.script_entries.specs.Entries.{Known}
+use Rattle.script_entries.specs.Entries.{Entered, Known}
 use Rattle.script_entries.specs.Named.{known-header}
 use Rattle.header_laws.specs.Body.{lastLine, AssertionsAt}
 use Rattle.header_laws.specs.Whole.{header-none, header-reads, header-declarable}
@@ -101,17 +101,17 @@ module _ (s t : List ℕ) {r : Header} {first v w c e : ℕ} (x : HeaderTo s 0 t
   header-read = header-at .read (suc (length s)) (omega arith)
 
   module _ (h : List ℕ) (k : h ≡ first ∷ v ∷ w ∷ c ∷ []) where
-    pub known : Known s t h (header-at .value)
-    known = known-header header-at k (header-declarable (suc (length s)) s (header-at .value) (drop e s) header-read)
+    pub entered : Entered s t h (header-at .value)
+    entered = known-header header-at k (header-declarable (suc (length s)) s (header-at .value) (drop e s) header-read)
 
-    -- what the bytes after the header tell is what the script tells
-    pub check-body : (o : Check) → BodyTo s (header-at .value) e o → CheckTo s t h o
-    check-body No b = header-reads s (header-at .value) (drop e s) header-read ∙ b (suc (length s)) (omega arith)
-    check-body (Yes a n) b = record {
+    -- what the bytes after the header tell is what the script tells, once the table u has what the lines declare
+    pub check-body : {u : List ℕ} → Known s u h (header-at .value) → (o : Check) → BodyTo s (header-at .value) e o → CheckTo s u h o
+    check-body κ No b = header-reads s (header-at .value) (drop e s) header-read ∙ b (suc (length s)) (omega arith)
+    check-body κ (Yes a n) b = record {
       declarations = header-at .value;
       trees = b .trees;
       reading = header-reads s (header-at .value) (drop e s) header-read ∙ b .read (suc (length s)) (omega arith);
-      known = known;
+      known = κ;
       assertions = subst (λ (i : ℕ). AssertionsAt s (header-at .value) i (b .trees)) (sym (b .start)) (b .assertions);
       roots = b .roots;
     }

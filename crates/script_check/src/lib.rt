@@ -10,6 +10,7 @@ ghost use Rattle.script_header.specs.Header.{Empty};
 ghost use Rattle.script_entries.specs.Entries.{Known};
 ghost use Rattle.script_check.specs.Check.{CheckTo, BodyTo};
 ghost use Rattle.script_check.specs.Steps.{Going};
+use script_entries::measure_lines;
 use script_header::Header;
 use script_header::read_header;
 use script_names::TABLE;
@@ -73,5 +74,6 @@ pub fn check_script(s: &[u8], t: &mut [u64; TABLE], h: &mut [u64; 4]) -> Check
         return Check::No;
     };
     *h = [first as u64, v as u64, w as u64, c as u64];
+    measure_lines(s, t, h);
     assertions(s, t, h, e)
 }

@@ -34,20 +34,6 @@ arraysOf h = getD h 2 0
 abbrev pub namesOf : List ℕ → ℕ
 namesOf h = getD h 3 0
 
--- The script s declares D: the lines of D stand from the header's first place on, the numbers h count them and the table t has their names.
-pub record Known (s t h : List ℕ) (D : Declarations) : Type 0 where
-  pub long : length h ≡ 4
-  pub begin : firstOf h ≤ length s
-  pub end : ℕ
-  pub inside : end ≤ length s
-  pub read : (f : ℕ) → length s < f → declared f (drop (firstOf h) s) ≡ took D (drop end s)
-  pub variables : variablesOf h ≡ length (D .variables)
-  pub arrays : arraysOf h ≡ variablesOf h + length (D .arrays)
-  pub functions : namesOf h ≡ arraysOf h + length (D .functions)
-  pub names : namesTo (drop (firstOf h) s) (namesOf h) ≡ (variableNamesIn D ++ arrayNamesIn D) ++ functionNamesIn D
-  pub tabled : Tabled s (firstOf h) t (namesOf h)
-  pub declarable : T (declarable D)
-
 -- ---------------------------------------------------------------- sorts of arguments
 
 -- sorts of these widths and the closing bracket stand at place p
@@ -65,6 +51,40 @@ NextArgument s p [] No = Unit
 NextArgument s p [] (Is v e) = ⊥
 NextArgument s p (w ∷ ws) No = ⊥
 NextArgument s p (w ∷ ws) (Is v e) = (p < e) × (e ≤ length s) × (v ≡ w) × ArgumentsAt s e ws
+
+-- ---------------------------------------------------------------- what is known
+
+-- What line k declares, by two numbers x and y: a variable's width is x; an array's index width is x and its value width y; the sorts of a
+-- function's arguments begin at place x, and y is its width.
+pub record Measured (s h : List ℕ) (D : Declarations) (k x y : ℕ) : Type 0 where
+  pub variable : k < variablesOf h → variableAt D k .width ≡ x
+  pub array : variablesOf h ≤ k → k < arraysOf h → (arrayAt D (k - variablesOf h) .index ≡ x) × (arrayAt D (k - variablesOf h) .value ≡ y)
+  pub function : arraysOf h ≤ k → ArgumentsAt s x (functionAt D (k - arraysOf h) .arguments) × (functionAt D (k - arraysOf h) .width ≡ y)
+
+-- The script s declares D: the lines of D stand from the header's first place on, the numbers h count them and the table t has their names.
+-- Where there are at most 1,536 lines, the table has what the first m of them declare: the first number of line k at place 7,168 + k, the second
+-- 1,536 places on.
+pub record KnownTo (m : ℕ) (s t h : List ℕ) (D : Declarations) : Type 0 where
+  pub long : length h ≡ 4
+  pub begin : firstOf h ≤ length s
+  pub end : ℕ
+  pub inside : end ≤ length s
+  pub read : (f : ℕ) → length s < f → declared f (drop (firstOf h) s) ≡ took D (drop end s)
+  pub variables : variablesOf h ≡ length (D .variables)
+  pub arrays : arraysOf h ≡ variablesOf h + length (D .arrays)
+  pub functions : namesOf h ≡ arraysOf h + length (D .functions)
+  pub names : namesTo (drop (firstOf h) s) (namesOf h) ≡ (variableNamesIn D ++ arrayNamesIn D) ++ functionNamesIn D
+  pub tabled : Tabled s (firstOf h) t (namesOf h)
+  pub declarable : T (declarable D)
+  pub measured : namesOf h ≤ 1536 → (k : ℕ) → k < m → Measured s h D k (getD t (7168 + k) 0) (getD t (8704 + k) 0)
+
+-- once the header is read
+abbrev pub Entered : List ℕ → List ℕ → List ℕ → Declarations → Type 0
+Entered s t h D = KnownTo 0 s t h D
+
+-- once the table has what every line declares
+abbrev pub Known : List ℕ → List ℕ → List ℕ → Declarations → Type 0
+Known s t h D = KnownTo (namesOf h) s t h D
 
 -- ---------------------------------------------------------------- what a name is
 

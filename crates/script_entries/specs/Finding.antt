@@ -18,7 +18,7 @@ use Rattle.rebuilt.specs.Built.{no-variable, no-array, no-function, variableAt,
 use Rattle.rebuilt.specs.Tables.{tables-distinct}
 use Rattle.script_names.specs.Entries.{nameAt}
 use Rattle.script_decls.specs.Lines.{namesTo}
-use Rattle.script_entries.specs.Entries.{firstOf, variablesOf, arraysOf, namesOf, Known, Numbers}
+use Rattle.script_entries.specs.Entries.{firstOf, variablesOf, arraysOf, namesOf, KnownTo, Numbers}
 
 -- ---------------------------------------------------------------- the first place that passes a test
 
@@ -67,7 +67,7 @@ names-at b (suc c) j l = by-place (eqb j c) refl (λ m. names-at b c j m)
 
 -- ---------------------------------------------------------------- the lines of the header
 
-module _ {s t h : List ℕ} {D : Declarations} (κ : Known s t h D) where
+module _ {m : ℕ} {s t h : List ℕ} {D : Declarations} (κ : KnownTo m s t h D) where
   abbrev b : List ℕ
   b = drop (firstOf h) s
 

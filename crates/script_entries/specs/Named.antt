@@ -18,13 +18,13 @@ use Rattle.rebuilt.specs.Built.{no-variable, no-array, no-function, variableAt,
 use Rattle.rebuilt.specs.Known as rebuilt
 use Rattle.rebuilt.specs.Known.{Declared}
 use Rattle.script_header.specs.Header.{HeaderAt}
-use Rattle.script_entries.specs.Entries.{Known}
+use Rattle.script_entries.specs.Entries.{Entered, Known}
 
 -- ---------------------------------------------------------------- the header
 
 -- the numbers of a header that was read, put into an array
-pub known-header : {s t h : List ℕ} {at first v w c e : ℕ} (x : HeaderAt s at t first v w c e) → h ≡ first ∷ v ∷ w ∷ c ∷ [] → T (declarable (x .value)) → Known s t h (x .value)
-known-header {s} {t} {h} {at} {first} {v} {w} {c} {e} x q d = subst (λ (l : List ℕ). Known s t l (x .value)) (sym q) (record {
+pub known-header : {s t h : List ℕ} {at first v w c e : ℕ} (x : HeaderAt s at t first v w c e) → h ≡ first ∷ v ∷ w ∷ c ∷ [] → T (declarable (x .value)) → Entered s t h (x .value)
+known-header {s} {t} {h} {at} {first} {v} {w} {c} {e} x q d = subst (λ (l : List ℕ). Entered s t l (x .value)) (sym q) (record {
   long = refl;
   begin = x .begin;
   end = e;
@@ -36,6 +36,7 @@ known-header {s} {t} {h} {at} {first} {v} {w} {c} {e} x q d = subst (λ (l : Lis
   names = x .names;
   tabled = x .tabled;
   declarable = d;
+  measured = λ few k l. absurd (omega arith);
 })
 
 -- the widths are proper

@@ -1,27 +1,28 @@
 -- What is read at a line's place is told of the entry that the line declares.
 use Prim.Native.Nat.{ℕ, suc, _+_, _-_, _≤_, _<_}
 use mathlib.Core.Path.{_≡_, refl, ap, sym, _∙_, subst}
-use mathlib.Core.List.{List}
+use mathlib.Core.List.{List, [], _∷_, _++_, append-assoc}
 use mathlib.Core.Bool.{true}
 use mathlib.Core.Option.{none, some}
 use native.Mathlib.Omega.{arith}
-use lib.ListN.{length, drop}
-use Rattle.lists.specs.Tests.{same}
+use lib.ListN.{length, drop, length-append, length-drop}
+use lib.Seq.{drop-drop, drop-append-seam}
+use Rattle.lists.specs.Tests.{same, same→eq, true→T}
 use Rattle.reading.specs.Trees.{Name, Variable, Array, Function, Declarations}
 use Rattle.readback.specs.Reader.{took, readName}
 use Rattle.reader_laws.specs.TermsStrict.{impossible}
 use Rattle.rebuilt.specs.Built.{variableAt, arrayAt, functionAt}
-use Rattle.script_tokens.specs.Reached.{NameTo}
+use Rattle.script_tokens.specs.Reached.{between, NameTo}
 use Rattle.script_tokens.specs.declared.Step.{Step}
 use Rattle.script_tokens.specs.declared.Step.the-variants.{No, To}
-use Rattle.script_names.specs.Entries.{afterBar, entryFrom, nameAt, Tabled, Sought}
-use Rattle.script_names.specs.Laws.{after-name}
+use Rattle.script_names.specs.Entries.{afterBar, entryFrom, nameHere, nameAt, Named, Tabled, Sought}
+use Rattle.script_names.specs.Laws.{after-name, taken, between-length}
 use Rattle.script_names.specs.declared.Found.{Found}
 use Rattle.script_names.specs.declared.Found.the-variants.{Nothing as NoLine, At}
 use Rattle.script_decls.specs.Lines.{variableTail, arrayTail, functionTail}
 use Rattle.script_entries.specs.declared.Entry.{Entry}
 use Rattle.script_entries.specs.declared.Entry.the-variants.{Nothing, Variable as VariableEntry, Array as ArrayEntry, Function as FunctionEntry}
-use Rattle.script_entries.specs.Entries.{firstOf, variablesOf, arraysOf, namesOf, Known, ArgumentsAt, Numbers, EntryIs, EntryOf}
+use Rattle.script_entries.specs.Entries.{firstOf, variablesOf, arraysOf, namesOf, Measured, KnownTo, ArgumentsAt, Numbers, EntryIs, EntryOf}
 use Rattle.script_entries.specs.Lined.{DeclaredLines, declared-lines}
 use Rattle.script_entries.specs.Finding.{no-numbers, variable-numbers, array-numbers, function-numbers}
 
@@ -35,12 +36,27 @@ module _ {s : List ℕ} {first : ℕ} {t : List ℕ} {c : ℕ} (x : Tabled s fir
   pub line-closed : {P : Type 0} {r : Step} → NameTo s p (readName (drop p s)) r → r ≡ No → P
   line-closed h q = absurd (impossible (sym (subst (NameTo s p (readName (drop p s))) q h) ∙ ap readName here ∙ x .closed k low .read))
 
+  -- a name that is found is as long as the one that was looked for
+  pub found-after : (a f : ℕ) → Named s a f → p ≤ length s → same (between s a (f - 1)) (nameAt (drop first s) k) ≡ true
+      → (p + (f - a) ≤ length s) × (drop (p + (f - a)) s ≡ afterBar (entryFrom k (drop first s)))
+  found-after a f h m e =
+      let b : List ℕ = entryFrom k (drop first s) in
+      let r : List ℕ = x .closed k low .rest in
+      let t = taken b (nameHere b) r (x .closed k low .read) in
+      let n : length (nameHere b) ≡ f - 1 - a = ap length (sym (same→eq (between s a (f - 1)) (nameHere b) (true→T e))) ∙ between-length s a (f - 1) (omega (arith, h .low)) (omega (arith, h .high)) in
+      let w : drop p s ≡ (nameHere b ++ (124 ∷ [])) ++ r = here ∙ t .whole ∙ sym (append-assoc (nameHere b) (124 ∷ []) r) in
+      let l : length (nameHere b ++ (124 ∷ [])) ≡ f - a = length-append (nameHere b) (124 ∷ []) ∙ omega (arith, n, h .low) in
+      let d : length (drop p s) ≡ length (nameHere b ++ (124 ∷ [])) + length r = ap length w ∙ length-append (nameHere b ++ (124 ∷ [])) r in (
+        let v = length-drop p s in omega (arith, v, d, l, m),
+        sym (drop-drop (f - a) p s) ∙ ap (drop (f - a)) w ∙ ap (λ (i : ℕ). drop i ((nameHere b ++ (124 ∷ [])) ++ r)) (sym l) ∙ drop-append-seam (nameHere b ++ (124 ∷ [])) r ∙ sym (t .after),
+      )
+
   pub line-after : {r : Step} {e : ℕ} → NameTo s p (readName (drop p s)) r → r ≡ To e → (e ≤ length s) × (drop e s ≡ afterBar (entryFrom k (drop first s)))
   line-after h q = let y = after-name s p h q in (y .0, y .1 ∙ ap afterBar here)
 
 -- ---------------------------------------------------------------- the entry of a line
 
-module _ {s t h : List ℕ} {D : Declarations} (κ : Known s t h D) where
+module _ {m : ℕ} {s t h : List ℕ} {D : Declarations} (κ : KnownTo m s t h D) where
   known-lines : DeclaredLines (drop (firstOf h) s) D
   known-lines = declared-lines (suc (length s)) (drop (firstOf h) s) D (drop (κ .end) s) (κ .read (suc (length s)) (omega arith))
 
@@ -67,19 +83,32 @@ module _ {s t h : List ℕ} {D : Declarations} (κ : Known s t h D) where
         f (functionAt D i .name) (functionAt D i) z (ap (functionTail (functionAt D i .name)) (here ∙ ap (λ (j : ℕ). after (j + i)) y) ∙ q)
 
   module _ (k e : ℕ) (here : drop e s ≡ after k) where
-    pub array-line : variablesOf h ≤ k → k < arraysOf h → {x v : ℕ} → ((n : Name) (a : Array) (z : List ℕ) → arrayTail n (drop e s) ≡ took a z → (a .index ≡ x) × (a .value ≡ v))
-        → EntryOf s h D k (ArrayEntry (k - variablesOf h) x v)
-    array-line o l f =
-        let y : k ≡ variablesOf h + (k - variablesOf h) = omega arith in
-        let (q, r) = array-told (k - variablesOf h) e (omega arith) (here ∙ ap after y) f in
-        (o, l, refl, q, r)
+    pub variable-measured : k < variablesOf h → {w y : ℕ} → ((n : Name) (v : Variable) (z : List ℕ) → variableTail n (drop e s) ≡ took v z → v .width ≡ w) → Measured s h D k w y
+    variable-measured l f = record {
+      variable = λ m. variable-told k e l here f;
+      array = λ o m. absurd (omega arith);
+      function = λ o. absurd (omega (arith, κ .arrays));
+    }
 
-    pub function-line : arraysOf h ≤ k → k < namesOf h → {p w : ℕ} → ((n : Name) (g : Function) (z : List ℕ) → functionTail n (drop e s) ≡ took g z → ArgumentsAt s p (g .arguments) × (g .width ≡ w))
-        → EntryOf s h D k (FunctionEntry (k - arraysOf h) p w)
-    function-line o l f =
+    pub array-measured : variablesOf h ≤ k → k < arraysOf h → {x v : ℕ} → ((n : Name) (a : Array) (z : List ℕ) → arrayTail n (drop e s) ≡ took a z → (a .index ≡ x) × (a .value ≡ v))
+        → Measured s h D k x v
+    array-measured o l f =
+        let y : k ≡ variablesOf h + (k - variablesOf h) = omega arith in
+        record {
+          variable = λ m. absurd (omega arith);
+          array = λ p m. array-told (k - variablesOf h) e (omega arith) (here ∙ ap after y) f;
+          function = λ p. absurd (omega arith);
+        }
+
+    pub function-measured : arraysOf h ≤ k → k < namesOf h → {p w : ℕ} → ((n : Name) (g : Function) (z : List ℕ) → functionTail n (drop e s) ≡ took g z → ArgumentsAt s p (g .arguments) × (g .width ≡ w))
+        → Measured s h D k p w
+    function-measured o l f =
         let y : k ≡ arraysOf h + (k - arraysOf h) = omega arith in
-        let (q, r) = function-told (k - arraysOf h) e (omega arith) (here ∙ ap after y) f in
-        (o, refl, q, r)
+        record {
+          variable = λ m. absurd (omega (arith, κ .arrays));
+          array = λ p m. absurd (omega arith);
+          function = λ p. function-told (k - arraysOf h) e (omega arith) (here ∙ ap after y) f;
+        }
 
   -- ---------------------------------------------------------------- the entry of a name
 

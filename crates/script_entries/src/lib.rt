@@ -10,16 +10,22 @@ ghost use Rattle.rebuilt.specs.Built.{variableAt, arrayAt, functionAt};
 ghost use Rattle.script_tokens.specs.Reached.{between};
 ghost use Rattle.script_names.specs.Entries.{afterBar, entryFrom, Named, Tabled};
 ghost use Rattle.script_decls.specs.Lines.{variableTail, arrayTail, functionTail};
-ghost use Rattle.script_entries.specs.Entries.{firstOf, variablesOf, arraysOf, namesOf, Known, ArgumentsAt, NextArgument, EntryIs, EntryOf};
+ghost use Rattle.script_entries.specs.Entries.{firstOf, variablesOf, arraysOf, namesOf, Measured, KnownTo, Entered, Known, ArgumentsAt, NextArgument, EntryIs, EntryOf};
 use script_decls::sort_in;
 use script_decls::sorts_end;
 use script_names::Found;
+use script_names::LINES;
 use script_names::TABLE;
 use script_names::find_line;
 use script_tokens::Number;
 use script_tokens::Step;
 use script_tokens::literal;
 use script_tokens::name_end;
+
+// Where the table has the first number and the second of what line 0 declares.
+const FIRST: usize = 7168;
+
+const SECOND: usize = 8704;
 
 // What a name is: nothing that is declared; a variable's number and width; an array's number, index width and value width; a function's
 // number, the place where the sorts of its arguments begin, and its width.
@@ -40,6 +46,13 @@ pub struct Widths {
 pub struct Signature {
     pub arguments: usize,
     pub width: u64,
+}
+
+// What a line declares, as two numbers: a variable's width, and 0; an array's index width and value width; where the sorts of a function's
+// arguments begin, and its width.
+struct Measure {
+    first: u64,
+    second: u64,
 }
 
 // ---------------------------------------------------------------- the rest of a line after its name
@@ -131,7 +144,7 @@ pub fn next_argument(s: &[u8], p: usize) -> Number
     sort_in(s, p, u64::MAX)
 }
 
-// ---------------------------------------------------------------- a line by its number
+// ---------------------------------------------------------------- what the lines declare, put into the table
 
 // The place after the name of line k, which the table has.
 fn after_name(s: &[u8], t: &[u64; TABLE], k: usize) -> usize
@@ -146,13 +159,62 @@ fn after_name(s: &[u8], t: &[u64; TABLE], k: usize) -> usize
     }
 }
 
+// What line k declares, whose name ends before place e.
+fn measure_after(s: &[u8], h: &[u64; 4], k: usize, e: usize) -> Measure
+    requires { ⌜ e ≤ length (now s) ⌝ }
+    ensures { λ r. ⌜ ((m : ℕ) (t : List ℕ) (D : Declarations) → KnownTo m (now (s .entry)) t (now (h .entry)) D → k < namesOf (now (h .entry))
+        → drop e (now (s .entry)) ≡ afterBar (entryFrom k (drop (firstOf (now (h .entry))) (now (s .entry)))) → Measured (now (s .entry)) (now (h .entry)) D k (r .first) (r .second)) ⌝ }
+{
+    let v = h[1] as usize;
+    let w = h[2] as usize;
+    if k < v {
+        return Measure {
+            first: variable_width(s, e),
+            second: 0,
+        };
+    }
+    if k < w {
+        let x = array_widths(s, e);
+        return Measure {
+            first: x.index,
+            second: x.value,
+        };
+    }
+    let g = function_signature(s, e);
+    Measure {
+        first: g.arguments as u64,
+        second: g.width,
+    }
+}
+
+// The table gets what each line declares, so that a use of a name need not read its line again; of more lines than the table holds it gets
+// nothing. Ruled out: the last line left out; the numbers of a line put where those of the line before it stand; a place at which the chain of a hash begins.
+pub fn measure_lines(s: &[u8], t: &mut [u64; TABLE], h: &[u64; 4])
+    requires { ⌜ ((D : Declarations) × Entered (now s) (now t) (now h) D) ⌝ }
+    ensures { λ r. ⌜ ((D : Declarations) → Entered (now (s .entry)) (now (t .entry)) (now (h .entry)) D → Known (now (s .entry)) (now (t .exit)) (now (h .entry)) D) ⌝ }
+{
+    let count = h[3] as usize;
+    if count > LINES {
+        return;
+    }
+    let mut k = 0;
+    while k < count {
+        let e = after_name(s, t, k);
+        let x = measure_after(s, h, k, e);
+        t[FIRST + k] = x.first;
+        t[SECOND + k] = x.second;
+        k += 1;
+    }
+}
+
+// ---------------------------------------------------------------- a line by its number
+
 // The width of variable k, of a script with at most 1,536 names. Ruled out: that of the variable after it; that of variable 0.
 pub fn variable_at(s: &[u8], t: &[u64; TABLE], h: &[u64; 4], k: usize) -> u64
     requires { ⌜ ((D : Declarations) × Known (now s) (now t) (now h) D) × (namesOf (now h) ≤ 1536) × (k < variablesOf (now h)) ⌝ }
     ensures { λ r. ⌜ ((D : Declarations) → Known (now (s .entry)) (now (t .entry)) (now (h .entry)) D → variableAt D k .width ≡ r) ⌝ }
 {
-    let e = after_name(s, t, k);
-    variable_width(s, e)
+    t[FIRST + k]
 }
 
 // The widths of array k. Ruled out: the two exchanged; those of the variable with the same number.
@@ -160,9 +222,10 @@ pub fn array_at(s: &[u8], t: &[u64; TABLE], h: &[u64; 4], k: usize) -> Widths
     requires { ⌜ ((D : Declarations) × Known (now s) (now t) (now h) D) × (namesOf (now h) ≤ 1536) × (variablesOf (now h) + k < arraysOf (now h)) ⌝ }
     ensures { λ r. ⌜ ((D : Declarations) → Known (now (s .entry)) (now (t .entry)) (now (h .entry)) D → (arrayAt D k .index ≡ r .index) × (arrayAt D k .value ≡ r .value)) ⌝ }
 {
-    let v = h[1] as usize;
-    let e = after_name(s, t, v + k);
-    array_widths(s, e)
+    let j = h[1] as usize + k;
+    let x = t[FIRST + j];
+    let y = t[SECOND + j];
+    Widths { index: x, value: y }
 }
 
 // The arguments and the width of function g. Ruled out: the width of the last argument; the place of the sort of the result.
@@ -171,30 +234,30 @@ pub fn function_at(s: &[u8], t: &[u64; TABLE], h: &[u64; 4], g: usize) -> Signat
     ensures { λ r. ⌜ ((D : Declarations) → Known (now (s .entry)) (now (t .entry)) (now (h .entry)) D
         → ArgumentsAt (now (s .entry)) (r .arguments) (functionAt D g .arguments) × (functionAt D g .width ≡ r .width)) ⌝ }
 {
-    let w = h[2] as usize;
-    let e = after_name(s, t, w + g);
-    function_signature(s, e)
+    let j = h[2] as usize + g;
+    let p = t[FIRST + j] as usize;
+    let w = t[SECOND + j];
+    Signature {
+        arguments: p,
+        width: w,
+    }
 }
 
 // ---------------------------------------------------------------- a name
 
-// The entry of line k, whose name ends before place e; the first v lines are variables, those up to w arrays.
-fn entry_after(s: &[u8], h: &[u64; 4], k: usize, e: usize) -> Entry
-    requires { ⌜ e ≤ length (now s) ⌝ }
-    ensures { λ r. ⌜ ((D : Declarations) (t : List ℕ) → Known (now (s .entry)) t (now (h .entry)) D → k < namesOf (now (h .entry))
-        → drop e (now (s .entry)) ≡ afterBar (entryFrom k (drop (firstOf (now (h .entry))) (now (s .entry)))) → EntryOf (now (s .entry)) (now (h .entry)) D k r) ⌝ }
+// The entry of line k, by what it declares.
+fn entry_by(h: &[u64; 4], k: usize, x: u64, y: u64) -> Entry
+    ensures { λ r. ⌜ ((s : List ℕ) (D : Declarations) → Measured s (now (h .entry)) D k x y → EntryOf s (now (h .entry)) D k r) ⌝ }
 {
     let v = h[1] as usize;
     let w = h[2] as usize;
     if k < v {
-        return Entry::Variable(k, variable_width(s, e));
+        return Entry::Variable(k, x);
     }
     if k < w {
-        let x = array_widths(s, e);
-        return Entry::Array(k - v, x.index, x.value);
+        return Entry::Array(k - v, x, y);
     }
-    let g = function_signature(s, e);
-    Entry::Function(k - w, g.arguments, g.width)
+    Entry::Function(k - w, x as usize, y)
 }
 
 // What the name from place a on, up to and with its bar before place f, is declared as. Ruled out: the index width of an array in place
@@ -208,8 +271,11 @@ pub fn entry_of(s: &[u8], t: &[u64; TABLE], h: &[u64; 4], a: usize, f: usize) ->
     let Found::At(k, p) = find_line(s, t, first, count, a, f) else {
         return Entry::Nothing;
     };
-    let Step::To(e) = name_end(s, p) else {
-        return Entry::Nothing;
-    };
-    entry_after(s, h, k, e)
+    if count > LINES {
+        let x = measure_after(s, h, k, p + (f - a));
+        return entry_by(h, k, x.first, x.second);
+    }
+    let x = t[FIRST + k];
+    let y = t[SECOND + k];
+    entry_by(h, k, x, y)
 }

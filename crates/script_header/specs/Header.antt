@@ -53,7 +53,7 @@ logicFor zero zero = bytes "QF_BV"
 
 -- no line is in the table
 pub record Empty (t : List ℕ) : Type 0 where
-  pub long : length t ≡ 7168
+  pub long : length t ≡ 10240
   pub zeros : (h : ℕ) → h < 4096 → getD t (3072 + h) 0 ≡ 0
 
 -- what was read from place `at` on: declarations from place `first` on, with v variables, w variables and arrays, c names in all, up to place e

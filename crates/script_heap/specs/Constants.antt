@@ -10,6 +10,7 @@ use lib.Dec.{T}
 use lib.ListN.{length, take, drop, getD, getElem?, set, length-drop, drop-of-length-le}
 use lib.Seq.{length-take-le}
 use Rattle.lists.specs.Places.{at-less}
+use Rattle.lists.specs.Tests.{same, same→eq, same-refl, true→T}
 use Rattle.smtlib.specs.Readings.{bitsOf}
 use Rattle.echo_spec.specs.Input.{Node}
 use Rattle.readback.specs.Reader.{Took, upTo}
@@ -233,3 +234,8 @@ half-constant heap heap′ nodes′ bits′ bs s (At m) (e, h, a, b) =
 
 pub half-at : (r : Settled) (m : ℕ) → r ≡ At m → Half r → 2 * m < 2 ^ 64
 half-at r m e v = subst Half e v
+
+-- the answer of a comparison
+pub compared-by : (xs ys : List ℕ) (r : Bool) → r ≡ same xs ys → Compared xs ys r
+compared-by xs ys true e = same→eq xs ys (true→T (sym e))
+compared-by xs ys false e = λ q. subst T (ap (same xs) q ∙ sym e) (same-refl xs)

@@ -31,6 +31,7 @@ ghost use Rattle.lent.specs.Records.{nodeOf};
 ghost use Rattle.heap_laws.specs.Heap.{sideAt, nodesSize, heapSize, bitsSize, topIn, bitCountIn, stackIn, stackSize, hashFrom, hashOf, bitsAt, refAt, halves, pairsBack, Held, Stacked};
 ghost use Rattle.heap_laws.specs.Filled.{filled};
 ghost use Rattle.script_heap.specs.Told.{Holds, HoldsNodes, HoldsBits, Told, ConstantTold, RefTold, Half, Pushed, AllTold, Recorded, Entered, Compared, DigitsTo, ConstantAt, numbered};
+use echo_names::same_bytes;
 use lent::Node;
 use lent::wide;
 use script_tokens::digits_end;
@@ -355,18 +356,11 @@ fn hash_at(bits: &[u8; BITS], at: usize, w: usize) -> usize
 }
 
 // Are the w bits from place a on those from place b on?
-fn same_bits(bits: &[u8; BITS], a: usize, b: usize, w: usize) -> bool
-    requires { ⌜ (a + w ≤ bitsSize) × (b + w ≤ bitsSize) ⌝ }
-    ensures { λ r. ⌜ (length (now (bits .entry)) ≡ bitsSize → Compared (take w (drop a (now (bits .entry)))) (take w (drop b (now (bits .entry)))) r) ⌝ }
+fn same_bits(bits: &[u8], a: usize, b: usize, w: usize) -> bool
+    requires { ⌜ (a + w ≤ length (now bits)) × (b + w ≤ length (now bits)) ⌝ }
+    ensures { λ r. ⌜ Compared (take w (drop a (now (bits .entry)))) (take w (drop b (now (bits .entry)))) r ⌝ }
 {
-    let mut i = 0;
-    while i < w {
-        if bits[a + i] != bits[b + i] {
-            return false;
-        }
-        i += 1;
-    }
-    true
+    same_bytes(&bits[a..a + w], &bits[b..b + w])
 }
 
 // Is node k, a constant, that of the w bits from place `at` on?

@@ -4,9 +4,9 @@ use mathlib.Core.Path.{_≡_, refl, ap, sym, _∙_, subst}
 use mathlib.Core.List.{List, [], _∷_}
 use mathlib.Core.Bool.{Bool, true, false}
 use native.Mathlib.Omega.{arith}
-use lib.Dec.{eqb, eqb→eq}
+use lib.Dec.{eqb, leb, eqb→eq}
 use borrow.Author.Tests.{eqb-false}
-use lib.ListN.{length, drop, getD, set, length-set}
+use lib.ListN.{length, take, drop, getD, set, length-set}
 use lib.Seq.{getD-set-same, getD-set-other}
 use Rattle.lists.specs.Tests.{true→T}
 use Rattle.script_names.specs.Entries.{entryFrom, nameHere, nameAt, hashFrom, hashOf, hashAt, Closed, Chains, Tabled}
@@ -18,7 +18,11 @@ hash-from-small h (c ∷ w) l = hash-from-small ((h * 31 + c) % 4096) w (omega a
 
 pub hash-small : (n : List ℕ) → hashOf n < 4096
 unfolding hashOf
-hash-small n = hash-from-small 0 (drop (length n - 16) n) (omega arith)
+hash-small n = by-length (leb (length n) 16) refl
+  where
+    by-length : (b : Bool) → leb (length n) 16 ≡ b → hashOf n < 4096
+    by-length true e = rw (e, hashOf) (hash-from-small 0 n (omega arith))
+    by-length false e = rw (e, hashOf) (hash-from-small (hashFrom 0 (take 16 n)) (drop (length n - 16) n) (hash-from-small 0 (take 16 n) (omega arith)))
 
 -- two numbers are equal or not
 by-equal : {P : Type 0} (k c : ℕ) → (k ≡ c → P) → ((k ≡ c → ⊥) → P) → P
@@ -32,11 +36,11 @@ by-equal {P} k c f g = go (eqb k c) refl
 abbrev pub entered : List ℕ → ℕ → ℕ → ℕ → List ℕ
 entered t c a h = set (set (set t c a) (1536 + c) (getD t (3072 + h) 0)) (3072 + h) (c + 1)
 
-module _ (t : List ℕ) (c a h : ℕ) (room : c < 1536) (long : length t ≡ 7168) (small : h < 4096) where
-  l₁ : length (set t c a) ≡ 7168
+module _ (t : List ℕ) (c a h : ℕ) (room : c < 1536) (long : length t ≡ 10240) (small : h < 4096) where
+  l₁ : length (set t c a) ≡ 10240
   l₁ = length-set t c a ∙ long
 
-  l₂ : length (set (set t c a) (1536 + c) (getD t (3072 + h) 0)) ≡ 7168
+  l₂ : length (set (set t c a) (1536 + c) (getD t (3072 + h) 0)) ≡ 10240
   l₂ = length-set (set t c a) (1536 + c) (getD t (3072 + h) 0) ∙ l₁
 
   place-other : (k : ℕ) → k < 1536 → (k ≡ c → ⊥) → getD (entered t c a h) k 0 ≡ getD t k 0
@@ -67,7 +71,7 @@ module _ (t : List ℕ) (c a h : ℕ) (room : c < 1536) (long : length t ≡ 716
   head-here : getD (entered t c a h) (3072 + h) 0 ≡ c + 1
   head-here = getD-set-same (set (set t c a) (1536 + c) (getD t (3072 + h) 0)) (3072 + h) (c + 1) 0 (omega (arith, l₂))
 
-module _ (s b t : List ℕ) (c a : ℕ) (room : c < 1536) (long : length t ≡ 7168) (x : Chains s b t c) (low : a ≤ length s) (here : drop a s ≡ entryFrom c b) where
+module _ (s b t : List ℕ) (c a : ℕ) (room : c < 1536) (long : length t ≡ 10240) (x : Chains s b t c) (low : a ≤ length s) (here : drop a s ≡ entryFrom c b) where
   abbrev h : ℕ
   h = hashAt b c
 

@@ -4,7 +4,8 @@ use Prim.Native.Nat.{ℕ, zero, suc, _+_, _*_, _-_, _%_, _≤_, _<_}
 use mathlib.Core.Path.{_≡_}
 use mathlib.Core.List.{List, [], _∷_}
 use mathlib.Core.Bool.{Bool, true, false}
-use lib.ListN.{length, drop, getD}
+use lib.Dec.{leb}
+use lib.ListN.{length, take, drop, getD}
 use Rattle.lists.specs.Tests.{same}
 use Rattle.reading.specs.Trees.{Name}
 use Rattle.readback.specs.Reader.{Took, took, upTo, readName}
@@ -52,19 +53,20 @@ Sought s first count n (At k p) =
 
 -- ---------------------------------------------------------------- the table
 
--- a number below 4,096, from the last sixteen bytes of a name. Nothing rests on which it is.
+-- a number below 4,096, from the first and the last sixteen bytes of a name. Nothing rests on which it is.
 unfoldable pub hashFrom : ℕ → List ℕ → ℕ
 hashFrom h [] = h
 hashFrom h (c ∷ w) = hashFrom ((h * 31 + c) % 4096) w
 
 unfoldable pub hashOf : Name → ℕ
-hashOf n = hashFrom 0 (drop (length n - 16) n)
+hashOf n = elim (leb (length n) 16) [ true ↦ hashFrom 0 n | false ↦ hashFrom (hashFrom 0 (take 16 n)) (drop (length n - 16) n) ]
 
 abbrev pub hashAt : List ℕ → ℕ → ℕ
 hashAt b k = hashOf (nameAt b k)
 
 -- Places 0 to 1,535 hold where the name of each line begins; the next 1,536, for each line, 1 and the number of the last line before it
--- with the same hash, or 0; the last 4,096, for each hash, 1 and the number of the last line with it, or 0.
+-- with the same hash, or 0; the next 4,096, for each hash, 1 and the number of the last line with it, or 0.
+-- Of the places from 7,168 on nothing is asked here.
 pub record Chains (s b t : List ℕ) (count : ℕ) : Type 0 where
   pub place : (k : ℕ) → k < count → getD t k 0 ≤ length s
   pub entry : (k : ℕ) → k < count → drop (getD t k 0) s ≡ entryFrom k b
@@ -75,6 +77,6 @@ pub record Chains (s b t : List ℕ) (count : ℕ) : Type 0 where
 
 -- The table of the first `count` lines from place `first` on. Past 1,536 lines nothing is asked of it: the lines themselves are looked at.
 pub record Tabled (s : List ℕ) (first : ℕ) (t : List ℕ) (count : ℕ) : Type 0 where
-  pub long : length t ≡ 7168
+  pub long : length t ≡ 10240
   pub closed : AllClosed (drop first s) count
   pub chains : count ≤ 1536 → Chains s (drop first s) t count

@@ -5,10 +5,10 @@ use mathlib.Core.List.{List, [], _∷_, _++_, append-assoc}
 use mathlib.Core.Bool.{Bool, true, false}
 use mathlib.Core.Option.{Option, none, some}
 use native.Mathlib.Omega.{arith}
-use lib.Dec.{T, eqb, ltb, eqb→eq, ltb→lt, nltb→le}
-use borrow.Author.Tests.{eqb-false}
+use lib.Dec.{T, eqb, leb, ltb, eqb→eq, ltb→lt, nltb→le}
+use borrow.Author.Tests.{eqb-false, le-leb, lt-leb}
 use lib.ListN.{length, take, drop, getD, set, length-set, length-append, length-take, length-drop, take-append-drop}
-use lib.Seq.{drop-drop, drop-length, drop-cons, take-nil, length-take-le}
+use lib.Seq.{drop-drop, drop-length, drop-cons, take-nil, take-take, length-take-le, getD-take, getD-drop, getD-set-other}
 use Rattle.lists.specs.Bytes.{bytes}
 use Rattle.lists.specs.Tests.{same, same→eq, same-refl, T→true, true→T, no→false}
 use Rattle.reading.specs.Trees.{Name}
@@ -17,7 +17,8 @@ use Rattle.reader_laws.specs.TermsStrict.{impossible, and-then, took-both, expe
 use Rattle.script_tokens.specs.Reached.{between, NameTo, endsName}
 use Rattle.script_tokens.specs.declared.Step.{Step}
 use Rattle.script_tokens.specs.declared.Step.the-variants.{No, To}
-use Rattle.script_names.specs.Chains.{entered, chains-more}
+use Rattle.echo_names.specs.Compared.{Compared, compared-same, compared-apart, compared-at, compared-past, compared-end}
+use Rattle.script_names.specs.Chains.{entered, chains-more, hash-small}
 use Rattle.script_names.specs.Entries.{afterBar, entryFrom, nameHere, nameAt, Named, Closed, AllClosed, hashFrom, hashOf, hashAt, Chains, Tabled}
 
 -- ---------------------------------------------------------------- a name and its bar
@@ -135,25 +136,32 @@ pub hash-whole : (s : List ℕ) (a e : ℕ) → a ≤ e → e ≤ length s → e
 unfolding hashOf
 hash-whole s a e l m k =
     let n = between-length s a e l m in
-    let z : length (between s a e) - 16 ≡ 0 = omega arith in
-    rw z refl
+    let z : leb (length (between s a e)) 16 ≡ true = le-leb (length (between s a e)) 16 (omega arith) in
+    rw (z, hashOf)
 
 drop-take : (k n : ℕ) (l : List ℕ) → drop k (take (k + n) l) ≡ take n (drop k l)
 drop-take zero n l = let z : 0 + n ≡ n = omega arith in rw z refl
 drop-take (suc k) n [] = let z : suc k + n ≡ suc (k + n) = omega arith in rw z (sym (take-nil n))
 drop-take (suc k) n (x ∷ l) = let z : suc k + n ≡ suc (k + n) = omega arith in rw z (drop-take k n l)
 
-pub hash-last : (s : List ℕ) (a e : ℕ) → a ≤ e → e ≤ length s → 16 < e - a → hashFrom 0 (between s (e - 16) e) ≡ hashOf (between s a e)
+pub hash-ends : (s : List ℕ) (a e : ℕ) → a ≤ e → e ≤ length s → 16 < e - a → hashFrom (hashFrom 0 (between s a (a + 16))) (between s (e - 16) e) ≡ hashOf (between s a e)
 unfolding hashOf
-hash-last s a e l m k = parted (e - a - 16) (e - 16) (omega arith) (omega arith) (between-length s a e l m)
+hash-ends s a e l m k = parted (e - a - 16) (e - 16) (omega arith) (omega arith) (between-length s a e l m)
   where
-    parted : (d b : ℕ) → d + 16 ≡ e - a → a + d ≡ b → length (between s a e) ≡ e - a → hashFrom 0 (between s b e) ≡ hashOf (between s a e)
+    first : between s a (a + 16) ≡ take 16 (between s a e)
+    first =
+        let x : a + 16 - a ≡ 16 = omega arith in
+        ap (λ (i : ℕ). take i (drop a s)) x ∙ sym (take-take 16 (e - a) (drop a s) (omega arith))
+
+    parted : (d b : ℕ) → d + 16 ≡ e - a → a + d ≡ b → length (between s a e) ≡ e - a → hashFrom (hashFrom 0 (between s a (a + 16))) (between s b e) ≡ hashOf (between s a e)
     parted d b p q n =
         let z : length (between s a e) - 16 ≡ d = omega (arith, p, n) in
         let y : e - b ≡ 16 = omega (arith, p, q, l) in
         let x : take (e - a) (drop a s) ≡ take (d + 16) (drop a s) = ap (λ (i : ℕ). take i (drop a s)) (sym p) in
-        ap (hashFrom 0)
-        (ap (λ (i : ℕ). take i (drop b s)) y ∙ ap (λ (i : ℕ). take 16 (drop i s)) (sym q) ∙ sym (ap (take 16) (drop-drop d a s)) ∙ sym (drop-take d 16 (drop a s)) ∙ ap (drop d) (sym x) ∙ ap (λ (i : ℕ). drop i (between s a e)) (sym z))
+        let w : leb (length (between s a e)) 16 ≡ false = lt-leb (length (between s a e)) 16 (omega (arith, p, n, k)) in
+        let v : between s b e ≡ drop (length (between s a e) - 16) (between s a e) =
+        ap (λ (i : ℕ). take i (drop b s)) y ∙ ap (λ (i : ℕ). take 16 (drop i s)) (sym q) ∙ sym (ap (take 16) (drop-drop d a s)) ∙ sym (drop-take d 16 (drop a s)) ∙ ap (drop d) (sym x) ∙ ap (λ (i : ℕ). drop i (between s a e)) (sym z) in
+        (λ i. hashFrom (hashFrom 0 (first i)) (v i)) ∙ rw (w, hashOf)
 
 -- ---------------------------------------------------------------- chains
 
@@ -182,6 +190,33 @@ name-short s a f p l m k = sym (no→false (same (between s a f) (take (f - a) (
 
 pub name-part : (s : List ℕ) (a f p : ℕ) → same (between s a f) (take (p + (f - a) - p) (drop p s)) ≡ same (between s a f) (take (f - a) (drop p s))
 name-part s a f p = let z : p + (f - a) - p ≡ f - a = omega arith in rw z refl
+
+-- a byte of a part
+part-at : (s : List ℕ) (a m i : ℕ) → i < m → getD (take m (drop a s)) i 0 ≡ getD s (a + i) 0
+part-at s a m i l = getD-take m (drop a s) i 0 l ∙ getD-drop a s i 0
+
+-- two parts of m bytes, compared up to place i
+abbrev pub Alike : List ℕ → ℕ → ℕ → ℕ → ℕ → Bool → Type 0
+Alike s a p m i ok = Compared (take m (drop a s)) (take m (drop p s)) 0 i ok
+
+module _ (s : List ℕ) (a p m : ℕ) where
+  pub alike-more : (i : ℕ) → i < m → getD s (a + i) 0 ≡ getD s (p + i) 0 → Alike s a p m i true → Alike s a p m (i + 1) true
+  alike-more i l e h = compared-same h (part-at s a m i l ∙ e ∙ sym (part-at s p m i l))
+
+  module _ (low : a + m ≤ length s) (high : p + m ≤ length s) where
+    long-a : length (take m (drop a s)) ≡ m
+    long-a = let d = length-drop a s in length-take-le m (drop a s) (omega arith)
+
+    long-p : length (take m (drop p s)) ≡ m
+    long-p = let d = length-drop p s in length-take-le m (drop p s) (omega arith)
+
+    pub alike-not : (i : ℕ) → i < m → (getD s (a + i) 0 ≡ getD s (p + i) 0 → ⊥) → Alike s a p m i true → false ≡ same (take m (drop a s)) (take m (drop p s))
+    alike-not i l f h =
+        compared-end (long-a ∙ sym long-p) (λ j x y. absurd (omega arith))
+        (compared-past (compared-apart h (λ e. f (sym (part-at s a m i l) ∙ e ∙ part-at s p m i l))))
+
+    pub alike-end : (i : ℕ) → i ≡ m → Alike s a p m i true → true ≡ same (take m (drop a s)) (take m (drop p s))
+    alike-end i e h = compared-end (long-a ∙ sym long-p) (λ j x y. absurd (omega arith)) (compared-at h (e ∙ sym long-a))
 
 -- what holds of each number below k, and of k
 pub all-more : (P : ℕ → Type 0) (k : ℕ) → ((j : ℕ) → j < k → P j) → P k → (j : ℕ) → j < k + 1 → P j
@@ -290,7 +325,7 @@ tabled-past s first t count a f x n e l = record {
 }
 
 -- the table before any line
-pub tabled-start : (s : List ℕ) (first : ℕ) (t : List ℕ) → length t ≡ 7168 → ((h : ℕ) → h < 4096 → getD t (3072 + h) 0 ≡ 0) → Tabled s first t 0
+pub tabled-start : (s : List ℕ) (first : ℕ) (t : List ℕ) → length t ≡ 10240 → ((h : ℕ) → h < 4096 → getD t (3072 + h) 0 ≡ 0) → Tabled s first t 0
 tabled-start s first t l z = record {
   long = l;
   closed = λ k m. absurd (omega arith);
@@ -302,4 +337,24 @@ tabled-start s first t l z = record {
     next-all = λ k q. absurd (omega arith);
     next-own = λ k q. absurd (omega arith);
   };
+}
+
+-- ---------------------------------------------------------------- places past the chains
+
+-- what is written from place 7,168 on leaves the chains as they are
+chains-kept : (s b t u : List ℕ) (count : ℕ) → count ≤ 1536 → ((i : ℕ) → i < 7168 → getD u i 0 ≡ getD t i 0) → Chains s b t count → Chains s b u count
+chains-kept s b t u count few same-at x = record {
+  place = λ k l. rw (same-at k (omega arith)) (x .place k l);
+  entry = λ k l. rw (same-at k (omega arith)) (x .entry k l);
+  head-all = λ k l. (let y = hash-small (nameAt b k) in rw (same-at (3072 + hashAt b k) (omega arith)) (x .head-all k l));
+  head-own = λ h l k q. x .head-own h l k (sym (same-at (3072 + h) (omega arith)) ∙ q);
+  next-all = λ k l j m q. rw (same-at (1536 + k) (omega arith)) (x .next-all k l j m q);
+  next-own = λ k l j q. x .next-own k l j (sym (same-at (1536 + k) (omega arith)) ∙ q);
+}
+
+pub tabled-kept : {s : List ℕ} {first : ℕ} {t : List ℕ} {count : ℕ} (i x : ℕ) → 7168 ≤ i → Tabled s first t count → Tabled s first (set t i x) count
+tabled-kept {s} {first} {t} {count} i x l y = record {
+  long = length-set t i x ∙ y .long;
+  closed = y .closed;
+  chains = λ m. chains-kept s (drop first s) t (set t i x) count m (λ j p. getD-set-other t i j x 0 (λ e. omega arith)) (y .chains m);
 }

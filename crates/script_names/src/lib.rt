@@ -13,8 +13,9 @@ use script_tokens::name_end;
 // How many lines the table holds.
 pub const LINES: usize = 1536;
 
-// The table: where names begin, the lines before with the same hash, the last line of each hash.
-pub const TABLE: usize = 7168;
+// The table: where names begin, the lines before with the same hash, the last line of each hash; then two numbers of each line, which are
+// for what the lines declare.
+pub const TABLE: usize = 10240;
 
 const NEXT: usize = 1536;
 
@@ -32,11 +33,12 @@ fn wide(x: u8) -> u64
     x as u64
 }
 
-fn hash_from(s: &[u8], from: usize, e: usize) -> usize
-    requires { ⌜ (from ≤ e) × (e ≤ length (now s)) ⌝ }
-    ensures { λ r. ⌜ (r ≡ hashFrom 0 (between (now (s .entry)) from e)) × (r < 4096) ⌝ }
+// The hash goes on from a number over a part of the script.
+fn hash_from(s: &[u8], start: usize, from: usize, e: usize) -> usize
+    requires { ⌜ (start < 4096) × (from ≤ e) × (e ≤ length (now s)) ⌝ }
+    ensures { λ r. ⌜ (r ≡ hashFrom start (between (now (s .entry)) from e)) × (r < 4096) ⌝ }
 {
-    let mut h: u64 = 0;
+    let mut h = start as u64;
     let mut i = from;
     while i < e {
         h = (h * 31 + wide(s[i])) % 4096;
@@ -45,15 +47,17 @@ fn hash_from(s: &[u8], from: usize, e: usize) -> usize
     h as usize
 }
 
-// The hash of a part of the script. Ruled out: one that reads before the part; one that is not below 4,096.
+// The hash of a part of the script: of a long one by its first and last sixteen bytes. Ruled out: one that reads before the part; one that is not
+// below 4,096.
 pub fn hash_part(s: &[u8], a: usize, e: usize) -> usize
     requires { ⌜ (a ≤ e) × (e ≤ length (now s)) ⌝ }
     ensures { λ r. ⌜ (r ≡ hashOf (between (now (s .entry)) a e)) × (r < 4096) ⌝ }
 {
     if e - a > 16 {
-        return hash_from(s, e - 16, e);
+        let h = hash_from(s, 0, a, a + 16);
+        return hash_from(s, h, e - 16, e);
     }
-    hash_from(s, a, e)
+    hash_from(s, 0, a, e)
 }
 
 // The place after the first bar from here on, or the end.
@@ -67,7 +71,22 @@ fn after_bar(s: &[u8], at: usize) -> usize
     }
 }
 
-// Do the bytes at place p begin with the name from a on, up to and with its bar before f?
+// Are the m bytes from place a on those from place p on?
+fn alike(s: &[u8], a: usize, p: usize, m: usize) -> bool
+    requires { ⌜ (a + m ≤ length (now s)) × (p + m ≤ length (now s)) ⌝ }
+    ensures { λ r. ⌜ r ≡ same (take m (drop a (now (s .entry)))) (take m (drop p (now (s .entry)))) ⌝ }
+{
+    let mut i = 0;
+    while i < m {
+        if s[a + i] != s[p + i] {
+            return false;
+        }
+        i += 1;
+    }
+    true
+}
+
+// Do the bytes at place p begin with the name from a on, up to and with its bar before f? (Most names are short, and are compared here.)
 fn name_is(s: &[u8], a: usize, f: usize, p: usize) -> bool
     requires { ⌜ (a ≤ f) × (f ≤ length (now s)) × (p ≤ length (now s)) ⌝ }
     ensures { λ r. ⌜ r ≡ same (between (now (s .entry)) a f) (take (f - a) (drop p (now (s .entry)))) ⌝ }
@@ -75,6 +94,9 @@ fn name_is(s: &[u8], a: usize, f: usize, p: usize) -> bool
     let m = f - a;
     if m > s.len() - p {
         return false;
+    }
+    if m <= 16 {
+        return alike(s, a, p, m);
     }
     same_bytes(&s[a..f], &s[p..p + m])
 }

@@ -12,11 +12,11 @@ use Rattle.heap_laws.specs.Start.{Blank, held-none, stacked-none}
 abbrev zerosOf : ℕ → List ℕ
 zerosOf n = replicate n 0
 
-table-of : (n : ℕ) → n ≡ 7168 → Empty (zerosOf n)
+table-of : (n : ℕ) → n ≡ 10240 → Empty (zerosOf n)
 table-of n e = record { long = subst (λ (k : ℕ). length (zerosOf n) ≡ k) e (length-replicate n 0); zeros = λ h l. replicate-zeros n .at _ }
 
-pub fresh-table : Empty (replicate 7168 0)
-fresh-table = table-of 7168 refl
+pub fresh-table : Empty (replicate 10240 0)
+fresh-table = table-of 10240 refl
 
 flags-of : (n : ℕ) → n ≡ 512 → Unflagged (zerosOf n)
 flags-of n e = record { long = subst (λ (k : ℕ). length (zerosOf n) ≡ k) e (length-replicate n 0); zeros = λ h l. replicate-zeros n .at h }

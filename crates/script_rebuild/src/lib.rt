@@ -1,12 +1,11 @@
 // A script's problem rebuilt in local arrays: whether the bytes are a script, whether its problem keeps to the limits, and then its nodes, bits,
 // side entries and roots. Under "Ruled out" stand wrong programs that a public function's contract refuses.
 ghost use mathlib.Core.Path.{_≡_};
-ghost use mathlib.Core.List.{List, [], _∷_};
+ghost use mathlib.Core.List.{List, []};
 ghost use mathlib.Core.Bool.{true, false};
 ghost use Prim.Native.Nat.{ℕ, _≤_, _<_};
-ghost use lib.ListN.{length, take};
-ghost use Rattle.reading.specs.Trees.{Declarations, Tree};
-ghost use Rattle.readback.specs.Printable.{variableNamesIn, arrayNamesIn, functionNamesIn};
+ghost use lib.ListN.{length};
+ghost use Rattle.reading.specs.Trees.{Declarations};
 ghost use Rattle.readback.specs.Rebuild.{rebuild};
 ghost use Rattle.script_header.specs.Header.{Empty};
 ghost use Rattle.script_entries.specs.Entries.{Known, namesOf};
@@ -19,6 +18,9 @@ ghost use Rattle.script_rebuild.specs.Decided.{lengthsOf, allWithin, nee
 ghost use Rattle.readback.specs.Records.{inputs};
 ghost use Rattle.script_rebuild.specs.Tables.{ArenasAre};
 use place_script::place_script;
+use refusals::MAX_ARENA;
+use refusals::MAX_ENTRIES;
+use refusals::MAX_ROOTS;
 use script_calls::FLAGS;
 use script_calls::called_in;
 use script_check::Check;
@@ -37,6 +39,7 @@ pub struct Arenas {
     pub anames: usize,
     pub fnames: usize,
 }
+
 // How many bytes the names of each table have; of names over the limit, one more than the limit.
 fn arena_lengths(s: &[u8], t: &[u64; TABLE], h: &[u64; 4]) -> Arenas
     requires { ⌜ ((D : Declarations) × Known (now s) (now t) (now h) D) × (namesOf (now h) ≤ 1536) ⌝ }
@@ -75,23 +78,23 @@ fn tables_fit(s: &[u8], t: &[u64; TABLE], h: &[u64; 4]) -> bool
     let v = h[1];
     let w = h[2];
     let c = h[3];
-    if v > 512 {
+    if v > MAX_ENTRIES as u64 {
         return false;
     }
-    if w - v > 512 {
+    if w - v > MAX_ENTRIES as u64 {
         return false;
     }
-    if c - w > 512 {
+    if c - w > MAX_ENTRIES as u64 {
         return false;
     }
     let a = arena_lengths(s, t, h);
-    if a.names > 16384 {
+    if a.names > MAX_ARENA {
         return false;
     }
-    if a.anames > 16384 {
+    if a.anames > MAX_ARENA {
         return false;
     }
-    a.fnames <= 16384
+    a.fnames <= MAX_ARENA
 }
 
 // The script's problem, rebuilt. Ruled out: a limit told of bytes that are no script; a problem over a limit that is told as whole; roots left out.
@@ -114,7 +117,7 @@ pub fn rebuild_script(
     let Check::Yes(from, n) = check_script(s, t, h) else {
         return Rebuilt::NoScript;
     };
-    if n > 256 {
+    if n > MAX_ROOTS {
         return Rebuilt::Limit;
     }
     if !tables_fit(s, t, h) {

@@ -44,6 +44,19 @@ pub runs-on : {ends : ℕ → Bool} {s : List ℕ} {a e : ℕ} → Runs ends s a
 unfolding upTo
 runs-on {ends} {s} {a} {e} r h q = record { rest = r .rest ∙ ap (λ (b : List ℕ). upTo ends b .rest) (bytes-at s e h) ∙ rw (q, upTo) }
 
+-- and then on from there
+pub runs-join : {ends : ℕ → Bool} {s : List ℕ} {a b c : ℕ} → Runs ends s a b → Runs ends s b c → Runs ends s a c
+runs-join r q = record { rest = r .rest ∙ q .rest }
+
+pub runs-at : {ends : ℕ → Bool} {s : List ℕ} {a e f : ℕ} → Runs ends s a e → e ≡ f → Runs ends s a f
+runs-at {ends} {s} {a} r q = subst (λ (k : ℕ). Runs ends s a k) q r
+
+-- a place that is reached
+pub record Within (ends : ℕ → Bool) (s : List ℕ) (a e : ℕ) : Type 0 where
+  pub low : a ≤ e
+  pub high : e ≤ length s
+  pub runs : Runs ends s a e
+
 stretch : (ends : ℕ → Bool) (s : List ℕ) (a e : ℕ) → a ≤ e → e ≤ length s → Runs ends s a e → upTo ends (drop e s) .rest ≡ drop e s → Stretch ends s a e
 stretch ends s a e l h r q =
     let z : upTo ends (drop a s) .rest ≡ drop e s = r .rest ∙ q in

@@ -3,12 +3,14 @@
 // Under "Ruled out" stand wrong programs that a public function's contract refuses.
 ghost use mathlib.Core.Path.{_≡_};
 ghost use Prim.Native.Nat.{_+_, _*_, _≤_, _<_};
+ghost use mathlib.Core.Bool.{true};
 ghost use lib.Dec.{T};
 ghost use lib.ListN.{length, drop, getD};
 ghost use Rattle.smtlib.specs.Lexicon.{digit};
 ghost use Rattle.echo_spec.specs.Input.{fits64};
 ghost use Rattle.readback.specs.Reader.{expect, readName};
 ghost use Rattle.script_tokens.specs.Reached.{Reached, NameTo, Stretch, endsName, endsDigits, endsWord, Numbered, numeral64};
+ghost use Rattle.script_tokens.specs.Stretches.{Runs, Within};
 ghost use Rattle.script_tokens.specs.Numerals.{Digits};
 
 // The place after what was read, or that something else stands there.
@@ -74,7 +76,53 @@ fn ends_word(c: u8) -> bool
     c == b')'
 }
 
-// The place of the first bar from here on, or the end. Ruled out: the place after the bar; the last bar.
+// Is there no bar among the sixteen bytes from place e on? (All are looked at: a loop that is not left midway is done at once.)
+fn no_bar(s: &[u8], e: usize) -> bool
+    requires { ⌜ e + 16 ≤ length (now s) ⌝ }
+    ensures { λ r. ⌜ (r ≡ true → Runs endsName (now (s .entry)) e (e + 16)) ⌝ }
+{
+    let mut ok = true;
+    let mut k = 0;
+    while k < 16 {
+        if ends_name(s[e + k]) {
+            ok = false;
+        }
+        k += 1;
+    }
+    ok
+}
+
+// The first bar from place `from` on, where there is none between place `at` and it.
+fn bar_from(s: &[u8], at: usize, from: usize) -> usize
+    requires { ⌜ Within endsName (now s) at from ⌝ }
+    ensures { λ r. ⌜ Stretch endsName (now (s .entry)) at r ⌝ }
+{
+    let mut e = from;
+    while e < s.len() {
+        if ends_name(s[e]) {
+            return e;
+        }
+        e += 1;
+    }
+    e
+}
+
+// The same, sixteen bytes at a time.
+fn far_bar(s: &[u8], at: usize, from: usize) -> usize
+    requires { ⌜ Within endsName (now s) at from ⌝ }
+    ensures { λ r. ⌜ Stretch endsName (now (s .entry)) at r ⌝ }
+{
+    let mut e = from;
+    while s.len() - e >= 16 {
+        if !no_bar(s, e) {
+            return bar_from(s, at, e);
+        }
+        e += 16;
+    }
+    bar_from(s, at, e)
+}
+
+// The place of the first bar from here on, or the end; most are near. Ruled out: the place after the bar; the last bar.
 pub fn bar_at(s: &[u8], at: usize) -> usize
     requires { ⌜ at ≤ length (now s) ⌝ }
     ensures { λ r. ⌜ Stretch endsName (now (s .entry)) at r ⌝ }
@@ -85,6 +133,9 @@ pub fn bar_at(s: &[u8], at: usize) -> usize
             return e;
         }
         e += 1;
+        if e - at == 16 {
+            return far_bar(s, at, e);
+        }
     }
     e
 }
@@ -102,12 +153,28 @@ pub fn name_end(s: &[u8], at: usize) -> Step
     }
 }
 
-// The place of the first byte from here on that is no binary digit, or the end. Ruled out: a 2 taken for a digit; a place past the byte.
-pub fn digits_end(s: &[u8], at: usize) -> usize
-    requires { ⌜ at ≤ length (now s) ⌝ }
+// Are the sixteen bytes from place e on binary digits? (All are looked at.)
+fn all_digits(s: &[u8], e: usize) -> bool
+    requires { ⌜ e + 16 ≤ length (now s) ⌝ }
+    ensures { λ r. ⌜ (r ≡ true → Runs endsDigits (now (s .entry)) e (e + 16)) ⌝ }
+{
+    let mut ok = true;
+    let mut k = 0;
+    while k < 16 {
+        if ends_digits(s[e + k]) {
+            ok = false;
+        }
+        k += 1;
+    }
+    ok
+}
+
+// The first byte from place `from` on that is no binary digit, where all between place `at` and it are.
+fn digits_from(s: &[u8], at: usize, from: usize) -> usize
+    requires { ⌜ Within endsDigits (now s) at from ⌝ }
     ensures { λ r. ⌜ Stretch endsDigits (now (s .entry)) at r ⌝ }
 {
-    let mut e = at;
+    let mut e = from;
     while e < s.len() {
         if ends_digits(s[e]) {
             return e;
@@ -115,6 +182,21 @@ pub fn digits_end(s: &[u8], at: usize) -> usize
         e += 1;
     }
     e
+}
+
+// The place of the first byte from here on that is no binary digit, or the end. Ruled out: a 2 taken for a digit; a place past the byte.
+pub fn digits_end(s: &[u8], at: usize) -> usize
+    requires { ⌜ at ≤ length (now s) ⌝ }
+    ensures { λ r. ⌜ Stretch endsDigits (now (s .entry)) at r ⌝ }
+{
+    let mut e = at;
+    while s.len() - e >= 16 {
+        if !all_digits(s, e) {
+            return digits_from(s, at, e);
+        }
+        e += 16;
+    }
+    digits_from(s, at, e)
 }
 
 // The place of the first blank or closing bracket from here on, where the head of a term ends, or the end. Ruled out: an end at an

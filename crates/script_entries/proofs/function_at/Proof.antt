@@ -1,32 +1,47 @@
--- `function_at` meets its contract: the entry is that of its line.
+-- `function_at` meets its contract: the table has the place of the sorts and the width.
 use native.Mathlib.Omega.{arith}
-use Rattle.script_entries.specs.Entries.{firstOf, namesOf}
-use Rattle.script_entries.specs.Telling.{function-told}
+use Rattle.script_entries.specs.Columns.{function-known}
 use borrow.Author.Needs.{needs}
 use Rattle.script_entries.proofs.function_at.Statement.{statement}
 use Rattle.script_entries.proofs.function_at.Tie as tie
 
+element-copy-out-j : tie.Need-element-copy-out-j
+element-copy-out-j c = search needs
+
+add-j : tie.Need-add-j
+add-j c = omega (arith, c .before .pre .1, c .before .pre .2)
+
+add-p : tie.Need-add-p
+add-p c = omega (arith, c .before .pre .1, c .before .pre .2)
+
+mul-p : tie.Need-mul-p
+mul-p c = omega (arith, c .before .pre .1, c .before .pre .2)
+
+element-copy-out-p : tie.Need-element-copy-out-p
+element-copy-out-p c = omega (arith, c .before .pre .1, c .before .pre .2)
+
+add-w : tie.Need-add-w
+add-w c = omega (arith, c .before .before .pre .1, c .before .before .pre .2)
+
+mul-w : tie.Need-mul-w
+mul-w c = omega (arith, c .before .before .pre .1, c .before .before .pre .2)
+
 element-copy-out-w : tie.Need-element-copy-out-w
-element-copy-out-w c = search needs
-
-add-after-name : tie.Need-add-after-name
-add-after-name c = search needs
-
-after-name-requires : tie.Need-after-name-requires
-after-name-requires c κs = (firstOf (c .before .before .args .h .now), namesOf (c .before .before .args .h .now), (c .before .before .pre .0 .1) .tabled, omega (arith, (c .before .before .pre .0 .1) .variables, (c .before .before .pre .0 .1) .arrays, (c .before .before .pre .0 .1) .functions, c .before .before .pre .2), c .before .before .pre .1)
-
-function-signature-requires : tie.Need-function-signature-requires
-function-signature-requires c κs = c .after-name .ensures .0
+element-copy-out-w c = omega (arith, c .before .before .pre .1, c .before .before .pre .2)
 
 returns : tie.Need-returns
-returns c = λ D κ. function-told κ (c .before .before .before .before .args .g) (c .before .after-name .result) (c .before .before .before .before .pre .2) (c .before .after-name .ensures .1 (firstOf (c .before .before .before .before .args .h .now)) (namesOf (c .before .before .before .before .args .h .now)) (κ .tabled) (omega (arith, κ .variables, κ .arrays, κ .functions, c .before .before .before .before .pre .2)) (c .before .before .before .before .pre .1)) (c .function-signature .ensures)
+returns c = λ D κ. function-known κ (c .before .before .before .pre .1) (c .before .before .before .args .g) (c .before .before .before .pre .2)
 
 pub function-at-spec : {M : Type 1} → statement M
 function-at-spec =
     tie.close
     (tie.spec
+    element-copy-out-j
+    add-j
+    add-p
+    mul-p
+    element-copy-out-p
+    add-w
+    mul-w
     element-copy-out-w
-    add-after-name
-    after-name-requires
-    function-signature-requires
     returns)

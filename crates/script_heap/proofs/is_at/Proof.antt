@@ -18,19 +18,19 @@ returns : tie.Need-returns
 returns c = λ nodes s ds h e. length-apart h (c .before .before .args .k) ds e (c .before .before .args .at) (c .before .before .args .w) (c .before .before .pre .1) (c .if1 .taken)
 
 add-same-bits : tie.Need-add-same-bits
-add-same-bits c = omega (arith, node-small (c .before .before .pre .0 .3) (c .before .before .args .k) (c .before .before .pre .0 .2) (c .before .before .pre .0 .4))
+add-same-bits c = omega (arith, node-small (c .before .before .before .pre .0 .3) (c .before .before .before .args .k) (c .before .before .before .pre .0 .2) (c .before .before .before .pre .0 .4))
 
 mul-same-bits : tie.Need-mul-same-bits
-mul-same-bits c = omega (arith, node-small (c .before .before .pre .0 .3) (c .before .before .args .k) (c .before .before .pre .0 .2) (c .before .before .pre .0 .4))
+mul-same-bits c = omega (arith, node-small (c .before .before .before .pre .0 .3) (c .before .before .before .args .k) (c .before .before .before .pre .0 .2) (c .before .before .before .pre .0 .4))
 
 element-copy-out-same-bits : tie.Need-element-copy-out-same-bits
-element-copy-out-same-bits c = omega (arith, node-small (c .before .before .pre .0 .3) (c .before .before .args .k) (c .before .before .pre .0 .2) (c .before .before .pre .0 .4))
+element-copy-out-same-bits c = omega (arith, node-small (c .before .before .before .pre .0 .3) (c .before .before .before .args .k) (c .before .before .before .pre .0 .2) (c .before .before .before .pre .0 .4))
 
 same-bits-requires : tie.Need-same-bits-requires
-same-bits-requires c κs = (omega (arith, start-small (c .before .before .before .pre .0 .3) (c .before .before .before .args .k) (c .before .before .before .pre .0 .2) (c .before .before .before .pre .0 .4), length-is (c .before .before .before .pre .0 .3) (c .before .before .before .args .k) (c .before .before .before .pre .0 .2) (c .before .before .before .pre .0 .4), c .before .if1 .left), c .before .before .before .pre .1)
+same-bits-requires c κs = (omega (arith, (c .before .before .before .before .pre .0 .3) .bits-long, start-small (c .before .before .before .before .pre .0 .3) (c .before .before .before .before .args .k) (c .before .before .before .before .pre .0 .2) (c .before .before .before .before .pre .0 .4), length-is (c .before .before .before .before .pre .0 .3) (c .before .before .before .before .args .k) (c .before .before .before .before .pre .0 .2) (c .before .before .before .before .pre .0 .4), c .before .before .if1 .left), omega (arith, (c .before .before .before .before .pre .0 .3) .bits-long, c .before .before .before .before .pre .1))
 
 returns-2 : tie.Need-returns-2
-returns-2 c = λ nodes s ds h e. part-compared h (c .before .before .before .before .args .k) ds e (c .before .before .before .before .args .at) (c .before .before .before .before .args .w) (c .before .before .if1 .left) (c .same-bits .result) (c .same-bits .ensures (h .bits-long))
+returns-2 c = λ nodes s ds h e. part-compared h (c .before .before .before .before .before .args .k) ds e (c .before .before .before .before .before .args .at) (c .before .before .before .before .before .args .w) (c .before .before .before .if1 .left) (c .same-bits .result) (c .same-bits .ensures)
 
 pub is-at-spec : {M : Type 1} → statement M
 is-at-spec =

@@ -1,63 +1,64 @@
--- `same_bits` meets its contract: at each turn the first i bits are the same.
-use Prim.Native.Nat.{ℕ, _+_, _-_, _≤_, _<_}
-use mathlib.Core.Path.{_≡_}
+-- `same_bits` meets its contract: a comparison of two parts.
+use Prim.Native.Nat.{ℕ, _+_, _-_}
+use mathlib.Core.Path.{_≡_, _∙_}
+use mathlib.Core.List.{List}
 use native.Mathlib.Omega.{arith}
-use borrow.Author.Count.{below-more}
-use lib.ListN.{getD}
-use Rattle.heap_laws.specs.Candidates.{parts-same, parts-apart}
+use lib.ListN.{take, drop}
+use Rattle.lists.specs.Tests.{same}
+use Rattle.script_heap.specs.Constants.{compared-by}
 use borrow.Author.Needs.{needs}
 use Rattle.script_heap.proofs.same_bits.Statement.{statement}
 use Rattle.script_heap.proofs.same_bits.Tie as tie
 
-abbrev Inv-loop : tie.InvT-loop
-Inv-loop bits a b w i₀ i = (i ≤ w) × ((j : ℕ) → j < i → getD bits (a + j) 0 ≡ getD bits (b + j) 0)
+add-same-bytes : tie.Need-add-same-bytes
+add-same-bytes c = search needs
 
-abbrev μ-loop : tie.MeasureT-loop
-μ-loop bits a b w i₀ i = w - i
+sub-same-bytes : tie.Need-sub-same-bytes
+sub-same-bytes c = search needs
 
-loop-holds : tie.Need-loop-holds Inv-loop μ-loop
-loop-holds c = (omega arith, λ j l. absurd (omega arith))
+part-same-bytes-start : tie.Need-part-same-bytes-start
+part-same-bytes-start c = search needs
 
-add-if1 : tie.Need-add-if1 Inv-loop μ-loop
-add-if1 c = search needs
+part-same-bytes-end : tie.Need-part-same-bytes-end
+part-same-bytes-end c = search needs
 
-element-copy-out-if1 : tie.Need-element-copy-out-if1 Inv-loop μ-loop
-element-copy-out-if1 c = search needs
+add-same-bytes-2 : tie.Need-add-same-bytes-2
+add-same-bytes-2 c = search needs
 
-add-if1-2 : tie.Need-add-if1-2 Inv-loop μ-loop
-add-if1-2 c = search needs
+sub-same-bytes-2 : tie.Need-sub-same-bytes-2
+sub-same-bytes-2 c = search needs
 
-element-copy-out-if1-2 : tie.Need-element-copy-out-if1-2 Inv-loop μ-loop
-element-copy-out-if1-2 c = search needs
+part-same-bytes-start-2 : tie.Need-part-same-bytes-start-2
+part-same-bytes-start-2 c = search needs
 
-returns : tie.Need-returns Inv-loop μ-loop
-returns c = λ long. parts-apart (c .before .before .before .before .before .args .bits .now) (c .before .before .before .before .before .args .a) (c .before .before .before .before .before .args .b) (c .before .before .before .before .before .args .w) (c .before .before .before .before .loop .i) (c .before .before .before .loop-test .taken) (c .if1 .taken)
+part-same-bytes-end-2 : tie.Need-part-same-bytes-end-2
+part-same-bytes-end-2 c = search needs
 
-add-i : tie.Need-add-i Inv-loop μ-loop
-add-i c = search needs
+same-bytes-requires : tie.Need-same-bytes-requires
+same-bytes-requires c κs = search needs
 
-loop-less : tie.Need-loop-less Inv-loop μ-loop
-loop-less c = search needs
-
-loop-again : tie.Need-loop-again Inv-loop μ-loop
-loop-again c = (omega arith, below-more _ _ (c .before .before .before .before .loop .inv .1) (c .if1 .left))
-
-returns-2 : tie.Need-returns-2 Inv-loop μ-loop
-returns-2 c = λ long. parts-same (c .before .before .args .bits .now) (c .before .before .args .a) (c .before .before .args .b) (c .before .before .args .w) (omega (arith, c .before .before .pre .0)) (omega (arith, c .before .before .pre .1)) (λ j l. c .before .loop .inv .1 j (omega (arith, c .loop-test .left)))
+returns : tie.Need-returns
+returns c =
+    let x = c .before .before .before .before .args in
+    compared-by (take (x .w) (drop (x .a) (x .bits .now))) (take (x .w) (drop (x .b) (x .bits .now))) (c .same-bytes .result) (c .same-bytes .ensures ∙ parts (x .bits .now) (x .a) (x .b) (x .w))
+  where
+    parts : (l : List ℕ) (a b w : ℕ) → same (take (a + w - a) (drop a l)) (take (b + w - b) (drop b l)) ≡ same (take w (drop a l)) (take w (drop b l))
+    parts l a b w =
+        let e : a + w - a ≡ w = omega arith in
+        let f : b + w - b ≡ w = omega arith in
+        λ i. same (take (e i) (drop a l)) (take (f i) (drop b l))
 
 pub same-bits-spec : {M : Type 1} → statement M
 same-bits-spec =
     tie.close
     (tie.spec
-    Inv-loop
-    μ-loop
-    loop-holds
-    add-if1
-    element-copy-out-if1
-    add-if1-2
-    element-copy-out-if1-2
-    returns
-    add-i
-    loop-less
-    loop-again
-    returns-2)
+    add-same-bytes
+    sub-same-bytes
+    part-same-bytes-start
+    part-same-bytes-end
+    add-same-bytes-2
+    sub-same-bytes-2
+    part-same-bytes-start-2
+    part-same-bytes-end-2
+    same-bytes-requires
+    returns)

@@ -11,19 +11,19 @@ use Rattle.script_names.proofs.hash_from.Statement.{statement}
 use Rattle.script_names.proofs.hash_from.Tie as tie
 
 abbrev Inv-loop : tie.InvT-loop
-Inv-loop s from e h₀ i₀ h i = (from ≤ i) × (i ≤ e) × (h < 4096) × (hashFrom 0 (between s from e) ≡ hashFrom h (between s i e))
+Inv-loop s start from e h₀ i₀ h i = (from ≤ i) × (i ≤ e) × (h < 4096) × (hashFrom start (between s from e) ≡ hashFrom h (between s i e))
 
 abbrev μ-loop : tie.MeasureT-loop
-μ-loop s from e h₀ i₀ h i = e - i
+μ-loop s start from e h₀ i₀ h i = e - i
 
 loop-holds : tie.Need-loop-holds Inv-loop μ-loop
-loop-holds c = (omega arith, c .before .pre .0, omega arith, refl)
+loop-holds c = (omega arith, c .before .pre .1, c .before .pre .0, refl)
 
 mul-h : tie.Need-mul-h Inv-loop μ-loop
 mul-h c = omega (arith, c .before .loop .inv .2)
 
 shared-slice-read-wide : tie.Need-shared-slice-read-wide Inv-loop μ-loop
-shared-slice-read-wide c = omega (arith, c .before .loop-test .taken, c .before .before .before .before .pre .1)
+shared-slice-read-wide c = omega (arith, c .before .loop-test .taken, c .before .before .before .before .pre .2)
 
 wide-requires : tie.Need-wide-requires Inv-loop μ-loop
 wide-requires c κs = search needs
@@ -38,7 +38,7 @@ loop-less : tie.Need-loop-less Inv-loop μ-loop
 loop-less c = omega (arith, c .before .before .loop-test .taken)
 
 loop-again : tie.Need-loop-again Inv-loop μ-loop
-loop-again c = (omega (arith, c .before .before .before .loop .inv .0), omega (arith, c .before .before .loop-test .taken), omega arith, c .before .before .before .loop .inv .3 ∙ hash-more (c .before .before .before .before .before .args .s .now) (c .before .before .before .loop .h) (c .before .before .before .loop .i) (c .before .before .before .before .before .args .e) (c .before .before .loop-test .taken) (c .before .before .before .before .before .pre .1) ∙ ap (λ (x : ℕ). hashFrom ((c .before .before .before .loop .h * 31 + x) % 4096) (between (c .before .before .before .before .before .args .s .now) (c .before .before .before .loop .i + 1) (c .before .before .before .before .before .args .e))) (sym (c .wide .ensures)))
+loop-again c = (omega (arith, c .before .before .before .loop .inv .0), omega (arith, c .before .before .loop-test .taken), omega arith, c .before .before .before .loop .inv .3 ∙ hash-more (c .before .before .before .before .before .args .s .now) (c .before .before .before .loop .h) (c .before .before .before .loop .i) (c .before .before .before .before .before .args .e) (c .before .before .loop-test .taken) (c .before .before .before .before .before .pre .2) ∙ ap (λ (x : ℕ). hashFrom ((c .before .before .before .loop .h * 31 + x) % 4096) (between (c .before .before .before .before .before .args .s .now) (c .before .before .before .loop .i + 1) (c .before .before .before .before .before .args .e))) (sym (c .wide .ensures)))
 
 returns : tie.Need-returns Inv-loop μ-loop
 returns c = (sym (c .before .loop .inv .3 ∙ ap (λ (x : ℕ). hashFrom (c .before .loop .h) (between (c .before .before .before .args .s .now) (c .before .loop .i) x)) (omega (arith, c .before .loop .inv .1, c .loop-test .left)) ∙ hash-end (c .before .before .before .args .s .now) (c .before .loop .h) (c .before .loop .i)), c .before .loop .inv .2)

@@ -16,6 +16,12 @@ sub-if1 c = search needs
 returns : tie.Need-returns
 returns c = name-short (c .before .before .args .s .now) (c .before .before .args .a) (c .before .before .args .f) (c .before .before .args .p) (c .before .before .pre .0) (c .before .before .pre .1) (c .if1 .taken)
 
+alike-requires : tie.Need-alike-requires
+alike-requires c κs = (omega (arith, c .before .before .before .pre .0, c .before .before .before .pre .1), omega (arith, c .before .if1 .left, c .before .before .before .pre .2))
+
+returns-2 : tie.Need-returns-2
+returns-2 c = c .alike .ensures
+
 sub-same-bytes : tie.Need-sub-same-bytes
 sub-same-bytes c = search needs
 
@@ -40,8 +46,8 @@ part-same-bytes-end-2 c = search needs
 same-bytes-requires : tie.Need-same-bytes-requires
 same-bytes-requires c κs = search needs
 
-returns-2 : tie.Need-returns-2
-returns-2 c = c .same-bytes .ensures ∙ name-part (c .before .before .before .before .before .args .s .now) (c .before .before .before .before .before .args .a) (c .before .before .before .before .before .args .f) (c .before .before .before .before .before .args .p)
+returns-3 : tie.Need-returns-3
+returns-3 c = c .same-bytes .ensures ∙ name-part (c .before .before .before .before .before .before .args .s .now) (c .before .before .before .before .before .before .args .a) (c .before .before .before .before .before .before .args .f) (c .before .before .before .before .before .before .args .p)
 
 pub name-is-spec : {M : Type 1} → statement M
 name-is-spec =
@@ -50,6 +56,8 @@ name-is-spec =
     sub-m
     sub-if1
     returns
+    alike-requires
+    returns-2
     sub-same-bytes
     part-same-bytes-start
     part-same-bytes-end
@@ -58,4 +66,4 @@ name-is-spec =
     part-same-bytes-start-2
     part-same-bytes-end-2
     same-bytes-requires
-    returns-2)
+    returns-3)
