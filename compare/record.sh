@@ -16,7 +16,7 @@ if [ "${1:-}" = --rows ]; then
     "$room/record" rows "$2"
     exit
 fi
-for list in problems scripts records traces reads; do mkdir -p "$here/../crates/replay_$list/data"; done
+for list in problems scripts records traces reads releases; do mkdir -p "$here/../crates/replay_$list/data"; done
 cd "$here/.."
 "$room/record" widths crates/replay_problems/data/widths.bin "$@"
 "$room/record" printer crates/replay_problems/data/printer.bin "$@"
@@ -29,3 +29,4 @@ cd "$here/.."
 "$room/record" records crates/replay_records/data/records.bin "$@"
 "$room/record" traces crates/replay_traces/data/traces.bin "$@"
 "$room/record" reads crates/replay_reads/data/reads.bin "$@"
+"$room/record" releases crates/replay_releases/data/releases.bin "$@"

@@ -2,7 +2,8 @@
  * The printer `echo_ext`, the same with constants hidden `echo_hidden`, the same with shared terms bound by let `echo_let`, the roots as the
  * lines of a map file `echo_formulas`, the size of a script `echo_size`, the fewest roots that still refuse `fewest_roots`, the replay of a trace
  * `replay_trace`, the width pass `ext_wf`, `next_script`, which cuts a file of scripts, `read_script`, which reads a script back into a problem,
- * and the conversions of node records `shorten_records` and `lengthen_records`, for C and C++.
+ * `check_release`, which sees to it that a name has one meaning in a file of scripts, and the conversions of node records `shorten_records` and
+ * `lengthen_records`, for C and C++.
  *
  * The library is target/staticlib/libecho_c.a, written by `rt staticlib echo_c`. It is for x86-64 with the System V calling
  * convention. It allocates nothing, keeps nothing between calls and needs only memcpy and memset of the C library.
@@ -44,15 +45,17 @@ enum {
     ECHO_MAX_COLUMN_LEN = 512,    /* elements of a column */
     ECHO_MAX_ARENA_LEN = 16384,   /* elements of an arena */
     ECHO_MAX_ARRAY_WIDTH = 65536, /* the widest index and the widest value of an array */
-    ECHO_MAX_SCRIPT_DEPTH = 6146  /* brackets that are open at once in a script that read_script accepts */
+    ECHO_MAX_SCRIPT_DEPTH = 6146, /* brackets that are open at once in a script that read_script accepts */
+    ECHO_MAX_SCRIPTS = 64         /* scripts of a release */
 };
 
 /*
  * The numbers that are answered. ECHO_WIDE and ECHO_VALUES are replay_trace's alone, which besides answers what echo_ext does.
  * ECHO_SHORT_RECORD is lengthen_records' alone; the conversions of records have their own lists, further down. ECHO_NO_SCRIPT is
- * read_script's alone, which besides answers ECHO_ACCEPTED, ECHO_LIMIT or ECHO_ROOM. Of the others echo_ext,
- * echo_hidden and echo_formulas answer any but ECHO_CLASH, echo_let any but ECHO_SHARED, echo_size and fewest_roots any but ECHO_ROOM and
- * ECHO_CLASH. ext_wf answers ECHO_ACCEPTED, ECHO_MALFORMED, ECHO_ENCODING, ECHO_LIMIT, ECHO_ROOM or ECHO_ARRAY_WIDTH.
+ * read_script's, which besides answers ECHO_ACCEPTED, ECHO_LIMIT or ECHO_ROOM, and check_release's, which besides answers ECHO_ACCEPTED,
+ * ECHO_LIMIT or ECHO_TWO_MEANINGS, its own. Of the others echo_ext, echo_hidden and echo_formulas answer any but ECHO_CLASH, echo_let any
+ * but ECHO_SHARED, echo_size and fewest_roots any but ECHO_ROOM and ECHO_CLASH. ext_wf answers ECHO_ACCEPTED, ECHO_MALFORMED,
+ * ECHO_ENCODING, ECHO_LIMIT, ECHO_ROOM or ECHO_ARRAY_WIDTH.
  *
  * If several things are wrong, the order is 9, 8, 1 (columns), 12, 1 (width pass), 2, 6 or for echo_let 11, 4 and 7 (declarations), then
  * what the walk over the roots meets first, and 10 last.
@@ -115,7 +118,8 @@ enum {
 
     /*
      * An input is longer than its limit; of replay_trace also more than 64 roots, one for each bit of a mask. Split the problem. Of
-     * read_script: the problem that the script is rebuilt as is over a limit, or a number of it does not fit the 32 bits of its record.
+     * read_script: the problem that the script is rebuilt as is over a limit, or a number of it does not fit the 32 bits of its record. Of
+     * check_release: that, of the script that is told; or there are more than ECHO_MAX_SCRIPTS check-sat lines, and ECHO_MAX_SCRIPTS is told.
      */
     ECHO_LIMIT = 9,
 
@@ -136,8 +140,8 @@ enum {
     ECHO_ARRAY_WIDTH = 12,
 
     /*
-     * Of read_script alone: the bytes are no problem's script. A script is what echo_ext prints, byte for byte; a problem may have any
-     * number of nodes, bits, side entries and roots and any operand here, but no width of 2^64 or more.
+     * Of read_script and check_release: the bytes are no problem's script. A script is what echo_ext prints, byte for byte; a problem may have
+     * any number of nodes, bits, side entries and roots and any operand here, but no width of 2^64 or more.
      */
     ECHO_NO_SCRIPT = 13,
 
@@ -148,7 +152,13 @@ enum {
     ECHO_VALUES = 15,
 
     /* Shorter records end inside a record, or have a kind above 38. */
-    ECHO_SHORT_RECORD = 16
+    ECHO_SHORT_RECORD = 16,
+
+    /*
+     * Of check_release alone: the script that is told declares a name with another kind, width or arguments than a script before it. Rename
+     * it in one of the two rules, or give it one meaning in both.
+     */
+    ECHO_TWO_MEANINGS = 17
 };
 
 /*
@@ -261,6 +271,12 @@ struct read_answer {
     uint64_t arrays;    /* of each of aname_start, aname_len, index_width and value_width */
     uint64_t fnames;    /* of fnames */
     uint64_t functions; /* of each of fname_start, fname_len and func_width */
+};
+
+/* What check_release answers. */
+struct release_answer {
+    uint64_t number; /* ECHO_ACCEPTED, or why the release is refused: ECHO_LIMIT, ECHO_NO_SCRIPT or ECHO_TWO_MEANINGS */
+    uint64_t script; /* the script that is told of, from 0; 0 where the release is accepted */
 };
 
 /*
@@ -611,6 +627,57 @@ static inline size_t echo_script_depth(const uint8_t *script, size_t script_len)
         }
     }
     return most;
+}
+
+/*
+ * Tells whether each name has one meaning in a release: a file of up to ECHO_MAX_SCRIPTS scripts with nothing between them, as `cat` joins
+ * them. next_script has what a script's end is; the scripts are told by their numbers, from 0.
+ *
+ * Accepted: number is ECHO_ACCEPTED and script is 0. Then read_script reads every script of the file, and any two declarations of one name, in
+ * whichever scripts, are the same: a variable of one width; an array of the same two widths; a function of the same width whose arguments have the
+ * same widths in order. A variable and a function without arguments are not the same. Names are the same if all their bytes are. An
+ * empty file is accepted.
+ *
+ * Refused: the first of these that is so decides, and script says where to look.
+ *
+ *   ECHO_LIMIT           there are more than ECHO_MAX_SCRIPTS check-sat lines; script is ECHO_MAX_SCRIPTS, and no script was read
+ *   ECHO_NO_SCRIPT or    the scripts are read in order, and this is what reading this one is refused with; those before it are read. Bytes after
+ *   ECHO_LIMIT           the last check-sat line are one more script, which is ECHO_NO_SCRIPT. Names have not been compared then
+ *   ECHO_TWO_MEANINGS    every script is read, and this is the earliest that declares a name otherwise than one before it. To find the name, take
+ *                        the declarations of this script and of those before it: a declaration is a line that begins with `(declare-`, its
+ *                        name stands between the first two bars, and two lines of one name that differ are the two meanings
+ *
+ * Which of the two is wrong it cannot know. `smt-echo release` tells the name, both lines and both scripts.
+ *
+ * file is not null, also where file_len is 0: hand in any byte's address then. It is only read, and there is no output.
+ *
+ * Stack: reading is recursive here too, and beside it stands a table of the names. What it takes is no more than echo_release_stack of the
+ * longest script's length (that of the file will do), as measured. Who takes files from strangers asks echo_release_depth first: a file with
+ * a script deeper than ECHO_MAX_SCRIPT_DEPTH is never accepted, so that it can be turned away without the call, and 4 MB are enough for one
+ * that has none.
+ */
+struct release_answer check_release(const uint8_t *file, size_t file_len);
+
+/* The bytes of stack that check_release takes at most for a file whose longest script has so many bytes, as measured. */
+static inline size_t echo_release_stack(size_t longest)
+{
+    return 2200000 + 20 * longest;
+}
+
+/* The deepest script of a file of scripts, by echo_script_depth. What follows the last check-sat line is none. Any bytes are answered. */
+static inline size_t echo_release_depth(const uint8_t *file, size_t file_len)
+{
+    size_t most = 0;
+    size_t at = 0;
+    for (;;) {
+        const struct script_answer next = next_script(file + at, file_len - at);
+        if (next.found == 0) {
+            return most;
+        }
+        const size_t depth = echo_script_depth(file + at, (size_t)next.length);
+        most = depth > most ? depth : most;
+        at += (size_t)next.length;
+    }
 }
 
 /*

@@ -1,10 +1,9 @@
-//! Makes the recorded lists: `record LIST OUT`, where LIST is widths, printer, sizes, hidden, let, fewest, formulas, scripts,
-//! records, traces or reads. The problems follow
-//! from a seed; the answers are the Rust's (oracle.rs), with what documents 01 and 02 add around it (added.rs), and with names that it takes
-//! in the place of those with bytes from 128 on (spelling.rs). Sizes are those of the Rust's scripts, and hidden scripts are put together
-//! from two of them (hidden.rs). Scripts with `let` are those of a printer of their own (lets.rs). The fewest roots are found by trying lists
-//! of them (fewest.rs). Where scripts end in a file is a model's answer (scripts.rs), and so are shorter records (records.rs),
-//! the replay of traces (traces.rs) and scripts read back (reads.rs).
+//! Makes the recorded lists: `record LIST OUT`, where LIST is widths, printer, sizes, hidden, let, fewest, formulas, scripts, records, traces,
+//! reads or releases. The problems follow from a seed; the answers are the Rust's (oracle.rs), with what documents 01 and 02 add around it
+//! (added.rs), and with names that it takes in the place of those with bytes from 128 on (spelling.rs). Sizes are those of the Rust's scripts,
+//! and hidden scripts are put together from two of them (hidden.rs). Scripts with `let` are those of a printer of their own (lets.rs). The fewest
+//! roots are found by trying lists of them (fewest.rs). Where scripts end in a file is a model's answer (scripts.rs), and so are shorter records
+//! (records.rs), the replay of traces (traces.rs), scripts read back (reads.rs) and one meaning for a name in a release (releases.rs).
 mod added;
 mod alphabets;
 mod arrays;
@@ -24,6 +23,7 @@ mod problem;
 mod reads;
 mod reads_problems;
 mod records;
+mod releases;
 mod scripts;
 mod spelling;
 mod terms;
@@ -361,6 +361,18 @@ fn record_reads(out: &str, long: bool) {
     finish(&list, &tally, out, long);
 }
 
+fn record_releases(out: &str, long: bool) {
+    let mut list = list::List::new(b"RELEASE1");
+    let mut tally = Tally::default();
+    for c in releases::all() {
+        let (number, script) = releases::answer(&c.file);
+        tally.note(c.label, c.want.map(|w| w.0), number);
+        assert!(c.want.is_none_or(|w| w == (number, script)), "{}: the model names script {script} with {number}", c.label);
+        list.add(&list::of_release(&c.file, number, script));
+    }
+    finish(&list, &tally, out, long);
+}
+
 /// Of the accepted traces, rows as scripts: the problem's script with the row's values asserted too. A file's name ends in the answer that is
 /// wanted: sat exactly where every assertion holds.
 fn write_rows(folder: &str) {
@@ -445,11 +457,12 @@ fn run() {
         (Some("records"), Some(out)) => record_records(out, long),
         (Some("traces"), Some(out)) => record_traces(out, long),
         (Some("reads"), Some(out)) => record_reads(out, long),
+        (Some("releases"), Some(out)) => record_releases(out, long),
         (Some("rows"), Some(folder)) => write_rows(folder),
         (Some("formulas"), Some(out)) => record_formulas(out, long),
         _ => {
             eprintln!(
-                "record widths|printer|sizes|hidden|let|fewest|formulas|scripts|records|traces|reads OUT [--clauses], record rows FOLDER"
+                "record widths|printer|sizes|hidden|let|fewest|formulas|scripts|records|traces|reads|releases OUT [--clauses], record rows FOLDER"
             );
             std::process::exit(2);
         }

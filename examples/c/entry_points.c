@@ -697,7 +697,93 @@ static void read_again(void)
         "(check-sat)\n");
     CHECK(echo_script_depth(bytes_of("(a |((| (b) ((c)))", 18), 18) == 3);
     CHECK(echo_script_depth(bytes_of("))((", 4), 4) == 2 && echo_script_depth(bytes_of("", 0), 0) == 0);
-    CHECK(echo_read_stack(1) > echo_read_stack(0));
+    CHECK(echo_read_stack(1) > echo_read_stack(0) && echo_release_stack(1) > echo_read_stack(1));
+}
+
+/* A release of these scripts, one behind the other: what is answered. */
+static void release_is(const char *const *scripts, size_t count, uint64_t number, uint64_t script)
+{
+    size_t len = 0;
+    for (size_t i = 0; i < count; i++) {
+        len += strlen(scripts[i]);
+    }
+    char *file = (char *)keep(len);
+    size_t at = 0;
+    for (size_t i = 0; i < count; i++) {
+        memcpy(file + at, scripts[i], strlen(scripts[i]));
+        at += strlen(scripts[i]);
+    }
+    struct release_answer answer = check_release((const uint8_t *)file, len);
+    CHECK(answer.number == number && answer.script == script);
+}
+
+#define DECLARING(logic, line) "(set-logic " logic ")\n" line "\n(check-sat)\n"
+
+/* Every number, with the script that is told; each kind of difference; the order of what is told. */
+static void releases(void)
+{
+    static const char x8[] = DECLARING("QF_BV", "(declare-const |x| (_ BitVec 8))");
+    static const char x9[] = DECLARING("QF_BV", "(declare-const |x| (_ BitVec 9))");
+    static const char y9[] = DECLARING("QF_BV", "(declare-const |y| (_ BitVec 9))");
+    static const char none[] = "(set-logic QF_BV)\n(check-sat)\n";
+    static const char blank[] = "(set-logic  QF_BV)\n(check-sat)\n";
+    static const char wide[] = DECLARING("QF_BV", "(declare-const |w| (_ BitVec 4294967296))");
+    static const char high8[] = DECLARING("QF_BV", "(declare-const |\xe9\xa0\x98| (_ BitVec 8))");
+    static const char high9[] = DECLARING("QF_BV", "(declare-const |\xe9\xa0\x98| (_ BitVec 9))");
+    /* A name that the scripts above have too, as each of eight: no two are the same. */
+    static const char *const meanings[8] = {
+        x8,
+        x9,
+        DECLARING("QF_ABV", "(declare-const |x| (Array (_ BitVec 8) (_ BitVec 9)))"),
+        DECLARING("QF_ABV", "(declare-const |x| (Array (_ BitVec 9) (_ BitVec 8)))"),
+        DECLARING("QF_AUFBV", "(declare-fun |x| () (_ BitVec 8))"),
+        DECLARING("QF_AUFBV", "(declare-fun |x| ((_ BitVec 8) (_ BitVec 9)) (_ BitVec 8))"),
+        DECLARING("QF_AUFBV", "(declare-fun |x| ((_ BitVec 9) (_ BitVec 8)) (_ BitVec 8))"),
+        DECLARING("QF_AUFBV", "(declare-fun |x| ((_ BitVec 8) (_ BitVec 9)) (_ BitVec 9))"),
+    };
+    static const char deep[] = "|(((\n(check-sat)\n(a (b (c)))\n(check-sat)\n((((((((";
+    CHECK(ECHO_MAX_SCRIPTS == 64 && ECHO_TWO_MEANINGS == 17);
+    CHECK(echo_release_depth(bytes_of(deep, sizeof deep - 1), sizeof deep - 1) == 3 && echo_release_depth(bytes_of("", 0), 0) == 0);
+    release_is(NULL, 0, ECHO_ACCEPTED, 0);
+    for (size_t i = 0; i < 8; i++) {
+        for (size_t j = 0; j < 8; j++) {
+            const char *const two[4] = {meanings[i], none, y9, meanings[j]};
+            release_is(two, 4, i == j ? ECHO_ACCEPTED : ECHO_TWO_MEANINGS, i == j ? 0 : 3);
+        }
+    }
+    {
+        const char *const names[3] = {high8, x8, high8};
+        release_is(names, 3, ECHO_ACCEPTED, 0);
+        const char *const differ[3] = {high8, x8, high9};
+        release_is(differ, 3, ECHO_TWO_MEANINGS, 2);
+        /* the earliest that disagrees with one before it, and not its partner or a later one */
+        const char *const several[5] = {y9, x8, none, x9, x8};
+        release_is(several, 5, ECHO_TWO_MEANINGS, 3);
+        /* what reading refuses comes first, in order */
+        const char *const unread[4] = {x8, x9, blank, wide};
+        release_is(unread, 4, ECHO_NO_SCRIPT, 2);
+        const char *const limit[4] = {x8, x9, wide, blank};
+        release_is(limit, 4, ECHO_LIMIT, 2);
+        /* bytes after the last check-sat line */
+        const char *const more[3] = {x8, x9, "\n"};
+        release_is(more, 3, ECHO_NO_SCRIPT, 2);
+        const char *const let[2] = {
+            x8, DECLARING("QF_BV", "(declare-const |x| (_ BitVec 8))\n(assert (let ((|d1| (bvneg |x|))) (= |d1| |d1|)))")};
+        release_is(let, 2, ECHO_NO_SCRIPT, 1);
+    }
+    for (size_t count = 63; count <= 66; count++) {
+        const char *many[67];
+        for (size_t i = 0; i < 67; i++) {
+            many[i] = i % 2 == 0 ? x8 : y9;
+        }
+        release_is(many, count, count <= 64 ? ECHO_ACCEPTED : ECHO_LIMIT, count <= 64 ? 0 : 64);
+        many[count] = "(check-sat)";
+        release_is(many, count + 1, count <= 64 ? ECHO_NO_SCRIPT : ECHO_LIMIT, count <= 64 ? count : 64);
+        many[count - 1] = x9;
+        release_is(many, count, count <= 64 ? ECHO_TWO_MEANINGS : ECHO_LIMIT, count <= 64 ? count - 1 : 64);
+        many[0] = blank;
+        release_is(many, count, count <= 64 ? ECHO_NO_SCRIPT : ECHO_LIMIT, count <= 64 ? 0 : 64);
+    }
 }
 
 /* What is handed over is never null, and is the slice itself where it has elements. */
@@ -747,6 +833,7 @@ int main(void)
     records();
     files();
     read_again();
+    releases();
     printf("entry points: %d checks\n", checks);
     while (kept_count > 0) {
         free(kept[--kept_count]);

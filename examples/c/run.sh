@@ -43,6 +43,7 @@ compared cut_file cut_file.txt
 compared fewest_roots fewest_roots.txt
 compared which_broke which_broke.txt
 compared map_lines map_lines.txt
+compared one_meaning one_meaning.txt
 tested C99 "$cc" -std=c99 -x c
 if command -v "$cxx" > /dev/null; then
     tested C++17 "$cxx" -std=c++17 -x c++

@@ -2,16 +2,19 @@
 """Runs smt-echo on every entry of recorded lists and compares what it does with the recorded answers.
 
   try_smt_echo.py PROGRAM LIST ..      a LIST is a file crates/replay_*/data/*.bin (docs/RECORDED.md): the printer's, the hidden scripts',
-                                       the scripts' with let, the formulas', the sizes', the fewest roots', the traces' or the scripts' that
-                                       are read back
+                                       the scripts' with let, the formulas', the sizes', the fewest roots', the traces', the scripts' that
+                                       are read back or the releases'
 
 Of an accepted problem the result is compared; of a refused one the number, and something to look at must be told. What is recorded with 10
 has a result here, since the command sets aside as much as it needs. Each problem of the printer's list is also shown as text and read back:
 the binary layout must be the one begun with, and the text must be the same again. A trace is handed over as CSV, its columns in the
 opposite order; one whose values are no whole number of rows has no CSV and is left out. What a script is read as is also printed again. A
-script that is refused with 9 has nothing to look at, nor has one that is nested too deeply or longer than 1 MB.
+script that is refused with 9 has nothing to look at, nor has one that is nested too deeply or longer than 1 MB. A release is handed over as one
+file and, cut at some byte, as two; what to look at must name the recorded script, and for 17 two lines of that name that differ, the one of
+them in a script before it.
 """
 import os
+import re
 import struct
 import subprocess
 import sys
@@ -21,7 +24,7 @@ from problem import SIZES, layout
 from try_command import packed, recorded
 
 WORDS = {b'PRINTER2': ['print'], b'HIDDEN 2': ['print', '--hidden'], b'LET    2': ['print', '--let'], b'FORMULA2': ['formulas'],
-         b'SIZES  2': ['size'], b'FEWEST 1': ['fewest'], b'TRACES 1': ['replay'], b'READS  1': ['read']}
+         b'SIZES  2': ['size'], b'FEWEST 1': ['fewest'], b'TRACES 1': ['replay'], b'READS  1': ['read'], b'RELEASE1': ['release']}
 
 
 class Tally:
@@ -130,6 +133,41 @@ def reads(program, tally):
             tally.check('nothing to look at', number == 9 or len(script) > 1 << 20 or script.count(b'(') > 6146)
 
 
+def line_of(file, number):
+    return file.split(b'\n')[number - 1].decode('utf-8', 'replace')
+
+
+def releases(program, tally, folder):
+    two = [os.path.join(folder, name) for name in ('first.smt2', 'second.smt2')]
+    for s in packed(tally.path, b'RELEASE1'):
+        length, number, script = struct.unpack_from('<3I', s)
+        file = s[12:12 + length]
+        tally.entry(number)
+        ends = [m.end() for m in re.finditer(rb'(?:(?<=\n)|\A)\(check-sat\)\n', file)]
+        at = length * (tally.tried % 7) // 7
+        for path, part in zip(two, (file[:at], file[at:])):
+            with open(path, 'wb') as to:
+                to.write(part)
+        ran, parted = run(program, ['release'], file), run(program, ['release', *two], b'')
+        if number == 0:
+            tally.check('accepted', ran == (0, b'scripts %d\n' % len(ends), []) and parted == ran)
+            continue
+        tally.refused(number, ran)
+        tally.refused(number, parted)
+        look = ran[2][-1]
+        tally.check('script %d: %s' % (script, look), re.search(r'\bscript %d,' % script, look) is not None)
+        if number == 17:
+            places = re.findall(r' in script (\d+), standard input:(\d+)', look)
+            tally.check('two places: %s' % look, len(places) == 2 and int(places[0][0]) < script == int(places[1][0]))
+            lines = [line_of(file, int(line)) for _, line in places]
+            names = [re.match(r'\(declare-(?:const|fun) (\|[^|]*\|) ', line) for line in lines]
+            tally.check('two lines: %s' % lines, all(names) and names[0][1] == names[1][1] and lines[0] != lines[1])
+            starts = [0] + ends
+            held = [starts[int(k)] <= sum(map(len, file.splitlines(True)[:int(line) - 1])) < ends[int(k)] for k, line in places]
+            tally.check('in their scripts: %s' % look, held == [True, True])
+            tally.check('shown', len(lines[0]) > 200 or all(line in look for line in lines))
+
+
 def main(program, paths):
     wrong = 0
     for path in paths:
@@ -140,6 +178,9 @@ def main(program, paths):
                 traces(program, tally, os.path.join(folder, 'trace.csv'))
         elif title == b'READS  1':
             reads(program, tally)
+        elif title == b'RELEASE1':
+            with tempfile.TemporaryDirectory() as folder:
+                releases(program, tally, folder)
         else:
             problems(program, title, tally)
         print(path, 'tried', tally.tried, 'left out', tally.left, 'wrong', tally.wrong)

@@ -43,7 +43,7 @@ model() {
     "$2" model.smt2 | tr -d '()|' | awk 'NR == 2 { print $1; print $2 }'
 }
 
-for name in call call-wide call-assumed call-shared load mask mask-wide many; do
+for name in call call-wide call-assumed call-shared load mask mask-wide extend extend-renamed many; do
     rule "$name" > "problems/$name"
 done
 
@@ -113,16 +113,28 @@ smt-echo fewest -o out/many.fewest problems/many
 sed 's/^/    /' out/many.fewest
 smt-echo fewest --show problems/many | grep '^root' > out/many.roots
 
-echo "A release of three rules in one file, and cut again:"
+echo "A release of three rules in one file: each name has one meaning in it; and cut again:"
 smt-echo print -o out/load.smt2 problems/load
 asked load unsat
 cat out/call.smt2 out/load.smt2 out/mask.smt2 > release.smt2
+smt-echo release -o out/release.checked release.smt2
+sed 's/^/    /' out/release.checked
 smt-echo split release.smt2 > out/release.split
 sed 's/^/    /' out/release.split
 smt-echo split --into cut release.smt2
 cmp cut/0.smt2 out/call.smt2
 cmp cut/1.smt2 out/load.smt2
 cmp cut/2.smt2 out/mask.smt2
+
+echo "A fourth rule is right by itself, and has idx at another width: the release is refused, and with another name it is not."
+smt-echo print -o out/extend.smt2 problems/extend
+asked extend unsat
+status=0
+(cd out && smt-echo release call.smt2 load.smt2 mask.smt2 extend.smt2) 2> out/release.refused || status=$?
+echo "status $status" >> out/release.refused
+sed 's/^/    /' out/release.refused
+smt-echo print problems/extend-renamed | cat release.smt2 - | smt-echo release > out/release-renamed.checked
+sed 's/^/    /' out/release-renamed.checked
 
 echo "Of the release only scripts are kept. Support has the nodes of a rule again, and what they are printed as:"
 smt-echo read --show -o out/mask.read cut/2.smt2

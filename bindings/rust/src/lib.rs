@@ -3,8 +3,9 @@
 //! This package is a thin, safe layer over the proved library. [`echo_ext`] prints a [`Problem`], [`echo_hidden`] prints it with constants
 //! hidden, [`echo_let`] with shared terms bound by `let`, [`echo_formulas`] writes its roots as the lines of a map file, [`echo_size`] tells
 //! beforehand how long its script is, [`fewest_roots`] tells which roots of a refused one matter, [`replay_trace`] which assertions hold on
-//! logged values, [`ext_wf`] is the width pass alone, [`scripts`] cuts a file that joins scripts, [`read_script`] reads a script back into a
-//! problem, and [`shorten_records`] and [`lengthen_records`] convert node records into shorter ones and back.
+//! logged values, [`ext_wf`] is the width pass alone, [`scripts`] cuts a file that joins scripts, [`check_release`] tells whether each name has
+//! one meaning in it, [`read_script`] reads a script back into a problem, and [`shorten_records`] and [`lengthen_records`] convert node records
+//! into shorter ones and back.
 //! Terms are node records ([`node`], [`kind`]), and every input is a slice that is lent for the call. An [`OwnedProblem`] has slices of its
 //! own, and is read from and written to files. The command `smt-echo` of this package is over the same functions (docs/COMMAND.md).
 //!
@@ -47,7 +48,8 @@
 //!
 //! The walk over the terms is recursive, and its depth comes from the problem. The repository's README.md has the stack that it
 //! needs. On a thread with less, a deep problem ends the process, as any overflow of the stack does; nothing is proved about the stack.
-//! Reading a script is recursive too: [`read_stack`] tells what it takes.
+//! Reading a script is recursive too, and so is the check of a release, which reads its scripts: [`read_stack`] and
+//! [`release_stack`] tell what they take.
 
 #![deny(missing_docs)]
 #![deny(unsafe_code)]
@@ -61,6 +63,7 @@ mod raw;
 mod readback;
 mod records;
 mod refusal;
+mod releases;
 mod scripts;
 mod text;
 mod traces;
@@ -71,6 +74,7 @@ pub use owned::{Input, OwnedProblem, ProblemMut};
 pub use readback::{MAX_SCRIPT_DEPTH, ReadRefusal, ReadSizes, read_script, read_script_into, read_stack, script_depth};
 pub use records::{RecordRefusal, lengthen_records, shorten_records};
 pub use refusal::{Refusal, WidthRefusal};
+pub use releases::{MAX_SCRIPTS, ReleaseRefusal, check_release, release_depth, release_stack};
 pub use scripts::{Scripts, next_script, scripts};
 pub use text::{TEXT_HEAD, TextError, node_parts, quoted_name};
 pub use traces::{TraceRefusal, replay_trace};

@@ -52,6 +52,12 @@ pub struct ScriptAnswer {
 }
 
 #[repr(C)]
+pub struct ReleaseAnswer {
+    pub number: u64,
+    pub script: u64,
+}
+
+#[repr(C)]
 pub struct TraceAnswer {
     pub number: u64,
     pub rows: u64,
@@ -73,7 +79,9 @@ pub struct ReadAnswer {
 }
 
 mod c {
-    use super::{EchoAnswer, FewestAnswer, ReadAnswer, RecordAnswer, ScriptAnswer, SizeAnswer, TraceAnswer, WidthAnswer};
+    use super::{
+        EchoAnswer, FewestAnswer, ReadAnswer, RecordAnswer, ReleaseAnswer, ScriptAnswer, SizeAnswer, TraceAnswer, WidthAnswer,
+    };
 
     unsafe extern "C" {
         pub fn echo_ext(
@@ -379,6 +387,7 @@ mod c {
         ) -> WidthAnswer;
 
         pub fn next_script(file: *const u8, file_len: usize) -> ScriptAnswer;
+        pub fn check_release(file: *const u8, file_len: usize) -> ReleaseAnswer;
 
         pub fn read_script(
             script: *const u8,
@@ -772,6 +781,11 @@ pub fn ext_wf(nodes: &[u8], bits: &[u8], side: &[u64], index_width: &[u64], valu
 pub fn next_script(file: &[u8]) -> ScriptAnswer {
     // SAFETY: the list at the top.
     unsafe { c::next_script(file.as_ptr(), file.len()) }
+}
+
+pub fn check_release(file: &[u8]) -> ReleaseAnswer {
+    // SAFETY: the list at the top.
+    unsafe { c::check_release(file.as_ptr(), file.len()) }
 }
 
 pub fn read_script(script: &[u8], out: &mut ProblemMut<'_>) -> ReadAnswer {

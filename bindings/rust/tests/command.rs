@@ -12,8 +12,8 @@ use std::process::{Command, Stdio};
 
 const PROGRAM: &str = env!("CARGO_BIN_EXE_smt-echo");
 
-const SUBCOMMANDS: [&str; 11] =
-    ["print", "size", "widths", "formulas", "fewest", "split", "read", "replay", "shorten", "lengthen", "show"];
+const SUBCOMMANDS: [&str; 12] =
+    ["print", "size", "widths", "formulas", "fewest", "split", "read", "release", "replay", "shorten", "lengthen", "show"];
 
 const M2: &str = "problem\nvariable |x| 8 node 0\n0 var 8\n1 const 5 8\n2 add 0 1\n3 eq 2 0\nroot 3\n";
 
@@ -172,6 +172,9 @@ fn command_lines_that_are_wrong() {
         (&["replay", "-", "-"], "`replay` wants a problem and a trace, and only one of them can be standard input"),
         (&["replay", "a", "b", "c"], "two files are wanted, and 3 are given"),
         (&["fewest", "--formulas"], "`fewest` has no option `--formulas`"),
+        (&["release", "--take", "1"], "`release` has no option `--take`"),
+        (&["release", "-", "-"], "`-`, standard input, can be read once"),
+        (&["release", "-", "-o", "x", "-"], "`-`, standard input, can be read once"),
     ] {
         let line = run(args, M2.as_bytes()).not_done();
         assert!(line.starts_with(&format!("{what}; ")), "{args:?}: {line}");
@@ -671,7 +674,9 @@ fn files() {
         "standard input:2:1: a declaration, a node, a root or the name of an input is wanted, and `x` is there"
     );
     let more = "is longer than 1073741824 bytes, the most that are read";
-    assert_eq!(run(&["split", &path("huge")], b"").not_done(), format!("{}: {more}", path("huge")));
+    for subcommand in ["split", "read", "release"] {
+        assert_eq!(run(&[subcommand, &path("huge")], b"").not_done(), format!("{}: {more}", path("huge")));
+    }
 
     // A name that is no text.
     use std::os::unix::ffi::OsStrExt;
@@ -860,4 +865,144 @@ fn scripts_read_back() {
     let deep = change("(= (bvadd |x| #b00000101) |x|)", &("(not ".repeat(200_000) + "(= |x| |x|)" + &")".repeat(200_000)));
     let deep = run(&["read"], deep.as_bytes());
     assert!(deep.status == 1 && deep.err.starts_with("refused: 9 Limit: "), "{deep:?}");
+}
+
+// ---------------------------------------------------------------- releases
+
+/// A script with one variable.
+fn declaring(name: &str, width: u64) -> String {
+    format!("(set-logic QF_BV)\n(declare-const |{name}| (_ BitVec {width}))\n(check-sat)\n")
+}
+
+/// Releases from one file, from several and from standard input: accepted, every number, and what to look at.
+#[test]
+fn releases() {
+    let folder = folder("releases");
+    let path = |name: &str| folder.join(name).display().to_string();
+    for (name, text) in [
+        ("i16", declaring("idx", 16)),
+        ("i17", declaring("idx", 17)),
+        ("m2", M2_SCRIPT.into()),
+        ("empty", String::new()),
+        ("two", M1_SCRIPT.to_string() + &declaring("idx", 17)),
+        ("let", M2_SCRIPT.replace("(= (bvadd |x| #b00000101) |x|)", "(let ((|d1| (bvneg |x|))) (= |d1| |d1|))")),
+        ("half", M2_SCRIPT[..60].into()),
+        ("end", M2_SCRIPT[60..].into()),
+        ("wide", declaring("w", 1 << 40)),
+    ] {
+        fs::write(path(name), text).unwrap();
+    }
+    let files =
+        |names: &[&str]| -> Vec<String> { ["release".into()].into_iter().chain(names.iter().map(|name| path(name))).collect() };
+    let check = |names: &[&str]| run(&files(names), b"");
+
+    // Accepted: how many scripts there are. Where one file ends and the next begins does not matter.
+    assert_eq!(check(&["i16"]).done(), b"scripts 1\n");
+    assert_eq!(check(&["i16", "m2", "i16", "empty", "i16"]).done(), b"scripts 4\n");
+    assert_eq!(check(&["i16", "half", "end"]).done(), b"scripts 2\n");
+    assert_eq!(check(&["i17", "two"]).done(), b"scripts 3\n");
+    assert_eq!(check(&["empty"]).done(), b"scripts 0\n");
+    assert_eq!(run(&["release"], b"").done(), b"scripts 0\n");
+    assert_eq!(run(&["release"], declaring("idx", 16).repeat(64).as_bytes()).done(), b"scripts 64\n");
+    assert_eq!(run(&["release", "-"], M2_SCRIPT.as_bytes()).done(), b"scripts 1\n");
+    assert_eq!(run(&["release", &path("i16"), "-", &path("m2")], M2_SCRIPT.as_bytes()).done(), b"scripts 3\n");
+    let out = path("out");
+    assert_eq!(run(&["release", "-o", &out, &path("i16")], b"").done(), b"");
+    assert_eq!(fs::read(&out).unwrap(), b"scripts 1\n");
+
+    // 17: the name, both declarations, both scripts, both places
+    let (i16, i17) = ("(declare-const |idx| (_ BitVec 16))", "(declare-const |idx| (_ BitVec 17))");
+    let told = |one: &str, k: usize, at: &str, other: &str, l: usize, to: &str| {
+        (17, format!("|idx|: {one} in script {k}, {at}; {other} in script {l}, {to}"))
+    };
+    assert_eq!(check(&["i16", "i17"]).refused(), told(i16, 0, &(path("i16") + ":2"), i17, 1, &(path("i17") + ":2")));
+    assert_eq!(
+        check(&["m2", "empty", "i16", "i16", "two", "i17"]).refused(),
+        told(i16, 1, &(path("i16") + ":2"), i17, 4, &(path("two") + ":4"))
+    );
+    let file = [M2_SCRIPT, &declaring("idx", 17), &declaring("idx", 16)].concat();
+    assert_eq!(run(&["release"], file.as_bytes()).refused(), told(i17, 1, "standard input:6", i16, 2, "standard input:9"));
+    let first = run(&["release"], file.as_bytes()).err;
+    assert!(
+        first.starts_with("refused: 17 TwoMeanings: script 2 declares a name with another kind, width or arguments "),
+        "{first}"
+    );
+    // the first of several names, and what kinds there are
+    let rich = |x: &str, m: &str, f: &str| {
+        format!(
+            "(set-logic QF_AUFBV)\n(declare-const |x| {x})\n(declare-const |m| (Array (_ BitVec 8) {m}))\n\
+             (declare-fun |f| ((_ BitVec 8) {f}) (_ BitVec 8))\n(check-sat)\n"
+        )
+    };
+    let (eight, nine) = ("(_ BitVec 8)", "(_ BitVec 9)");
+    for (other, look) in [
+        (
+            rich(nine, nine, nine),
+            "|x|: (declare-const |x| (_ BitVec 8)) in script 0, standard input:2; (declare-const |x| (_ BitVec 9)) in script 1, \
+             standard input:7; and 2 names more of that script",
+        ),
+        (
+            rich(eight, nine, nine),
+            "|m|: (declare-const |m| (Array (_ BitVec 8) (_ BitVec 8))) in script 0, standard input:3; (declare-const |m| (Array (_ BitVec \
+             8) (_ BitVec 9))) in script 1, standard input:8; and one name more of that script",
+        ),
+        (
+            rich(eight, eight, nine),
+            "|f|: (declare-fun |f| ((_ BitVec 8) (_ BitVec 8)) (_ BitVec 8)) in script 0, standard input:4; (declare-fun |f| ((_ BitVec 8) \
+             (_ BitVec 9)) (_ BitVec 8)) in script 1, standard input:9",
+        ),
+    ] {
+        assert_eq!(run(&["release"], (rich(eight, eight, eight) + &other).as_bytes()).refused(), (17, look.to_string()));
+    }
+    // names in other alphabets and in none, and long ones
+    for (name, shown) in [
+        (&b"\xe9\xa0\x98"[..], "|\u{9818}|"),
+        (b"\xff(check-sat)", "|\u{fffd}(check-sat)|"),
+        (&[b'n'; 9_000], "|nnnnnnnnnnnnnnnnnnnnnnnnnnnnnnnnnnnnnnnnnnnnnnnnnnnnnnnnnnn ..: (declare-const |n"),
+    ] {
+        let named = |width: u64| declaring("?", width).into_bytes().split(|b| *b == b'?').collect::<Vec<_>>().join(name);
+        let (number, look) = run(&["release"], &[named(16), named(17)].concat()).refused();
+        assert!(number == 17 && look.starts_with(shown) && look.len() < 600, "{look}");
+        assert!(look.contains(" (_ BitVec 16)) in script 0, ") && look.contains(" (_ BitVec 17)) in script 1, "), "{look}");
+    }
+
+    // 13: the script, and the line at fault in its file; a script that goes on from one file into the next
+    let no_assertion = "it is no assertion over these declarations as the printer writes it";
+    assert_eq!(check(&["i16", "i17", "let"]).refused(), (13, format!("script 2, {}:3: {no_assertion}", path("let"))));
+    let end = "a script ends with the line `(check-sat)`";
+    let begins = |script: usize, at: String| format!("script {script}, which begins at {at}");
+    assert_eq!(check(&["two", "half"]).refused(), (13, format!("{}: {end}", begins(2, path("half") + ":1"))));
+    let (number, look) = check(&["half", "i16"]).refused();
+    assert!(number == 13 && look.starts_with(&format!("script 0, {}:", path("half"))), "{look}");
+    let (number, look) = check(&["i16", "end"]).refused();
+    assert!(number == 13 && look.starts_with(&format!("script 1, {}:1: ", path("end"))), "{look}");
+    assert_eq!(run(&["release"], b"Hello, world!\n").refused(), (13, format!("{}: {end}", begins(0, "standard input:1".into()))));
+    assert_eq!(
+        run(&["release"], (declaring("idx", 16).repeat(64) + "\n").as_bytes()).refused(),
+        (13, format!("{}: {end}", begins(64, "standard input:193".into())))
+    );
+
+    // 9: a script over a limit, one nested too deeply, and too many scripts
+    assert_eq!(check(&["i16", "i17", "wide", "let"]).refused(), (9, begins(2, path("wide") + ":1")));
+    let deep =
+        M2_SCRIPT.replace("(= (bvadd |x| #b00000101) |x|)", &("(not ".repeat(200_000) + "(= |x| |x|)" + &")".repeat(200_000)));
+    assert_eq!(run(&["release"], (declaring("x", 8) + &deep).as_bytes()).refused(), (9, begins(1, "standard input:4".into())));
+    let many = run(&["release"], declaring("idx", 16).repeat(70).as_bytes());
+    assert!(many.err.starts_with("refused: 9 Limit: there are more than 64 scripts"), "{many:?}");
+    assert_eq!(many.refused(), (9, begins(64, "standard input:193".into()) + "; there are 70"));
+    let m2 = path("m2");
+    assert_eq!(check(&["m2"; 65]).refused(), (9, begins(64, m2 + ":1") + "; there are 65"));
+
+    // Not done: nothing is checked where a file cannot be read.
+    assert_eq!(
+        check(&["i16", "missing", "i17"]).not_done(),
+        format!("{}: cannot be read: No such file or directory (os error 2)", path("missing"))
+    );
+    let refused = run(&["release", "-o", &out, &path("i16"), &path("i17")], b"");
+    assert_eq!((refused.status, fs::read(&out).unwrap()), (1, b"scripts 1\n".to_vec()));
+    // As files are named by a shell.
+    assert_eq!(
+        shell("smt-echo release i1[66] m? && cat i16 two | smt-echo release 2>&1 | tail -n 1 | cut -c -14", &folder).1,
+        "scripts 2\nlook at: |idx|\n"
+    );
 }

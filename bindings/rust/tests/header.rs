@@ -42,6 +42,8 @@ fn functions_over_the_struct() {
 fn stack_of_a_reading() {
     let (base, byte) = (read_stack(0), read_stack(1) - read_stack(0));
     assert!(HEADER.contains(&format!("    return {base} + {byte} * script_len;\n")));
+    let (base, byte) = (release_stack(0), release_stack(1) - release_stack(0));
+    assert!(HEADER.contains(&format!("    return {base} + {byte} * longest;\n")));
 }
 
 #[test]
@@ -58,12 +60,14 @@ fn limits_numbers_and_kinds() {
         ("ECHO_MAX_ARENA_LEN", MAX_ARENA_LEN),
         ("ECHO_MAX_ARRAY_WIDTH", MAX_ARRAY_WIDTH as usize),
         ("ECHO_MAX_SCRIPT_DEPTH", MAX_SCRIPT_DEPTH),
+        ("ECHO_MAX_SCRIPTS", MAX_SCRIPTS),
         ("ECHO_ACCEPTED", 0),
     ] {
         here.insert(name.into(), value as u64);
     }
     here.insert("ECHO_SHORT_RECORD".into(), RecordRefusal::ShortRecord.number());
     here.insert("ECHO_NO_SCRIPT".into(), ReadRefusal::NoScript.number());
+    here.insert("ECHO_TWO_MEANINGS".into(), ReleaseRefusal::TwoMeanings { script: 0 }.number());
     for refusal in Refusal::ALL {
         // Words of a name are parted by a low line there.
         let name = format!("{refusal:?}").replace("ArrayWidth", "Array_Width");
@@ -80,5 +84,5 @@ fn limits_numbers_and_kinds() {
 
     let there: BTreeMap<String, u64> = header().into_iter().map(|(name, value)| (name.to_string(), value)).collect();
     assert_eq!(here, there);
-    assert_eq!(here.len(), 10 + 17 + 39);
+    assert_eq!(here.len(), 11 + 18 + 39);
 }

@@ -1,6 +1,7 @@
 -- What is promised, by subject: the printer and the width pass (`Claims`), array widths (`ArrayClaims`), sizes (`SizeClaims`), the hidden form
 -- (`HiddenClaims`), shared terms with `let` (`LetClaims`), files of scripts (`JoinedScripts`), shorter records (`RecordClaims`), the replay
--- of traces (`TraceClaims`), formulas (`FormulaClaims`), scripts read back (`ReadClaims`). The files of instances show that each claim speaks of something.
+-- of traces (`TraceClaims`), formulas (`FormulaClaims`), scripts read back (`ReadClaims`), the names of a release
+-- (`ReleaseClaims`). The files of instances show that each claim speaks of something.
 pub mod WidthAnswers
 pub mod SizeAnswers
 pub mod HiddenAnswers
@@ -25,3 +26,5 @@ pub mod FormulaClaims
 pub mod FormulaInstances
 pub mod ReadClaims
 pub mod ReadInstances
+pub mod ReleaseClaims
+pub mod ReleaseInstances

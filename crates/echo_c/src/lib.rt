@@ -6,6 +6,7 @@ pub mod hidden_form;
 pub mod let_form;
 pub mod read;
 pub mod records;
+pub mod release_file;
 pub mod scripts;
 pub mod size;
 pub mod trace;

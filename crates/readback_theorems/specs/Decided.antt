@@ -28,7 +28,7 @@ use Rattle.readback_theorems.specs.Printables.{ProblemScript, PrintableT
 
 -- ---------------------------------------------------------------- names
 
-no-bar : (n : Name) → T (nameOk n) → NoBar n
+pub no-bar : (n : Name) → T (nameOk n) → NoBar n
 no-bar n h =
     all-weaken byteOk (λ c. not (eqb c 124)) (λ c t. not-T (eqb c 124) (λ e. name-byte c t .no-bar (eqb→eq c 124 e))) n (by-test byteOk n (and-0 (every byteOk n) _ h))
 

@@ -19,7 +19,7 @@ use Rattle.reader_laws.specs.TermsRead.{Fails, up-to, NoBar, read-name, 
 
 -- ---------------------------------------------------------------- lines
 
-read-sort : (w : ℕ) (r : List ℕ) → readSort (sortText w ++ r) ≡ took w r
+pub read-sort : (w : ℕ) (r : List ℕ) → readSort (sortText w ++ r) ≡ took w r
 unfolding readSort sortText bytes expect andThen
 read-sort w r =
     let e : (decimal w ++ (41 ∷ [])) ++ r ≡ decimal w ++ (41 ∷ r) = append-assoc (decimal w) (41 ∷ []) r in
@@ -81,7 +81,7 @@ read-after (w ∷ ws) (suc f) r l =
     let e : (sortText w ++ sorts-after ws) ++ (41 ∷ r) ≡ sortText w ++ (sorts-after ws ++ (41 ∷ r)) = append-assoc (sortText w) (sorts-after ws) (41 ∷ r) in
     rw (e, read-sort w (sorts-after ws ++ (41 ∷ r)), read-after ws f r (omega arith))
 
-read-sorts : (ws : List ℕ) (f : ℕ) (r : List ℕ) → length ws < f → readSorts f true (sortsText ws ++ (41 ∷ r)) ≡ took ws r
+pub read-sorts : (ws : List ℕ) (f : ℕ) (r : List ℕ) → length ws < f → readSorts f true (sortsText ws ++ (41 ∷ r)) ≡ took ws r
 unfolding readSorts separator andThen sortsText
 read-sorts ws zero r l = absurd (omega arith)
 read-sorts [] (suc f) r l = refl

@@ -29,19 +29,19 @@ use Rattle.theorems.specs.LetPrinted as lets
 -- ---------------------------------------------------------------- one line
 
 -- a text that ends its line, and is shown up to there
-record Ends (t : List ℕ) : Type 0 where
-  line : List ℕ
-  shown : Shown line
-  text : t ≡ line ++ (10 ∷ [])
+pub record Ends (t : List ℕ) : Type 0 where
+  pub line : List ℕ
+  pub shown : Shown line
+  pub text : t ≡ line ++ (10 ∷ [])
 
-ends-more : (x t : List ℕ) → Shown x → Ends t → Ends (x ++ t)
+pub ends-more : (x t : List ℕ) → Shown x → Ends t → Ends (x ++ t)
 ends-more x t h k = record {
   line = x ++ k .line;
   shown = shown-append h (k .shown);
   text = ap (λ (l : List ℕ). x ++ l) (k .text) ∙ sym (append-assoc x (k .line) (10 ∷ []));
 }
 
-ends-close : Ends (bytes ")\n")
+pub ends-close : Ends (bytes ")\n")
 unfolding bytes
 ends-close = record { line = bytes ")"; shown = shown-text ")" tt; text = refl }
 
@@ -56,11 +56,11 @@ command x t h other k =
 
 -- ---------------------------------------------------------------- declarations
 
-shown-sort : (w : ℕ) → Shown (sortText w)
+pub shown-sort : (w : ℕ) → Shown (sortText w)
 unfolding sortText bytes
 shown-sort w = shown-append (shown-text "(_ BitVec " tt) (shown-append (shown-decimal w) (shown-text ")" tt))
 
-shown-sorts : (ws : List ℕ) → Shown (sortsText ws)
+pub shown-sorts : (ws : List ℕ) → Shown (sortsText ws)
 unfolding sortsText bytes
 shown-sorts [] = shown-none
 shown-sorts (w ∷ []) = shown-sort w

@@ -59,6 +59,11 @@ impl Build {
         self.push(kind::EXTRACT, [high, low, a, 0])
     }
 
+    /// `a` with zeros in front, `by` of them.
+    pub fn zero_extend(&mut self, a: Node, by: u32) -> Node {
+        self.push(kind::ZERO_EXT, [a, by, 0, 0])
+    }
+
     /// `a` with copies of its sign in front, `by` of them.
     pub fn sign_extend(&mut self, a: Node, by: u32) -> Node {
         self.push(kind::SIGN_EXT, [a, by, 0, 0])

@@ -12,7 +12,7 @@ use smt_echo::{OwnedProblem, kind};
 use std::io::{self, Write};
 use std::process::ExitCode;
 
-const PROBLEMS: [(&str, fn() -> OwnedProblem); 8] = [
+const PROBLEMS: [(&str, fn() -> OwnedProblem); 10] = [
     ("call", || call(20, Asserted::RuleIsWrong)),
     ("call-wide", || call(21, Asserted::RuleIsWrong)),
     ("call-assumed", || call(20, Asserted::AssumptionsOnly)),
@@ -20,6 +20,8 @@ const PROBLEMS: [(&str, fn() -> OwnedProblem); 8] = [
     ("load", load),
     ("mask", || mask(16)),
     ("mask-wide", || mask(17)),
+    ("extend", || extend("idx")),
+    ("extend-renamed", || extend("half")),
     ("many", many),
 ];
 
@@ -196,6 +198,27 @@ fn mask(bits: u32) -> OwnedProblem {
     let shifted = b.two(kind::SHL, idx, up);
     let long = b.two(kind::LSHR, shifted, down);
     let short = b.two(kind::SHL, idx, one);
+    let differ = b.two(kind::NE, long, short);
+    b.assert(differ);
+    b.problem
+}
+
+/// An index that a load has extended with zeros, and that is cut to its 16 bits again, left as it is.
+///
+///     lhu  a0, 0(a1)        lhu a0, 0(a1)
+///     slli a0, a0, 16
+///     srli a0, a0, 16
+///
+/// There is no condition. Its writer took `idx` for what the memory has, 16 bits, where `mask` has it for the register, 32 bits: each rule is
+/// right, and in one release the name has two meanings.
+fn extend(name: &str) -> OwnedProblem {
+    let mut b = Build::default();
+    let half = b.variable(name, 16);
+    let amount = b.constant(16, 32);
+    let loaded = b.zero_extend(half, 16);
+    let shifted = b.two(kind::SHL, loaded, amount);
+    let long = b.two(kind::LSHR, shifted, amount);
+    let short = b.zero_extend(half, 16);
     let differ = b.two(kind::NE, long, short);
     b.assert(differ);
     b.problem

@@ -19,6 +19,11 @@ impl Args {
         self.sources.get(place).unwrap_or(&Source::Standard)
     }
 
+    /// All files of the command line, or standard input where none is given.
+    pub fn sources(&self) -> &[Source] {
+        if self.sources.is_empty() { &[Source::Standard] } else { &self.sources }
+    }
+
     /// Whether an option is given.
     pub fn has(&self, option: &str) -> bool {
         self.value(option).is_some()

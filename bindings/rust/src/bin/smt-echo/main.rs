@@ -31,6 +31,7 @@ commands! {
     fewest
     split
     read
+    release
     replay
     shorten
     lengthen

@@ -46,22 +46,28 @@ fn run(args: &Args) -> Result<Vec<u8>, Failure> {
 
 /// The problem of a script.
 pub fn script(bytes: &[u8]) -> Result<OwnedProblem, Failure> {
-    let shallow = script_depth(bytes) <= MAX_SCRIPT_DEPTH;
-    let read = if shallow { read_script(bytes) } else { read_deep(bytes)? };
-    read.map_err(|refusal| {
-        let look = if shallow && refusal == ReadRefusal::NoScript { look(bytes) } else { None };
+    with_stack(longest_deep([bytes]).map(read_stack), || read_script(bytes))?.map_err(|refusal| {
+        let look = if refusal == ReadRefusal::NoScript { fault(bytes) } else { None };
+        let look = look.map(|fault| match fault.line {
+            None => format!("the end: {}", fault.text),
+            Some(line) => format!("line {line}: {}", fault.text),
+        });
         Failure::Refused { refusal: refusal.to_string(), look }
     })
 }
 
-/// A script that is nested too deeply to be accepted. By which number it is refused only reading tells: on a thread with the stack for it.
-fn read_deep(bytes: &[u8]) -> Result<Result<OwnedProblem, ReadRefusal>, Failure> {
-    thread::scope(|scope| {
-        let reader = thread::Builder::new().stack_size(read_stack(bytes.len())).spawn_scoped(scope, || read_script(bytes));
-        match reader.map(thread::ScopedJoinHandle::join) {
-            Ok(Ok(read)) => Ok(read),
-            _ => Err(Failure::NotDone("the script is nested too deeply for the stack that memory allows".into())),
-        }
+/// The length of the longest of the scripts that are nested too deeply to be accepted. By which number one is refused only reading tells: on a
+/// thread with the stack for it.
+pub fn longest_deep<'a>(scripts: impl IntoIterator<Item = &'a [u8]>) -> Option<usize> {
+    scripts.into_iter().filter(|script| script_depth(script) > MAX_SCRIPT_DEPTH).map(<[u8]>::len).max()
+}
+
+/// Calls a function on a thread with so much stack, or where none is given on this one.
+pub fn with_stack<T: Send>(stack: Option<usize>, call: impl FnOnce() -> T + Send) -> Result<T, Failure> {
+    let Some(stack) = stack else { return Ok(call()) };
+    thread::scope(|scope| match thread::Builder::new().stack_size(stack).spawn_scoped(scope, call).map(thread::ScopedJoinHandle::join) {
+        Ok(Ok(done)) => Ok(done),
+        _ => Err(Failure::NotDone("a script is nested too deeply for the stack that memory allows".into())),
     })
 }
 
@@ -70,41 +76,46 @@ const LOOKED_THROUGH: (usize, usize) = (1 << 20, 2_000);
 
 const END: &[u8] = b"(check-sat)\n";
 
+/// What is wrong with bytes that are no script.
+pub struct Fault {
+    /// From 1; none for the end.
+    pub line: Option<usize>,
+    pub text: String,
+}
+
 /// The line at fault in bytes that are no script: the first declaration with which no script goes on, or the first assertion that is none
 /// beside these declarations.
-fn look(bytes: &[u8]) -> Option<String> {
+pub fn fault(bytes: &[u8]) -> Option<Fault> {
     let lines: Vec<&[u8]> = bytes.split_inclusive(|byte| *byte == b'\n').collect();
-    if bytes.len() > LOOKED_THROUGH.0 || lines.len() > LOOKED_THROUGH.1 {
+    if bytes.len() > LOOKED_THROUGH.0 || lines.len() > LOOKED_THROUGH.1 || longest_deep([bytes]).is_some() {
         return None;
     }
+    let at = |line: usize, text: &str| Some(Fault { line: Some(line), text: text.into() });
     let is_script = |parts: &[&[u8]]| read_script(&parts.concat()) != Err(ReadRefusal::NoScript);
     let Some(end) = next_script(bytes) else {
-        return Some("the end: a script ends with the line `(check-sat)`".into());
+        return Some(Fault { line: None, text: "a script ends with the line `(check-sat)`".into() });
     };
     if end < bytes.len() {
         let line = lines.iter().position(|line| *line == END)? + 2;
         let split = if bytes[end..].starts_with(HEAD) { "; `smt-echo split` cuts scripts that stand end to end" } else { "" };
-        return Some(format!("line {line}: more follows the line `(check-sat)`{split}"));
+        return at(line, &format!("more follows the line `(check-sat)`{split}"));
     }
-    let Some((logic, lines)) = lines[..lines.len() - 1].split_first() else {
-        return Some("line 1: a script begins with the line of its logic".into());
+    let Some((logic, lines)) = lines[..lines.len() - 1].split_first().filter(|(logic, _)| logic.starts_with(HEAD)) else {
+        return at(1, "a script begins with the line of its logic");
     };
     let (declarations, assertions) = lines.split_at(lines.iter().take_while(|line| line.starts_with(b"(declare-")).count());
     let header = [&[*logic], declarations].concat();
     if is_script(&[&header.concat(), END]) {
         let none = |line: &&[u8]| !line.starts_with(b"(assert ") || !is_script(&[&header.concat(), line, END]);
         let line = assertions.iter().position(none)? + header.len() + 1;
-        return Some(format!("line {line}: it is no assertion over these declarations as the printer writes it"));
+        return at(line, "it is no assertion over these declarations as the printer writes it");
     }
     let goes_on = |count: usize| {
         let logics = [&b"(set-logic QF_BV)\n"[..], b"(set-logic QF_ABV)\n", b"(set-logic QF_AUFBV)\n"];
         logics.iter().any(|logic| is_script(&[logic, &declarations[..count].concat(), END]))
     };
-    Some(match (1..=declarations.len()).find(|count| !goes_on(*count)) {
-        None => "line 1: the logic is not the one of these declarations".into(),
-        Some(count) => {
-            let line = count + 1;
-            format!("line {line}: it is no declaration as the printer writes it, or its name is refused or given before")
-        }
-    })
+    match (1..=declarations.len()).find(|count| !goes_on(*count)) {
+        None => at(1, "the logic is not the one of these declarations"),
+        Some(count) => at(count + 1, "it is no declaration as the printer writes it, or its name is refused or given before"),
+    }
 }
