@@ -9,7 +9,7 @@ use refusals::MALFORMED;
 use refusals::ROOM;
 use sliver_kernel::Outcome;
 ghost use mathlib.Core.Path.{_≡_};
-ghost use Rattle.echo_kernel.specs.Outcomes as echo;
+ghost use Rattle.echo_kernel.specs.Answered as echo;
 ghost use Rattle.sliver_kernel.specs.Outcomes as widths;
 ghost use Rattle.echo_size.specs.Sized as sized;
 ghost use Rattle.fewest_roots.specs.Answered as fewest;

@@ -36,7 +36,7 @@ use Rattle.refusals.specs.declared.EchoError.{EchoError}
 use Rattle.refusals.specs.Numbers.{errorNumber, error-number}
 use Rattle.echo_kernel.specs.declared.Echo.{Echo}
 use Rattle.echo_kernel.specs.declared.Echo.the-variants.{Printed, Refused}
-use Rattle.echo_kernel.specs.Outcomes.{answered}
+use Rattle.echo_kernel.specs.Answered.{answered}
 use Rattle.echo_kernel.proofs.echo_ext.Reads as echo-ext-code
 use Rattle.lent.specs.Lent.{problemOf}
 use Rattle.theorems.specs.Scripts.{scriptOf}

@@ -19,7 +19,7 @@ use Rattle.refusals.specs.Numbers.{errorNumber, error-number}
 use Rattle.lent.specs.Lent.{problemOf}
 use Rattle.echo_kernel.specs.declared.Echo.{Echo}
 use Rattle.echo_kernel.specs.declared.Echo.the-variants.{Printed, Refused}
-use Rattle.echo_kernel.specs.Outcomes.{answered}
+use Rattle.echo_kernel.specs.Answered.{answered}
 use Rattle.echo_formulas.proofs.echo_formulas.Reads as echo-formulas-code
 use Rattle.theorems.specs.Answered.{Whole, endless-whole, printed, text-acceptance, text-refused, text-accepted, text-room, text-told, text-listed}
 use Rattle.formulas.specs.Phrases.{Reads, ReadsLines}

@@ -12,10 +12,10 @@ use Rattle.reading.specs.Trees.{Tree, variable, constant, apply, none, more}
 use Rattle.echo_spec.specs.Input.{Problem}
 use Rattle.echo_spec.specs.Answers.{reading}
 use Rattle.echo_spec.specs.Examples.{node, lent, sum}
-use Rattle.echo_spec.specs.LetExamples.{over}
+use Rattle.lets.specs.LetExamples.{over}
 use Rattle.refusals.specs.declared.EchoError.the-variants.{Room}
 use Rattle.echo_kernel.specs.declared.Echo.the-variants.{Refused}
-use Rattle.echo_kernel.specs.Outcomes.{answered}
+use Rattle.echo_kernel.specs.Answered.{answered}
 use Rattle.formulas.specs.Phrases.{Reads, ReadsLines}
 use Rattle.formula_text.specs.Notation.{formula}
 use Rattle.formula_answers.specs.Answers.{echo-formulas-answer}

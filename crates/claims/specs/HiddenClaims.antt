@@ -24,7 +24,7 @@ use Rattle.refusals.specs.declared.EchoError.{EchoError}
 use Rattle.refusals.specs.Numbers.{errorNumber, error-number}
 use Rattle.echo_kernel.specs.declared.Echo.{Echo}
 use Rattle.echo_kernel.specs.declared.Echo.the-variants.{Printed, Refused}
-use Rattle.echo_kernel.specs.Outcomes.{answered}
+use Rattle.echo_kernel.specs.Answered.{answered}
 use Rattle.echo_hidden.specs.Answering.{hidden-length, hidden-refusal}
 use Rattle.echo_hidden.proofs.echo_hidden.Reads as echo-hidden-code
 use Rattle.lent.specs.Lent.{problemOf}

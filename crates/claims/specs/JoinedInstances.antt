@@ -16,7 +16,7 @@ use Rattle.echo_spec.specs.Input.{Problem}
 use Rattle.echo_spec.specs.Answers.{echo-ext-answer}
 use Rattle.hidden.specs.Hidden.{zeros, hidden, hiddenReading, hiddenScript, echo-hidden-answer}
 use Rattle.echo_spec.specs.Examples.{node, problem, lent, sum, allMeet}
-use Rattle.echo_spec.specs.LetExamples.{over, letsMeet}
+use Rattle.lets.specs.LetExamples.{over, letsMeet}
 use Rattle.claims.specs.JoinedScripts.{plain, withZeros, withLet, PrintedScript, NextContract, printed-lines, equal-files, no-beginning, no-file-beginning, cut-gives-back, cut-tells-rest, next-of-file, next-of-nothing, bytes-are-script}
 
 -- ---------------------------------------------------------------- four scripts

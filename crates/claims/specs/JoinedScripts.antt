@@ -9,7 +9,7 @@ use mathlib.Core.Option.{none, some}
 use lib.ListN.{length, take}
 use Rattle.echo_spec.specs.Input.{Problem}
 use Rattle.echo_spec.specs.Answers.{echo-ext-answer}
-use Rattle.echo_spec.specs.Lets.{echo-let-answer}
+use Rattle.lets.specs.Lets.{echo-let-answer}
 use Rattle.hidden.specs.Hidden.{echo-hidden-answer}
 use Rattle.script_lines.specs.Lines.{IsScript, AllScripts, joined, nextScript, Cut, scriptsOf}
 use Rattle.script_lines.specs.Laws.{next-of-script, scripts-apart}

@@ -19,13 +19,13 @@ use Rattle.echo_spec.specs.Widths.{widthsOf}
 use Rattle.echo_spec.specs.Sharing.{unshared}
 use Rattle.echo_spec.specs.NameLaws.{allNames}
 use Rattle.echo_spec.specs.Answers.{Answer, reading, echo-ext-answer}
-use Rattle.echo_spec.specs.Lets.{usesIn, shared, letName, namesClear, echo-let-answer}
+use Rattle.lets.specs.Lets.{usesIn, shared, letName, namesClear, echo-let-answer}
 use Rattle.refusals.specs.declared.EchoError.{EchoError}
 use Rattle.refusals.specs.Numbers.{errorNumber, error-number}
 use Rattle.lent.specs.Lent.{problemOf}
 use Rattle.echo_kernel.specs.declared.Echo.{Echo}
 use Rattle.echo_kernel.specs.declared.Echo.the-variants.{Printed, Refused}
-use Rattle.echo_kernel.specs.Outcomes.{answered}
+use Rattle.echo_kernel.specs.Answered.{answered}
 use Rattle.echo_let.proofs.echo_let.Reads as echo-let-code
 use Rattle.theorems.specs.Answered.{printed, accepted-whole}
 use Rattle.theorems.specs.LetNames.{clash-is}

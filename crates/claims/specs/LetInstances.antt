@@ -11,9 +11,9 @@ use Rattle.smtlib.specs.Readings.{Reads}
 use Rattle.smtlib.specs.Sorts.{WellSorted}
 use Rattle.echo_spec.specs.Input.{Problem}
 use Rattle.echo_spec.specs.Answers.{reading, echo-ext-answer}
-use Rattle.echo_spec.specs.Lets.{echo-let-answer}
+use Rattle.lets.specs.Lets.{echo-let-answer}
 use Rattle.echo_spec.specs.Examples.{node, lent, sum}
-use Rattle.echo_spec.specs.LetExamples.{over, letsMeet}
+use Rattle.lets.specs.LetExamples.{over, letsMeet}
 use Rattle.theorems.specs.LetPrinted.{letPrinted}
 use Rattle.claims.specs.LetClaims.{LetAccepts, let-well-sorted, let-one-reading, prints-as-before}
 

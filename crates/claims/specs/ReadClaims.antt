@@ -26,7 +26,7 @@ use Rattle.script_reader.specs.declared.ReadError.{ReadError}
 use Rattle.script_reader.specs.declared.ReadError.the-variants.{NoScript, Limit, Room}
 use Rattle.script_reader.specs.declared.Sizes.{Sizes as ReadSizes}
 use Rattle.script_reader.proofs.read_script.Reads as read-script-code
-use Rattle.readback_theorems.specs.Printables.{Passed, ProblemScript}
+use Rattle.readback_theorems.specs.Printables.{Acceptable, ProblemScript}
 use Rattle.readback_theorems.specs.Answered.{ReadBack, read-listed, read-refused, read-accepted, read-thirteen, printed-read, refusal-none}
 use Rattle.claims.specs.Claims.{Accepts, acceptance-prints, accepts-exactly, one-reading}
 

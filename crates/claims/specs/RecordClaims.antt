@@ -29,8 +29,8 @@ abbrev pub NewForm : List ℕ → Type 0
 NewForm new = newRefusal new ≡ 0
 
 -- The result at the front of the buffer, its length beside it, and the rest of the buffer as it was.
-abbrev pub written : List ℕ → List ℕ → Answer
-written result lent = record { number = 0; count = length result; output = result ++ drop (length result) lent }
+abbrev pub resultOver : List ℕ → List ℕ → Answer
+resultOver result lent = record { number = 0; count = length result; output = result ++ drop (length result) lent }
 
 -- ---------------------------------------------------------------- what is answered
 
@@ -44,11 +44,11 @@ unfolding lengthen-answer
 lengthen-listed new lent = text-listed (among (0 ∷ 9 ∷ 10 ∷ 16 ∷ [])) (newRefusal new) (lengthened new) lent tt tt (new-listed 2048 new)
 
 -- Given room, every form that passes is converted: an acceptance is that and nothing else.
-pub shortens : (old lent : List ℕ) → OldForm old → length (shortened old) ≤ length lent → shorten-answer old lent ≡ written (shortened old) lent
+pub shortens : (old lent : List ℕ) → OldForm old → length (shortened old) ≤ length lent → shorten-answer old lent ≡ resultOver (shortened old) lent
 unfolding shorten-answer
 shortens old lent h l = text-acceptance (oldRefusal old) (shortened old) lent (text-accepted (oldRefusal old) (shortened old) lent .1 (h, l))
 
-pub lengthens : (new lent : List ℕ) → NewForm new → length (lengthened new) ≤ length lent → lengthen-answer new lent ≡ written (lengthened new) lent
+pub lengthens : (new lent : List ℕ) → NewForm new → length (lengthened new) ≤ length lent → lengthen-answer new lent ≡ resultOver (lengthened new) lent
 unfolding lengthen-answer
 lengthens new lent h l = text-acceptance (newRefusal new) (lengthened new) lent (text-accepted (newRefusal new) (lengthened new) lent .1 (h, l))
 
@@ -75,14 +75,14 @@ lengthen-refuses new lent = text-refused (newRefusal new) (lengthened new) lent
 
 -- What was shortened is lengthened to the bytes begun with, given room.
 pub old-new-old : (old lent lent′ : List ℕ) → OldForm old → length (shortened old) ≤ length lent → length old ≤ length lent′
-    → (shorten-answer old lent ≡ written (shortened old) lent) × (lengthen-answer (shortened old) lent′ ≡ written old lent′)
+    → (shorten-answer old lent ≡ resultOver (shortened old) lent) × (lengthen-answer (shortened old) lent′ ≡ resultOver old lent′)
 old-new-old old lent lent′ h l m =
     let b = old-back old h in
     (shortens old lent h l, lengthens (shortened old) lent′ (b .0) (rw (b .1) m) ∙ rw (b .1) refl)
 
 -- And what was lengthened is shortened to the bytes begun with.
 pub new-old-new : (new lent lent′ : List ℕ) → NewForm new → length (lengthened new) ≤ length lent → length new ≤ length lent′
-    → (lengthen-answer new lent ≡ written (lengthened new) lent) × (shorten-answer (lengthened new) lent′ ≡ written new lent′)
+    → (lengthen-answer new lent ≡ resultOver (lengthened new) lent) × (shorten-answer (lengthened new) lent′ ≡ resultOver new lent′)
 new-old-new new lent lent′ h l m =
     let b = new-back new h in
     (lengthens new lent h l, shortens (lengthened new) lent′ (b .0) (rw (b .1) m) ∙ rw (b .1) refl)
@@ -146,14 +146,14 @@ lengthen-done new lent out n c =
 
 -- What a call of `shorten` wrote, a call of `lengthen` with room for the old bytes turns into these; and the other way about.
 pub back-to-old : (old lent out : List ℕ) (n : ℕ) (r : Converted) (lent′ out′ : List ℕ) → ShortenContract (Done n) old lent out
-    → length old ≤ length lent′ → LengthenContract r (take n out) lent′ out′ → answered r out′ ≡ written old lent′
+    → length old ≤ length lent′ → LengthenContract r (take n out) lent′ out′ → answered r out′ ≡ resultOver old lent′
 back-to-old old lent out n r lent′ out′ c l d =
     let h = shorten-done old lent out n c in
     let b = old-back old (h .0) in
     d ∙ rw (h .2) (lengthens (shortened old) lent′ (b .0) (rw (b .1) l) ∙ rw (b .1) refl)
 
 pub back-to-new : (new lent out : List ℕ) (n : ℕ) (r : Converted) (lent′ out′ : List ℕ) → LengthenContract (Done n) new lent out
-    → length new ≤ length lent′ → ShortenContract r (take n out) lent′ out′ → answered r out′ ≡ written new lent′
+    → length new ≤ length lent′ → ShortenContract r (take n out) lent′ out′ → answered r out′ ≡ resultOver new lent′
 back-to-new new lent out n r lent′ out′ c l d =
     let h = lengthen-done new lent out n c in
     let b = new-back new (h .0) in

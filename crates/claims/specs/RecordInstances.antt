@@ -17,7 +17,7 @@ use Rattle.short_records.specs.Examples.{computed, old1, new1, old2, new2, old4
 use Rattle.claims.specs.RecordClaims.{
   OldForm,
   NewForm,
-  written,
+  resultOver,
   ShortenContract,
   LengthenContract,
   shorten-refuses,
@@ -62,11 +62,11 @@ its-old-form = refl
 
 -- ---------------------------------------------------------------- either way round
 
-there-and-back : lengthen-answer new (lent 60) ≡ written old (lent 60)
+there-and-back : lengthen-answer new (lent 60) ≡ resultOver old (lent 60)
 unfolding computed old new
 there-and-back = old-new-old old (lent 31) (lent 60) is-old (lit≤ tt) (lit≤ tt) .1
 
-back-and-there : shorten-answer old (lent 40) ≡ written new (lent 40)
+back-and-there : shorten-answer old (lent 40) ≡ resultOver new (lent 40)
 unfolding computed old new
 back-and-there = new-old-new new (lent 51) (lent 40) is-new (lit≤ tt) (lit≤ tt) .1
 
@@ -137,11 +137,11 @@ its-old-bytes = lengthen-done new (lent 60) (old ++ lent 9) 51 called-back .2
 counted : 31 ≡ length (nodesOf old) + 4 * operandsOf (nodesOf old)
 counted = shorten-length old (lent 40) (new ++ lent 9) 31 called
 
-returned : answered (Done 51) (old ++ lent 9) ≡ written old (lent 60)
+returned : answered (Done 51) (old ++ lent 9) ≡ resultOver old (lent 60)
 unfolding computed old new
 returned = back-to-old old (lent 40) (new ++ lent 9) 31 (Done 51) (lent 60) (old ++ lent 9) called (lit≤ tt) called-back
 
-returned-new : answered (Done 31) (new ++ lent 9) ≡ written new (lent 40)
+returned-new : answered (Done 31) (new ++ lent 9) ≡ resultOver new (lent 40)
 unfolding computed old new
 returned-new = back-to-new new (lent 60) (old ++ lent 9) 51 (Done 31) (lent 40) (new ++ lent 9) called-back (lit≤ tt) called
 

@@ -11,7 +11,7 @@ use lib.Seq.{drop-cons}
 use Rattle.echo_spec.specs.Refusals.{_orElse_}
 use Rattle.echo_spec.specs.Input.{Dag, shape, no-node}
 use Rattle.echo_spec.specs.Walk.{walkAll, walk, walkRoots, formula}
-use Rattle.echo_spec.specs.Lets.{usesIn, shared, binds, assertionRefusal, letRoots}
+use Rattle.lets.specs.Lets.{usesIn, shared, binds, assertionRefusal, letRoots}
 use Rattle.lent.specs.Lent.{Slice, problemAt, dagAt}
 use Rattle.blast_kernel.specs.Codes.{codeOf, code-small}
 use Rattle.echo_tables.specs.Refused.{refusedAt}

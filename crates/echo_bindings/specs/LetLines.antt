@@ -11,7 +11,7 @@ use lib.ListN.{length}
 use Rattle.lists.specs.Bytes.{bytes}
 use Rattle.echo_spec.specs.Input.{Dag}
 use Rattle.echo_spec.specs.Render.{quoted, term}
-use Rattle.echo_spec.specs.Lets.{letName, namedOf, rising, bindingOf, letText}
+use Rattle.lets.specs.Lets.{letName, namedOf, rising, bindingOf, letText}
 use Rattle.echo_bytes.specs.declared.Place.{Place}
 use Rattle.echo_bytes.specs.Page.{Page, page, written}
 use Rattle.echo_bytes.specs.Laws.{written-then, written-nil, length-written}

@@ -18,9 +18,9 @@ use Rattle.echo_spec.specs.Input.{Node, shape, no-node, Dag}
 use Rattle.echo_spec.specs.Widths.{ext-wf}
 use Rattle.echo_spec.specs.Walk.{asked, Operand, operandsAs, walkAll, sortOk, walkStep, walksBelow, walk, walkRoots, formula}
 use Rattle.echo_spec.specs.Accepted.{orElse-passed}
-use Rattle.echo_spec.specs.Lets as lets
-use Rattle.echo_spec.specs.Lets.{shared, reachedBelow, reached, binds, rising, boolAt, usedAs, letStep, letWalksBelow, letWalk, ownSort, assertionRefusal, letRoots}
-use Rattle.echo_spec.specs.ReachedLaws.{Reaches, itself, onward, reached-is}
+use Rattle.lets.specs.Lets as lets
+use Rattle.lets.specs.Lets.{shared, reachedBelow, reached, binds, rising, boolAt, usedAs, letStep, letWalksBelow, letWalk, ownSort, assertionRefusal, letRoots}
+use Rattle.lets.specs.ReachedLaws.{Reaches, itself, onward, reached-is}
 use Rattle.echo_tables.specs.Refused.{operandsOf, refusedAt, Each, Passes, all-same, walk-past, operands-low, walk-is, operands-pass}
 
 -- the first that is not 0, of the m numbers from a on

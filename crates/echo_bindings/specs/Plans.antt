@@ -19,7 +19,7 @@ use Rattle.echo_spec.specs.Widths.{ext-wf}
 use Rattle.echo_spec.specs.Tables.{find-node}
 use Rattle.echo_spec.specs.ColumnLaws.{Aligned}
 use Rattle.echo_spec.specs.Render.{term}
-use Rattle.echo_spec.specs.Lets.{named, namedOf, shared, reached, binds, rising, bindingOf, assertionOf, letText}
+use Rattle.lets.specs.Lets.{named, namedOf, shared, reached, binds, rising, bindingOf, assertionOf, letText}
 use Rattle.echo_spec.specs.Sharing.{count, usedOnce}
 use Rattle.lent.specs.Lent.{Slice, problemAt, dagAt}
 use Rattle.blast_kernel.specs.Codes.{codeOf, code-small}

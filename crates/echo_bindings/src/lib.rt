@@ -16,7 +16,7 @@ ghost use Prim.Native.Nat.{_+_, _/_, _≤_, _<_};
 ghost use lib.Dec.{eqb};
 ghost use lib.ListN.{length, getD};
 ghost use Rattle.lists.specs.Bytes.{bytes as literal};
-ghost use Rattle.echo_spec.specs.Lets.{binds, assertionRefusal, letRoots};
+ghost use Rattle.lets.specs.Lets.{binds, assertionRefusal, letRoots};
 ghost use Rattle.lent.specs.Lent.{problemAt, dagAt};
 ghost use Rattle.echo_bytes.specs.Page.{page, start, written};
 ghost use Rattle.echo_tables.specs.Refused.{refusedAt};

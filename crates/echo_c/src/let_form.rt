@@ -3,7 +3,7 @@ use c_answers::EchoAnswer;
 use c_answers::echo_answer;
 ghost use mathlib.Core.Path.{_≡_};
 ghost use Rattle.lent.specs.Lent.{problemOf};
-ghost use Rattle.echo_spec.specs.Lets.{echo-let-answer};
+ghost use Rattle.lets.specs.Lets.{echo-let-answer};
 ghost use Rattle.c_answers.specs.Answered.{printed};
 
 // The printer, with each shared operator bound by `let` in each assertion that reaches it.

@@ -14,7 +14,7 @@ use Rattle.lists.specs.Tests.{same, inList, every, everyFrom, and-0, and-1, and
 use Rattle.reading.specs.Trees.{Name}
 use Rattle.echo_spec.specs.Input.{Dag, part, namesOf, nameTable, anameTable, fnameTable}
 use Rattle.echo_spec.specs.Render.{decimalDigits, decimal}
-use Rattle.echo_spec.specs.Lets.{letName, shared, namesClear}
+use Rattle.lets.specs.Lets.{letName, shared, namesClear}
 use Rattle.echo_bytes.specs.declared.Place.{Place}
 use Rattle.echo_bytes.specs.Page.{Page, page, start, written}
 use Rattle.echo_bytes.specs.Laws.{written-then, written-fits}

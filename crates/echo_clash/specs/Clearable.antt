@@ -4,7 +4,7 @@ use mathlib.Core.Path.{_≡_}
 use mathlib.Core.List.{List}
 use lib.ListN.{length}
 use Rattle.echo_spec.specs.ColumnLaws.{Aligned}
-use Rattle.echo_spec.specs.Lets.{usesIn, shared}
+use Rattle.lets.specs.Lets.{usesIn, shared}
 use Rattle.lent.specs.Lent.{Slice, problemAt, dagAt}
 use Rattle.echo_sharing.specs.Flags.{Flags}
 

@@ -24,7 +24,7 @@ ghost use Prim.Native.Nat.{_-_, _≤_, _<_};
 ghost use lib.ListN.{length};
 ghost use Rattle.lists.specs.Tests.{same, every};
 ghost use Rattle.echo_spec.specs.Input.{namesOf};
-ghost use Rattle.echo_spec.specs.Lets.{letName, usesIn, namesClear};
+ghost use Rattle.lets.specs.Lets.{letName, usesIn, namesClear};
 ghost use Rattle.lent.specs.Lent.{problemAt, dagAt};
 ghost use Rattle.echo_clash.specs.Clash.{digit, readFrom, clashes as «clashes-of»};
 ghost use Rattle.echo_clash.specs.Clearable.{Clearable};

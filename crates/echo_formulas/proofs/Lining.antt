@@ -14,11 +14,11 @@ use Rattle.echo_spec.specs.Trees.{readingOf}
 use Rattle.echo_spec.specs.Walk.{walkRoots, checks, refusalWith}
 use Rattle.echo_spec.specs.Answers.{endlessWith, endlessRefusal}
 use Rattle.echo_bytes.specs.Page.{Page}
-use Rattle.echo_kernel.specs.declared.Out.{Out}
-use Rattle.echo_kernel.specs.Outcomes.{Wrote}
-use Rattle.echo_kernel.specs.Scripts.{tablesRefusal}
-use Rattle.echo_kernel.specs.Prepared.{WellFormed}
-use Rattle.echo_kernel.proofs.Checking.{wrote-as, measured-checks}
+use Rattle.echo_script.specs.declared.Out.{Out}
+use Rattle.echo_script.specs.Outcomes.{Wrote}
+use Rattle.echo_script.specs.Scripts.{tablesRefusal}
+use Rattle.echo_script.specs.Prepared.{WellFormed}
+use Rattle.echo_script.proofs.Checking.{wrote-as, measured-checks}
 use Rattle.formula_answers.specs.Answers.{formulaLines}
 use Rattle.echo_formulas.specs.Lines.{linesText, linesWith}
 

@@ -3,7 +3,7 @@
 // The checks and tables are the plain printer's; each root is then written as a line.
 use echo_bytes::Place;
 use echo_kernel::Echo;
-use echo_kernel::Out;
+use echo_script::Out;
 use echo_pieces::SIGNS;
 use echo_walk::TABLES;
 use lent::BYTES;
@@ -26,9 +26,11 @@ ghost use Rattle.echo_spec.specs.Input.{queryOf};
 ghost use Rattle.echo_spec.specs.Walk.{walkRoots};
 ghost use Rattle.echo_spec.specs.Answers.{endlessRefusal};
 ghost use Rattle.echo_walk.specs.Ready.{Fine};
-ghost use Rattle.echo_kernel.specs.Scripts.{AllFine, declaredChecks, tablesRefusal};
-ghost use Rattle.echo_kernel.specs.Outcomes.{Wrote, answered};
-ghost use Rattle.echo_kernel.specs.Prepared.{Prepared, WellFormed};
+ghost use Rattle.echo_roots.specs.Roots.{AllFine};
+ghost use Rattle.echo_script.specs.Scripts.{declaredChecks, tablesRefusal};
+ghost use Rattle.echo_script.specs.Outcomes.{Wrote};
+ghost use Rattle.echo_kernel.specs.Answered.{answered};
+ghost use Rattle.echo_script.specs.Prepared.{Prepared, WellFormed};
 ghost use Rattle.formula_answers.specs.Answers.{formulaLines, echo-formulas-answer};
 ghost use Rattle.echo_openings.specs.Signed.{Signed, placedAt};
 ghost use Rattle.echo_formulas.specs.Lines.{linesText, linesWith};
@@ -68,7 +70,7 @@ fn lines(
     let mut q = p;
     let mut k = 0;
     while k < roots.len() {
-        let root = echo_kernel::root_at(roots, k);
+        let root = echo_roots::root_at(roots, k);
         q = line(bytes, numbers, tables, signs, q, root, out);
         k += 1;
     }
@@ -104,7 +106,7 @@ fn printed(bytes: &[&[u8]; BYTES], numbers: &[&[u64]; NUMBERS], ws: &[u64], out:
     let mut entries = [0u64; MAX_NODES];
     let mut codes = [0u64; MAX_NODES];
     let mut first = [0u64; MAX_ENTRIES];
-    let d = echo_kernel::fill(bytes, numbers, ws, &mut entries, &mut codes, &mut first);
+    let d = echo_script::fill(bytes, numbers, ws, &mut entries, &mut codes, &mut first);
     if d > 0 {
         return Out::Refused(d);
     }
@@ -134,7 +136,7 @@ fn checked(bytes: &[&[u8]; BYTES], numbers: &[&[u64]; NUMBERS], out: &mut [u8]) 
     ensures { λ r. ⌜ Wrote (endlessRefusal (problemAt (now (bytes .entry)) (now (numbers .entry)))) (formulaLines (queryOf (problemAt (now (bytes .entry)) (now (numbers .entry))))) (page start (now (out .entry))) r (now (out .exit)) ⌝ }
 {
     let mut ws = [0u64; MAX_NODES];
-    let e = echo_kernel::measure(bytes, numbers, &mut ws);
+    let e = echo_script::measure(bytes, numbers, &mut ws);
     if e > 0 {
         return Out::Refused(e);
     }

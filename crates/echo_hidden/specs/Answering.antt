@@ -13,7 +13,7 @@ use Rattle.refusals.specs.declared.EchoError.{EchoError}
 use Rattle.refusals.specs.Numbers.{errorNumber, error-number}
 use Rattle.echo_kernel.specs.declared.Echo.{Echo}
 use Rattle.echo_kernel.specs.declared.Echo.the-variants.{Printed, Refused}
-use Rattle.echo_kernel.specs.Outcomes.{count, answered}
+use Rattle.echo_kernel.specs.Answered.{count, answered}
 use Rattle.hidden.specs.Hidden.{hiddenScript, echo-hidden-answer}
 use Rattle.theorems.specs.Answered.{Whole, printed, sound, acceptance, refused, accepted-whole, endless-whole, text-number}
 use Rattle.echo_hidden.specs.Covered.{outside, covered, covered-length}

@@ -7,7 +7,7 @@ ghost use mathlib.Core.Path.{_≡_};
 ghost use Prim.Native.Nat.{_≤_};
 ghost use lib.ListN.{length};
 ghost use Rattle.lent.specs.Lent.{problemOf};
-ghost use Rattle.echo_kernel.specs.Outcomes.{count, answered};
+ghost use Rattle.echo_kernel.specs.Answered.{count, answered};
 ghost use Rattle.hidden.specs.Hidden.{echo-hidden-answer};
 ghost use Rattle.echo_hidden.specs.Covered.{outside, inName, inConstant, shown, covered, Came};
 ghost use Rattle.echo_hidden.specs.Answering.{coveredFirst, coveredBy};

@@ -18,10 +18,11 @@ use Rattle.echo_bytes.specs.Laws.{need-exact, written-fits}
 use Rattle.refusals.specs.declared.EchoError.{EchoError}
 use Rattle.refusals.specs.declared.EchoError.the-variants.{Room}
 use Rattle.refusals.specs.Numbers.{errorNumber, Numbered}
-use Rattle.echo_kernel.specs.declared.Out.{Out}
-use Rattle.echo_kernel.specs.declared.Out.the-variants as out
+use Rattle.echo_script.specs.declared.Out.{Out}
+use Rattle.echo_script.specs.declared.Out.the-variants as out
 use Rattle.echo_kernel.specs.declared.Echo.the-variants.{Printed, Refused}
-use Rattle.echo_kernel.specs.Outcomes.{Wrote, answered}
+use Rattle.echo_script.specs.Outcomes.{Wrote}
+use Rattle.echo_kernel.specs.Answered.{answered}
 
 -- ---------------------------------------------------------------- what was written
 

@@ -1,4 +1,1 @@
-pub mod Laws
-pub mod Printing
-pub mod Checking
 pub mod Answering

@@ -1,3 +1,1 @@
-pub mod Scripts
-pub mod Prepared
-pub mod Outcomes
+pub mod Answered

@@ -33,9 +33,10 @@ use Rattle.echo_walk.specs.StyleLaws.{planned-head, planned-form}
 use Rattle.echo_walk.specs.Ready.{widthsIn, codeIn, planIn, nodeIn, headAt, styleAt, textAt, Ready, Plain, Fine}
 use Rattle.echo_walk.proofs.Laws.{node-text}
 use Rattle.echo_terms.specs.TermTable.{held, entry, counted, formSum}
-use Rattle.echo_kernel.specs.Scripts.{rootsText, AllFine, plainScript}
-use Rattle.echo_kernel.specs.Prepared.{Prepared}
-use Rattle.echo_kernel.proofs.Printing.{print-in}
+use Rattle.echo_roots.specs.Roots.{rootsText, AllFine}
+use Rattle.echo_script.specs.Scripts.{plainScript}
+use Rattle.echo_script.specs.Prepared.{Prepared}
+use Rattle.echo_script.proofs.Printing.{print-in}
 use Rattle.echo_lengths.specs.LengthTable.{closings, headLength, Long, Longs, used, form-length, roots-length, operands-held, places-held}
 
 -- ---------------------------------------------------------------- brackets

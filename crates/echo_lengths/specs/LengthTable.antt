@@ -17,7 +17,7 @@ use Rattle.echo_walk.specs.StyleLaws.{entry-first, levels-first}
 use Rattle.echo_walk.specs.Ready.{widthsIn, textAt, Fine}
 use Rattle.sizes.specs.Sums.{sumOver, sum-append, sum-map}
 use Rattle.echo_terms.specs.TermTable.{held, entry}
-use Rattle.echo_kernel.specs.Scripts.{rootText, rootsText}
+use Rattle.echo_roots.specs.Roots.{rootText, rootsText}
 
 -- the closing brackets behind the operands of a form
 unfoldable pub closings : Form → ℕ

@@ -38,8 +38,9 @@ ghost use Rattle.echo_spec.specs.Render.{symbolOf};
 ghost use Rattle.lent.specs.Lent.{problemAt};
 ghost use Rattle.echo_walk.specs.Ready.{codeIn, widthsIn, nodeIn, textAt, Ready, Plain, Fine, Operator, TermAt};
 ghost use Rattle.echo_terms.specs.TermTable.{held};
-ghost use Rattle.echo_kernel.specs.Scripts.{rootsText, AllFine, plainScript};
-ghost use Rattle.echo_kernel.specs.Prepared.{Prepared};
+ghost use Rattle.echo_roots.specs.Roots.{rootsText, AllFine};
+ghost use Rattle.echo_script.specs.Scripts.{plainScript};
+ghost use Rattle.echo_script.specs.Prepared.{Prepared};
 ghost use Rattle.echo_lengths.specs.LengthTable.{closings, headLength, Long, Longs};
 
 // ---------------------------------------------------------------- a node

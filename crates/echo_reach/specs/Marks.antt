@@ -16,8 +16,8 @@ use Rattle.echo_spec.specs.Input.{Node, shape, no-node, nodeAt, Dag, dagOf}
 use Rattle.echo_spec.specs.Widths.{ext-wf}
 use Rattle.echo_spec.specs.NodeLaws.{facts}
 use Rattle.echo_spec.specs.Walk.{Operand, vector, levels, operandsAs}
-use Rattle.echo_spec.specs.Lets.{operandsOf, reachedBelow, reached, usesIn, shared, binds}
-use Rattle.echo_spec.specs.ReachedLaws.{low-among}
+use Rattle.lets.specs.Lets.{operandsOf, reachedBelow, reached, usesIn, shared, binds}
+use Rattle.lets.specs.ReachedLaws.{low-among}
 use Rattle.lent.specs.Lent.{Slice, problemAt, dagAt}
 use Rattle.lent.specs.Records.{nodes-length, nodes-at}
 use Rattle.lent.specs.Clearing.{replicate-zeros}

@@ -15,7 +15,7 @@ ghost use Prim.Native.Nat.{_+_, _≤_, _<_};
 ghost use lib.Dec.{eqb};
 ghost use lib.ListN.{length, getD, take, drop};
 ghost use Rattle.lists.specs.Tests.{among};
-ghost use Rattle.echo_spec.specs.Lets.{operandsOf, usesIn, shared as «shared-in», binds};
+ghost use Rattle.lets.specs.Lets.{operandsOf, usesIn, shared as «shared-in», binds};
 ghost use Rattle.lent.specs.Lent.{problemAt, dagAt};
 ghost use Rattle.echo_tables.specs.Forms.{formOperands};
 ghost use Rattle.echo_tables.specs.Uses.{FormInside};

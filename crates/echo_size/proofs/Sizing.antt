@@ -13,9 +13,9 @@ use Rattle.echo_bytes.specs.Page.{Page, page, start, written}
 use Rattle.echo_bytes.specs.Laws.{written-full}
 use Rattle.refusals.specs.declared.EchoError.{EchoError}
 use Rattle.refusals.specs.Numbers.{errorNumber}
-use Rattle.echo_kernel.specs.declared.Out.{Out}
-use Rattle.echo_kernel.specs.declared.Out.the-variants as out
-use Rattle.echo_kernel.specs.Outcomes.{Wrote}
+use Rattle.echo_script.specs.declared.Out.{Out}
+use Rattle.echo_script.specs.declared.Out.the-variants as out
+use Rattle.echo_script.specs.Outcomes.{Wrote}
 use Rattle.echo_kernel.proofs.Answering.{outcome-refused, outcome-done}
 use Rattle.sizes.specs.Size.{SizeAnswer, termsEntered, sizeWith, echo-size-answer}
 use Rattle.sizes.specs.Sums.{sumOver}
@@ -23,7 +23,7 @@ use Rattle.sizes.specs.Count.{countsBelow}
 use Rattle.sizes.specs.Scripts.{limits, widths-all, terms-held, script-in-64}
 use Rattle.echo_terms.specs.TermTable.{held, Countable}
 use Rattle.echo_size.specs.declared.Size.the-variants.{Script, Refused}
-use Rattle.echo_size.specs.Sized.{answered, Columns}
+use Rattle.echo_size.specs.Sized.{answered, FullWidths}
 
 -- a column of numbers that each have 64 bits
 pub column-fits : (xs : List ℕ) → ((i : ℕ) → getD xs i 0 < 2 ^ 64) → T (every fits64 xs)
@@ -53,7 +53,7 @@ module _ (p : Problem) {lent l : List ℕ} {o : Out} (w : Wrote (endlessRefusal 
     unfolding dagOf
     countable = record { within = limits p passed .bytes; bits = length (p .bits); arrays = arrayWidths p; formed = widths-all p passed }
 
-    needed : Columns p → q .need ≡ length (script (queryOf p))
+    needed : FullWidths p → q .need ≡ length (script (queryOf p))
     unfolding written
     needed c =
         let e : q .need ≡ min (0 + length (script (queryOf p))) (2 ^ 64 - 1) =
@@ -61,7 +61,7 @@ module _ (p : Problem) {lent l : List ℕ} {o : Out} (w : Wrote (endlessRefusal 
         let s = script-in-64 p passed (c .variables) (c .functions) in
         omega arith
 
-    pub size-told : Columns p → {t : ℕ} → t ≡ held (sumOver (countsBelow (p .side) (nodesOf (p .nodes)) (length (nodesOf (p .nodes)))) (p .roots))
+    pub size-told : FullWidths p → {t : ℕ} → t ≡ held (sumOver (countsBelow (p .side) (nodesOf (p .nodes)) (length (nodesOf (p .nodes)))) (p .roots))
         → answered (Script (q .need) t) ≡ echo-size-answer p
     unfolding echo-size-answer sizeWith
     size-told c {t} e =

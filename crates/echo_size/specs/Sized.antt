@@ -24,6 +24,6 @@ abbrev pub answered : Size → SizeAnswer
 answered r = record { number = number r; length = length r; terms = terms r }
 
 -- the declared widths have 64 bits, as they have in every slice of such numbers
-pub record Columns (p : Problem) : Type 0 where
+pub record FullWidths (p : Problem) : Type 0 where
   pub variables : T (every fits64 (p .var-width))
   pub functions : T (every fits64 (p .func-width))

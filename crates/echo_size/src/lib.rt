@@ -1,6 +1,6 @@
 // Room for a script, known beforehand (document 02, L1): the entry point `echo_size` over the same inputs as `echo_ext` and no output.
 use echo_bytes::Place;
-use echo_kernel::Out;
+use echo_script::Out;
 use lent::BYTES;
 use lent::NODES;
 use lent::NUMBERS;
@@ -16,11 +16,11 @@ ghost use Rattle.echo_spec.specs.Input.{queryOf};
 ghost use Rattle.echo_spec.specs.Answers.{script, endlessRefusal};
 ghost use Rattle.lent.specs.Lent.{problemAt, problemOf};
 ghost use Rattle.echo_bytes.specs.Page.{page, start};
-ghost use Rattle.echo_kernel.specs.Scripts.{plainScript, tablesRefusal};
-ghost use Rattle.echo_kernel.specs.Outcomes.{Wrote};
-ghost use Rattle.echo_kernel.specs.Prepared.{WellFormed};
+ghost use Rattle.echo_script.specs.Scripts.{plainScript, tablesRefusal};
+ghost use Rattle.echo_script.specs.Outcomes.{Wrote};
+ghost use Rattle.echo_script.specs.Prepared.{WellFormed};
 ghost use Rattle.sizes.specs.Size.{echo-size-answer};
-ghost use Rattle.echo_size.specs.Sized.{answered, Columns};
+ghost use Rattle.echo_size.specs.Sized.{answered, FullWidths};
 
 // What is told of a problem: its number, length and count are `answered`'s.
 pub enum Size {
@@ -39,7 +39,7 @@ fn sized(bytes: &[&[u8]; BYTES], numbers: &[&[u64]; NUMBERS], ws: &[u64]) -> Out
     let mut entries = [0u64; MAX_NODES];
     let mut codes = [0u64; MAX_NODES];
     let mut first = [0u64; MAX_ENTRIES];
-    let e = echo_kernel::prepare(bytes, numbers, ws, &mut entries, &mut codes, &mut first);
+    let e = echo_script::prepare(bytes, numbers, ws, &mut entries, &mut codes, &mut first);
     if e > 0 {
         return Out::Refused(e);
     }
@@ -52,7 +52,7 @@ fn measured(bytes: &[&[u8]; BYTES], numbers: &[&[u64]; NUMBERS]) -> Out
     ensures { λ r. ⌜ Wrote (endlessRefusal (problemAt (now (bytes .entry)) (now (numbers .entry)))) (script (queryOf (problemAt (now (bytes .entry)) (now (numbers .entry))))) (page start []) r [] ⌝ }
 {
     let mut ws = [0u64; MAX_NODES];
-    let e = echo_kernel::measure(bytes, numbers, &mut ws);
+    let e = echo_script::measure(bytes, numbers, &mut ws);
     if e > 0 {
         return Out::Refused(e);
     }
@@ -62,7 +62,7 @@ fn measured(bytes: &[&[u8]; BYTES], numbers: &[&[u64]; NUMBERS]) -> Out
 
 // The size of a lent problem: its length, and the terms counted.
 fn size_of(bytes: &[&[u8]; BYTES], numbers: &[&[u64]; NUMBERS]) -> Size
-    requires { ⌜ Columns (problemAt (now bytes) (now numbers)) ⌝ }
+    requires { ⌜ FullWidths (problemAt (now bytes) (now numbers)) ⌝ }
     ensures { λ r. ⌜ answered r ≡ echo-size-answer (problemAt (now (bytes .entry)) (now (numbers .entry))) ⌝ }
 {
     match measured(bytes, numbers) {

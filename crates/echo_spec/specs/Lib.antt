@@ -10,7 +10,6 @@ pub mod Walk
 pub mod TreeSorts
 pub mod Render
 pub mod Answers
-pub mod Lets
 pub mod Examples
 pub mod LimitExamples
 pub mod EncodingExamples
@@ -21,14 +20,12 @@ pub mod TableExamples
 pub mod WalkExamples
 pub mod TextExamples
 pub mod ArrayExamples
-pub mod LetExamples
 pub mod TreeSortExamples
 pub mod TreeSortLaws
 pub mod Accepted
 pub mod WidthLaws
 pub mod NodeLaws
 pub mod EncodingLaws
-pub mod ReachedLaws
 pub mod NameLaws
 pub mod ColumnLaws
 pub mod SortedTrees

@@ -13,7 +13,7 @@ use Rattle.echo_spec.specs.Input.{Node, shape, no-node, Dag}
 use Rattle.echo_spec.specs.Widths.{ext-wf}
 use Rattle.echo_spec.specs.Trees.{treeStep}
 use Rattle.echo_spec.specs.Render.{quoted, term}
-use Rattle.echo_spec.specs.Lets.{letName, named, namedStep, namedBelow, namedOf}
+use Rattle.lets.specs.Lets.{letName, named, namedStep, namedBelow, namedOf}
 use Rattle.echo_tables.specs.declared.Form.{Form}
 use Rattle.echo_tables.specs.declared.Form.the-variants.{Leaf}
 use Rattle.echo_tables.specs.Forms.{formAs}

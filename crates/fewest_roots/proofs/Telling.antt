@@ -14,9 +14,9 @@ use Rattle.echo_spec.specs.Names.{namesOk}
 use Rattle.echo_spec.specs.Sharing.{unshared}
 use Rattle.echo_spec.specs.Walk.{walkRoots, tableChecks, refusalWith}
 use Rattle.echo_spec.specs.Answers.{endlessWith, endlessRefusal}
-use Rattle.echo_kernel.specs.Prepared.{WellFormed, Measure}
-use Rattle.echo_kernel.specs.Scripts.{declaredChecks}
-use Rattle.echo_kernel.proofs.Checking.{measured-checks}
+use Rattle.echo_script.specs.Prepared.{WellFormed, Measure}
+use Rattle.echo_script.specs.Scripts.{declaredChecks}
+use Rattle.echo_script.proofs.Checking.{measured-checks}
 use Rattle.fewest.specs.Fewest.{withRoots, fewest-roots-answer}
 use Rattle.fewest.specs.Refused.{roots-few, within-with, refused-before, FirstRefused, Numbered, bad-names, shared-operands, shared-one, shared-two, bad-declaration, accepted, refused-root}
 use Rattle.fewest_sharing.specs.Found.{Shares}

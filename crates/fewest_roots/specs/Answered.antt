@@ -8,7 +8,7 @@ use Rattle.echo_spec.specs.Input.{Problem, Dag, nodesOf, dagOf}
 use Rattle.echo_spec.specs.Names.{namesOk}
 use Rattle.echo_spec.specs.Sharing.{unshared}
 use Rattle.echo_spec.specs.Walk.{walkRoots}
-use Rattle.echo_kernel.specs.Prepared.{WellFormed}
+use Rattle.echo_script.specs.Prepared.{WellFormed}
 use Rattle.fewest.specs.Fewest.{FewestAnswer}
 use Rattle.fewest.specs.Refused.{FirstRefused}
 use Rattle.fewest_roots.specs.declared.Fewest.{Fewest}

@@ -15,7 +15,7 @@ ghost use Prim.Native.Nat.{_<_};
 ghost use lib.ListN.{length};
 ghost use Rattle.lent.specs.Lent.{problemAt, dagAt, problemOf};
 ghost use Rattle.echo_tables.specs.Asked.{Refusable};
-ghost use Rattle.echo_kernel.specs.Prepared.{WellFormed};
+ghost use Rattle.echo_script.specs.Prepared.{WellFormed};
 ghost use Rattle.fewest.specs.Fewest.{fewest-roots-answer};
 ghost use Rattle.fewest_roots.specs.Answered.{answered, Walked, Apart};
 
@@ -59,7 +59,7 @@ fn from_declared(bytes: &[&[u8]; BYTES], numbers: &[&[u64]; NUMBERS], ws: &[u64]
     let mut entries = [0u64; MAX_NODES];
     let mut codes = [0u64; MAX_NODES];
     let mut first = [0u64; MAX_ENTRIES];
-    let d = echo_kernel::fill(bytes, numbers, ws, &mut entries, &mut codes, &mut first);
+    let d = echo_script::fill(bytes, numbers, ws, &mut entries, &mut codes, &mut first);
     if d > 0 {
         return Fewest::NoRoot(d);
     }
@@ -87,7 +87,7 @@ fn fewest_of(bytes: &[&[u8]; BYTES], numbers: &[&[u64]; NUMBERS]) -> Fewest
     ensures { λ r. ⌜ answered r ≡ fewest-roots-answer (problemAt (now (bytes .entry)) (now (numbers .entry))) ⌝ }
 {
     let mut ws = [0u64; MAX_NODES];
-    let e = echo_kernel::measure(bytes, numbers, &mut ws);
+    let e = echo_script::measure(bytes, numbers, &mut ws);
     if e > 0 {
         return Fewest::NoRoot(e);
     }

@@ -7,7 +7,7 @@ use Rattle.reading.specs.Kinds.{Eq, Neg, Mul}
 use Rattle.echo_spec.specs.Input.{Problem}
 use Rattle.echo_spec.specs.Answers.{Answer}
 use Rattle.echo_spec.specs.Examples.{node, problem, lent, refused, accepted, sum, Example, given, wanted, allMeet}
-use Rattle.echo_spec.specs.LetExamples.{over}
+use Rattle.lets.specs.LetExamples.{over}
 use Rattle.formula_text.specs.Notation.{notations, level, placed, later, parted, application, callText, operandTexts, applied, formula, formulas}
 use Rattle.formula_answers.specs.Answers.{formulaLines, echo-formulas-answer}
 

@@ -6,10 +6,10 @@ use Rattle.echo_spec.specs.Input.{Problem}
 use Rattle.echo_spec.specs.Answers.{echo-ext-answer}
 use Rattle.sizes.specs.Size.{echo-size-answer}
 use Rattle.hidden.specs.Hidden.{echo-hidden-answer}
-use Rattle.echo_spec.specs.Lets.{echo-let-answer}
+use Rattle.lets.specs.Lets.{echo-let-answer}
 use Rattle.fewest.specs.Fewest.{fewest-roots-answer}
 use Rattle.formula_answers.specs.Answers.{echo-formulas-answer}
-use Rattle.echo_kernel.specs.Outcomes.{answered}
+use Rattle.echo_kernel.specs.Answered.{answered}
 use Rattle.echo_size.specs.Sized as sized
 use Rattle.fewest_roots.specs.Answered as chosen
 use Rattle.input_parts.specs.declared.Asked.{Asked}

@@ -34,7 +34,7 @@ use Rattle.layout_writer.specs.Telling.{Script, noScript, overLimit, giv
 -- ---------------------------------------------------------------- columns
 
 -- the columns of a table are of one length
-pub record Columns (p : Problem) : Type 0 where
+pub record OneLength (p : Problem) : Type 0 where
   pub name-len : length (p .name-start) ≡ length (p .name-len)
   pub var-node : length (p .name-start) ≡ length (p .var-node)
   pub var-width : length (p .name-start) ≡ length (p .var-width)
@@ -44,7 +44,7 @@ pub record Columns (p : Problem) : Type 0 where
   pub fname-len : length (p .fname-start) ≡ length (p .fname-len)
   pub func-width : length (p .fname-start) ≡ length (p .func-width)
 
-columns-of : (r : Reading) → Columns (inputs (rebuild r))
+columns-of : (r : Reading) → OneLength (inputs (rebuild r))
 unfolding inputs rebuild dagFor
 columns-of r =
     let D : Declarations = r .declarations in
@@ -73,7 +73,7 @@ front-of xs rest e f = (λ i. take (e i) (f i)) ∙ take-append-seam xs rest
 front-there : (xs rest : List ℕ) {n : ℕ} {l : List ℕ} → n ≡ length xs → l ≡ xs ++ rest → n ≤ length l
 front-there xs rest e f = omega (arith, e, ap length f ∙ length-append xs rest)
 
-module _ (p lent o : Problem) (z : Sizes) (h : Columns p) (s : sizesFrom z ≡ sizesOf p) (f : o ≡ eachWith atFront p lent) where
+module _ (p lent o : Problem) (z : Sizes) (h : OneLength p) (s : sizesFrom z ≡ sizesOf p) (f : o ≡ eachWith atFront p lent) where
   n-nodes : z .nodes ≡ length (p .nodes)
   unfolding sizesOf
   n-nodes = ap (λ (x : Lengths). x .nodes) s

@@ -2,7 +2,7 @@
 use echo_kernel::Echo;
 use libc::STDOUT_FILENO;
 ghost use mathlib.Core.Path.{_≡_};
-ghost use Rattle.echo_kernel.specs.Outcomes.{number as numberOf, count};
+ghost use Rattle.echo_kernel.specs.Answered.{number as numberOf, count};
 
 // Kinds of a node.
 const ADD: u8 = 2;

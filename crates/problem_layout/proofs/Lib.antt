@@ -1,4 +1,4 @@
-pub mod Tables
+pub mod LimitTests
 pub mod Steps
 pub mod Pieces
 pub mod Texts

@@ -10,7 +10,7 @@ use Rattle.refusals.specs.declared.EchoError.{EchoError}
 use Rattle.refusals.specs.Numbers.{errorNumber, errorOf, error-number, error-at}
 use Rattle.echo_kernel.specs.declared.Echo.{Echo}
 use Rattle.echo_kernel.specs.declared.Echo.the-variants as echo
-use Rattle.echo_kernel.specs.Outcomes.{answered}
+use Rattle.echo_kernel.specs.Answered.{answered}
 use Rattle.problem_layout.specs.declared.Shape.{Shape}
 use Rattle.problem_layout.specs.declared.Shape.the-variants as shape
 use Rattle.problem_layout.specs.declared.Said.{Said}

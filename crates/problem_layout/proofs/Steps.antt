@@ -15,7 +15,7 @@ use Rattle.problem_layout.specs.declared.Shape.the-variants.{Early, TooL
 use Rattle.problem_layout.specs.Layout.{inputAt, placeOf, countOf, bytesOf, numbersOf, problemIn, inputsFrom, layout}
 use Rattle.problem_layout.specs.Reading.{Found, Read, Shaped}
 use Rattle.problem_layout.specs.LayoutLaws.{no-count, over-limit, no-elements, one-input, next-place}
-use Rattle.problem_layout.proofs.Tables.{limit-room}
+use Rattle.problem_layout.proofs.LimitTests.{limit-room}
 
 -- ---------------------------------------------------------------- the loop
 

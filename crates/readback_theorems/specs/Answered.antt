@@ -25,7 +25,7 @@ use Rattle.readback.specs.ScriptReader.{readingIn}
 use Rattle.readback.specs.ReadAnswers.{eachWith, listsOf, allFit, sizesOf, noSizes, ReadAnswer, limitsPassed, rebuiltRefusal, readAs, nothing, readFrom, read-script-answer}
 use Rattle.rebuilt.specs.Accepted.{rebuilt-passes, rebuilt-reading, rebuilt-script, rebuilt-encodable}
 use Rattle.rebuilt.specs.Inputs.{inputs-query, inputs-encoded}
-use Rattle.readback_theorems.specs.Printables.{Passed, ProblemScript, passed-printable}
+use Rattle.readback_theorems.specs.Printables.{Acceptable, ProblemScript, passed-printable}
 use Rattle.readback_theorems.specs.Decided.{reading-in, thirteen}
 
 -- ---------------------------------------------------------------- the rebuilt problem as the printer's inputs
@@ -164,7 +164,7 @@ read-listed b lent = by-reading (readingIn b) refl
 
 -- Reading the script of a problem that passes all checks but the limits and the room gives the number of what its reading is rebuilt as:
 -- 9 where that is over a limit or a record cannot hold a number of it, and else 10 where an output is too short, and else 0.
-pub printed-read : (q : Query) (lent : Problem) → Passed q → read-script-answer (script q) lent .number ≡ rebuiltRefusal (rebuild (readingOf q)) lent
+pub printed-read : (q : Query) (lent : Problem) → Acceptable q → read-script-answer (script q) lent .number ≡ rebuiltRefusal (rebuild (readingOf q)) lent
 unfolding script
 printed-read q lent p = script-number (render (readingOf q)) lent (readingOf q) (reading-in (render (readingOf q)) (readingOf q) .1 (passed-printable q p, refl))
 

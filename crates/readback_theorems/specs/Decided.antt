@@ -19,7 +19,7 @@ use Rattle.readback.specs.Printable.{variableNamesIn, arrayNamesIn, functionNam
 use Rattle.readback.specs.Rebuild.{variableNumber, functionNumber}
 use Rattle.readback.specs.Reader.{Took, took}
 use Rattle.readback.specs.ScriptReader.{isEmpty, readScript, ifWhole, readingIn}
-use Rattle.rebuilt.specs.Tables.{tables-distinct, tables-named}
+use Rattle.rebuilt.specs.NameTables.{tables-distinct, tables-named}
 use Rattle.rebuilt.specs.Start.{Checked, checked}
 use Rattle.reader_laws.specs.TermsRead.{NoBar, Barred}
 use Rattle.reader_laws.specs.ScriptsRead.{AllOk, NamesBarred, read-script}

@@ -34,11 +34,11 @@ every-both p r [] h k = tt
 every-both p r (x ∷ xs) h k = and-T (p x && r x) _ (and-T (p x) (r x) (and-0 (p x) _ h) (and-0 (r x) _ k)) (every-both p r xs (and-1 (p x) _ h) (and-1 (r x) _ k))
 
 -- a problem that the printer accepts, but for limits, the 32 bits of operands and room
-pub record Passed (q : Query) : Type 0 where
+pub record Acceptable (q : Query) : Type 0 where
   pub encoding : T (encodable q)
   pub query : refusal (q .dag) (length (q .bits)) (q .roots) ≡ 0
 
-module _ (q : Query) (p : Passed q) where
+module _ (q : Query) (p : Acceptable q) where
   abbrev D : Declarations
   D = declarationsIn q
 
@@ -118,7 +118,7 @@ module _ (q : Query) (p : Passed q) where
 
 -- THE BYTES ARE A PROBLEM'S SCRIPT: of a problem with any number of nodes, bits, entries and any operand, but no width of 2^64 or more
 abbrev pub ProblemScript : List ℕ → Type 0
-ProblemScript b = (q : Query) × Passed q × (script q ≡ b)
+ProblemScript b = (q : Query) × Acceptable q × (script q ≡ b)
 
 -- they are a printable reading's text
 abbrev pub PrintableText : List ℕ → Type 0

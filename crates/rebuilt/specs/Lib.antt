@@ -1,5 +1,5 @@
 pub mod Layout
-pub mod Tables
+pub mod NameTables
 pub mod Built
 pub mod Constants
 pub mod Known

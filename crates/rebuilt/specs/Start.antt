@@ -45,7 +45,7 @@ use Rattle.readback.specs.Rebuild.{
   placed,
   functionNumber,
 }
-use Rattle.rebuilt.specs.Tables.{tables-distinct}
+use Rattle.rebuilt.specs.NameTables.{tables-distinct}
 use Rattle.rebuilt.specs.Built.{no-variable, no-function, variableAt, functionAt, sortAt, Built, Fine}
 use Rattle.rebuilt.specs.Constants.{constantOk, zeros-binary, zeros-ok, Extended, extended-refl, extended-trans, with-constants-built, with-constants-has}
 use Rattle.rebuilt.specs.Known.{Declared, declared}

@@ -17,7 +17,7 @@ use Rattle.readback.specs.Printable.{variableNamesIn, arrayNamesIn, functionNam
 use Rattle.readback.specs.Records.{holdable, inputs}
 use Rattle.readback.specs.Rebuild.{dagFor, rebuild}
 use Rattle.readback.specs.ReadAnswers.{limitsPassed}
-use Rattle.rebuilt.specs.Tables.{tables-named}
+use Rattle.rebuilt.specs.NameTables.{tables-named}
 use Rattle.rebuilt.specs.Start.{checked}
 use Rattle.reader_laws.specs.TermsRead.{Fails, NoBar}
 use Rattle.reader_laws.specs.ScriptsRead.{AllOk}

@@ -24,7 +24,7 @@ use Rattle.readback.specs.Printable.{printable, variableNamesIn, arrayNamesIn, 
 use Rattle.readback.specs.Rebuild.{rebuild}
 use Rattle.readback.specs.ScriptReader.{readingIn}
 use Rattle.readback.specs.ReadAnswers.{limitsPassed}
-use Rattle.rebuilt.specs.Tables.{tables-distinct}
+use Rattle.rebuilt.specs.NameTables.{tables-distinct}
 use Rattle.rebuilt.specs.Start.{checked}
 use Rattle.rebuilt.specs.Accepted.{rebuilt-passes, rebuilt-reading, rebuilt-encodable}
 use Rattle.readback_theorems.specs.Decided.{reading-in}

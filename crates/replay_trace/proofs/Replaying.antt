@@ -29,7 +29,7 @@ use Rattle.trace_terms.specs.Places.{Usable}
 use Rattle.trace_rows.specs.Masks.{Roots, Masked, ones-mask}
 use Rattle.trace_rows.specs.Rows.{Trace, Done}
 use Rattle.trace_theorems.specs.Accepting.{Fitting, few, lent, roots-ready, mask-answers, rows-inside, row-fits}
-use Rattle.replay_trace.specs.Traced.{answered, Listed, Ended, firstRefusal, laterRefusal, Widths, Tables, Words, Passed, Written}
+use Rattle.replay_trace.specs.Traced.{answered, Listed, Ended, firstRefusal, laterRefusal, Widths, Tables, Words, Traceable, Written}
 use Rattle.replay_trace.specs.declared.Trace as outcomes
 use Rattle.replay_trace.specs.declared.Trace.the-variants as outcome
 
@@ -67,7 +67,7 @@ module _ (p : Problem) (values : List ℕ) (n m c : ℕ) where
       all-pass h k = rw (sym q ∙ e, sym q′ ∙ f, le-leb n m h, le-leb n c k) refl
 
 -- 14's test over the widths as they were handed over
-pub narrow-is : (p : Problem) {ws : List ℕ} {r : Bool} → Widths p ws → marks.Passed (p .nodes) ws (p .roots) r → r ≡ narrowRoots p
+pub narrow-is : (p : Problem) {ws : List ℕ} {r : Bool} → Widths p ws → marks.RootsNarrow (p .nodes) ws (p .roots) r → r ≡ narrowRoots p
 unfolding narrowRoots dagOf
 narrow-is p w k = k .is (dagOf p) refl ∙ ap (λ (x : List ℕ). every (narrow (dagOf p) x) (p .roots)) (w .are)
 
@@ -155,7 +155,7 @@ module _ (p : Problem) (values masks counts : List ℕ) {masks′ counts′ : Li
       })
       ∙ ap (λ (y : ℕ). traceAnswer y p values masks counts) (sym e)
 
-pub passes : (p : Problem) (values : List ℕ) {n m c x : ℕ} → Words p values → n ≡ rowsOf p values → x ≡ laterRefusal p values n m c → x ≤ 0 → Passed p values n m c
+pub passes : (p : Problem) (values : List ℕ) {n m c x : ℕ} → Words p values → n ≡ rowsOf p values → x ≡ laterRefusal p values n m c → x ≤ 0 → Traceable p values n m c
 unfolding laterRefusal
 passes p values {n} {m} {c} w r e h =
     let z : laterRefusal p values n m c ≡ 0 = sym e ∙ (let y : _≡_ {A = ℕ} _ 0 = omega arith in y) in
@@ -210,7 +210,7 @@ module _ (p : Problem) {ws es xs : List ℕ} (t : Tables p ws es xs) where
   pub usable : Lent (p .nodes) (p .bits) ws
   usable = lent-at p (t .widths)
 
-  module _ (values : List ℕ) (n : ℕ) {m c : ℕ} (k : Passed p values n m c) where
+  module _ (values : List ℕ) (n : ℕ) {m c : ℕ} (k : Traceable p values n m c) where
     fitting : (j : ℕ) → j < n → Fitting (p .var-width) (rowOf (length (p .var-width)) values j)
     fitting j h = row-fits (p .var-width) values (k .words .words .at) (k .fit) j (rw (k .rows) at h)
 

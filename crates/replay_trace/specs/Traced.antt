@@ -76,7 +76,7 @@ pub record Words (p : Problem) (values : List ℕ) : Type 0 where
   pub words : Full values
 
 -- every check is passed, with outputs of these lengths
-pub record Passed (p : Problem) (values : List ℕ) (n m c : ℕ) : Type 0 where
+pub record Traceable (p : Problem) (values : List ℕ) (n m c : ℕ) : Type 0 where
   pub words : Words p values
   pub narrow : T (narrowRoots p)
   pub fit : T (valuesFit (p .var-width) values)

@@ -1,6 +1,6 @@
 // Replay of a probe trace (document 02, L9): the entry point `replay_trace` over the inputs of the printer, rows of values and two lent
 // outputs, masks and counts.
-use echo_kernel::Out;
+use echo_script::Out;
 use lent::BITS;
 use lent::BYTES;
 use lent::INDEX_WIDTH;
@@ -22,7 +22,7 @@ ghost use mathlib.Core.Path.{_≡_};
 ghost use lib.ListN.{length};
 ghost use Rattle.lent.specs.Lent.{problemAt, problemOf};
 ghost use Rattle.traces.specs.Trace.{replay-trace-answer};
-ghost use Rattle.replay_trace.specs.Traced.{answered, Ended, Listed, firstRefusal, laterRefusal, Widths, Tables, Full, Words, Passed, Written};
+ghost use Rattle.replay_trace.specs.Traced.{answered, Ended, Listed, firstRefusal, laterRefusal, Widths, Tables, Full, Words, Traceable, Written};
 
 // The refusals that the printer has not, by their numbers.
 pub const WIDE: u64 = 14;
@@ -54,7 +54,7 @@ fn printing(bytes: &[&[u8]; BYTES], numbers: &[&[u64]; NUMBERS]) -> u64
         return LIMIT;
     }
     let mut none = [0u8; 0];
-    match echo_kernel::checked(bytes, numbers, &mut none) {
+    match echo_script::checked(bytes, numbers, &mut none) {
         Out::Refused(e) => e,
         Out::Done(p) => 0,
     }
@@ -102,7 +102,7 @@ fn with_tables<'a>(
     masks: &mut [u64],
     counts: &mut [u64],
 )
-    requires { ⌜ Tables (problemAt (now bytes) (now numbers)) (now ws) (now entries) (now fixed) ⌝ ∗ ⌜ Passed (problemAt (now bytes) (now numbers)) (now values) n (length (now masks)) (length (now counts)) ⌝ }
+    requires { ⌜ Tables (problemAt (now bytes) (now numbers)) (now ws) (now entries) (now fixed) ⌝ ∗ ⌜ Traceable (problemAt (now bytes) (now numbers)) (now values) n (length (now masks)) (length (now counts)) ⌝ }
     ensures { λ _. ⌜ Written (problemAt (now (bytes .entry)) (now (numbers .entry))) (now (values .entry)) n (now (masks .entry)) (now (counts .entry)) (now (masks .exit)) (now (counts .exit)) ⌝ }
 {
     let tables = [ws, entries, fixed];
@@ -130,7 +130,7 @@ fn evaluate(
     masks: &mut [u64],
     counts: &mut [u64],
 )
-    requires { ⌜ Widths (problemAt (now bytes) (now numbers)) (now ws) ⌝ ∗ ⌜ Passed (problemAt (now bytes) (now numbers)) (now values) n (length (now masks)) (length (now counts)) ⌝ }
+    requires { ⌜ Widths (problemAt (now bytes) (now numbers)) (now ws) ⌝ ∗ ⌜ Traceable (problemAt (now bytes) (now numbers)) (now values) n (length (now masks)) (length (now counts)) ⌝ }
     ensures { λ _. ⌜ Written (problemAt (now (bytes .entry)) (now (numbers .entry))) (now (values .entry)) n (now (masks .entry)) (now (counts .entry)) (now (masks .exit)) (now (counts .exit)) ⌝ }
 {
     let mut entries = [0u64; MAX_NODES];

@@ -15,7 +15,7 @@ use Rattle.reading.specs.Trees.{Name, Variable, Array, Function, Declarations}
 use Rattle.readback.specs.Printable.{variableNamesIn, arrayNamesIn, functionNamesIn, namesPermitted, variableOk, arrayOk, functionOk, declarable}
 use Rattle.readback.specs.Rebuild.{variableNumber, arrayNumber, functionNumber}
 use Rattle.rebuilt.specs.Built.{no-variable, no-array, no-function, variableAt, arrayAt, functionAt}
-use Rattle.rebuilt.specs.Tables.{tables-distinct}
+use Rattle.rebuilt.specs.NameTables.{tables-distinct}
 use Rattle.script_names.specs.Entries.{nameAt}
 use Rattle.script_decls.specs.Lines.{namesTo}
 use Rattle.script_entries.specs.Entries.{firstOf, variablesOf, arraysOf, namesOf, KnownTo, Numbers}

@@ -4,4 +4,4 @@ pub mod Finding
 pub mod Widths
 pub mod Named
 pub mod Telling
-pub mod Columns
+pub mod LinesMeasured

@@ -26,7 +26,7 @@ use Rattle.script_rebuild.specs.Rebuilt.{WholeProblem, RebuiltTo}
 use Rattle.script_rebuild.specs.declared.Rebuilt.{Rebuilt}
 use Rattle.script_rebuild.specs.declared.Rebuilt.the-variants.{NoScript, Limit, Whole}
 use Rattle.script_rebuild.specs.Steps.{Counts, counts}
-use Rattle.script_rebuild.specs.Tables.{ArenasAre}
+use Rattle.script_rebuild.specs.ArenaLengths.{ArenasAre}
 use Rattle.script_rebuild.specs.declared.Arenas.{Arenas}
 use Rattle.script_rebuild.specs.Decided.{lengthsOf, allWithin, Ready, Decided}
 

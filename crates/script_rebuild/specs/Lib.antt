@@ -1,7 +1,7 @@
 -- A script's problem, rebuilt in local arrays, or why there is none.
 pub mod Limits
 pub mod Rebuilt
-pub mod Tables
+pub mod ArenaLengths
 pub mod Steps
 pub mod Decided
 pub mod Deciding

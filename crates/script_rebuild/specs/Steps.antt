@@ -28,7 +28,7 @@ use Rattle.header_laws.specs.Body.{readingOf}
 use Rattle.heap_laws.specs.Heap.{within, Held, Stacked}
 use Rattle.script_rebuild.specs.Limits.{TableWithin, TablesWithin, Tables, Passes, passes, passed, roots-counted}
 use Rattle.place_script.specs.Scripts.{Ready, ScriptTo}
-use Rattle.script_rebuild.specs.Tables.{ArenasAre}
+use Rattle.script_rebuild.specs.ArenaLengths.{ArenasAre}
 use Rattle.script_check.specs.Check.{Checked, CheckTo}
 use Rattle.script_rebuild.specs.Rebuilt.{WholeProblem}
 use Rattle.script_check.specs.declared.Check.{Check}

@@ -16,7 +16,7 @@ ghost use Rattle.script_rebuild.specs.Limits.{Tables};
 ghost use Rattle.script_rebuild.specs.Rebuilt.{WholeProblem, RebuiltTo};
 ghost use Rattle.script_rebuild.specs.Decided.{lengthsOf, allWithin, needsOf, Decided};
 ghost use Rattle.readback.specs.Records.{inputs};
-ghost use Rattle.script_rebuild.specs.Tables.{ArenasAre};
+ghost use Rattle.script_rebuild.specs.ArenaLengths.{ArenasAre};
 use place_script::place_script;
 use refusals::MAX_ARENA;
 use refusals::MAX_ENTRIES;

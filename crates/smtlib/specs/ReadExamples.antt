@@ -196,8 +196,8 @@ operator n [] = plain n
 operator n (k ∷ ks) = indexed n k ks
 
 -- the term, and the tree expected of it
-abbrev written : Example → Term
-written e = application (operator (bytes (e .name)) (e .numerals)) (e .first .term) (terms (e .others))
+abbrev spelled : Example → Term
+spelled e = application (operator (bytes (e .name)) (e .numerals)) (e .first .term) (terms (e .others))
 
 abbrev meant : Example → Tree
 meant e = apply (e .kind) (e .numerals) (moreTrees (e .first .tree) (trees (e .others)))
@@ -245,7 +245,7 @@ examples =
 -- every term means its tree
 abbrev AllMean : List Example → Type 0
 AllMean [] = Unit
-AllMean (e ∷ es) = Means scope (written e) (aTree (meant e)) × AllMean es
+AllMean (e ∷ es) = Means scope (spelled e) (aTree (meant e)) × AllMean es
 
 -- the table has the row that the example needs
 rowListed : Example → Bool
@@ -260,7 +260,7 @@ operator-applies : (n : Name) (ks : List ℕ) (k : ℕ) (ts : Trees)
 operator-applies n [] k ts h = isOperator k ts h refl refl
 operator-applies n (j ∷ ks) k ts h = isOperator k ts h refl refl
 
-means-by-row : (e : Example) → T (rowListed e) → Means scope (written e) (aTree (meant e))
+means-by-row : (e : Example) → T (rowListed e) → Means scope (spelled e) (aTree (meant e))
 unfolding MeansIn rowListed
 means-by-row e h =
     let us = asMeanings (trees (e .others)) in

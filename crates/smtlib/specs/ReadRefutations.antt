@@ -191,8 +191,8 @@ abbrev operator : Name → List ℕ → Operator
 operator n [] = plain n
 operator n (k ∷ ks) = indexed n k ks
 
-abbrev written : Applied → Term
-written e = application (operator (bytes (e .name)) (e .numerals)) (e .first .term) (terms (e .others))
+abbrev spelled : Applied → Term
+spelled e = application (operator (bytes (e .name)) (e .numerals)) (e .first .term) (terms (e .others))
 
 unreadable : List Applied
 unreadable =
@@ -237,7 +237,7 @@ unreadable =
 
 abbrev NoneMeans : List Applied → Type 0
 NoneMeans [] = Unit
-NoneMeans (e ∷ es) = ((m : Meaning) → Means scope (written e) m → ⊥) × NoneMeans es
+NoneMeans (e ∷ es) = ((m : Meaning) → Means scope (spelled e) m → ⊥) × NoneMeans es
 
 readable : Applied → Bool
 unfolding applicable operators bytes same
@@ -266,7 +266,7 @@ unfolding unreadable readable x a
 applications-unread = none-means unreadable tt
 
 -- the twins are read: `operators-mean` and `stores-mean` of `ReadExamples`, and these calls
-calls-read : Means scope (written (applied "f" [] x [])) (aTree (call (bytes "f") (moreTrees (variable (bytes "x")) noTrees)))
+calls-read : Means scope (spelled (applied "f" [] x [])) (aTree (call (bytes "f") (moreTrees (variable (bytes "x")) noTrees)))
     × Means scope (identifier (bytes "c")) (aTree (call (bytes "c") noTrees))
 unfolding MeansIn bytes same x
 calls-read = (

@@ -21,7 +21,7 @@ use Rattle.echo_spec.specs.Render.{term, assertionsText, render}
 use Rattle.echo_spec.specs.Accepted.{in-orElse, in-unless, walkNumber, WalkNumbers, all-number, step-number, checks-number}
 use Rattle.lists.specs.Build.{upto-all}
 use Rattle.echo_spec.specs.Answers.{script, endlessWith, endlessRefusal, textAnswer, echo-ext-answer}
-use Rattle.echo_spec.specs.Lets.{
+use Rattle.lets.specs.Lets.{
   usesIn,
   shared,
   reached,

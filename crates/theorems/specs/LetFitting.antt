@@ -25,7 +25,7 @@ use Rattle.echo_spec.specs.Tables.{find-node}
 use Rattle.echo_spec.specs.Trees.{variableName, treeOf}
 use Rattle.echo_spec.specs.Walk.{walkAll, sortOk}
 use Rattle.echo_spec.specs.Accepted.{unless-passed, orElse-passed, Checked, walk-passed}
-use Rattle.echo_spec.specs.Lets.{
+use Rattle.lets.specs.Lets.{
   rising,
   letName,
   named,

@@ -37,7 +37,7 @@ use Rattle.smtlib.specs.Readings.{operators, builtIn}
 use Rattle.echo_spec.specs.Input.{Dag}
 use Rattle.echo_spec.specs.Render.{decimal}
 use Rattle.echo_spec.specs.NameLaws.{allNames}
-use Rattle.echo_spec.specs.Lets.{shared, letName, namesClear}
+use Rattle.lets.specs.Lets.{shared, letName, namesClear}
 use Rattle.theorems.specs.Terms.{Fresh, fresh-none}
 use Rattle.theorems.specs.Texts.{decimal-numeral}
 use Rattle.theorems.specs.LetTerms.{FreshName, fresh-more}

@@ -17,7 +17,7 @@ use Rattle.echo_spec.specs.Widths.{widthsOf}
 use Rattle.echo_spec.specs.NodeLaws.{facts}
 use Rattle.echo_spec.specs.Trees.{treeAs, treeStep}
 use Rattle.echo_spec.specs.Walk.{Operand, operandsAs, walkAll, sortOk, asked, walkStep}
-use Rattle.echo_spec.specs.Lets.{letName, named, namedStep, namedBelow, namedOf, boolAt, usedAs, letStep, letWalksBelow, letWalk}
+use Rattle.lets.specs.Lets.{letName, named, namedStep, namedBelow, namedOf, boolAt, usedAs, letStep, letWalksBelow, letWalk}
 use Rattle.theorems.specs.Unfolding.{unfolded-none}
 use Rattle.theorems.specs.LetUnfolding.{unfold-as}
 

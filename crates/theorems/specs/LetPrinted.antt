@@ -21,7 +21,7 @@ use Rattle.echo_spec.specs.Tables.{declarationsOf}
 use Rattle.echo_spec.specs.Trees.{treesOver, treeOf, readingOf}
 use Rattle.echo_spec.specs.Accepted.{unless-passed, orElse-passed, Checked, checks-passed}
 use Rattle.echo_spec.specs.Answers.{reading}
-use Rattle.echo_spec.specs.Lets.{
+use Rattle.lets.specs.Lets.{
   usesIn,
   shared,
   reached,

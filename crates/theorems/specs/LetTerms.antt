@@ -14,7 +14,7 @@ use Rattle.smtlib.specs.Scopes.{Scope, bind, boundNames}
 use Rattle.smtlib.specs.Readings.{builtIn, declaredNames, Apart, aTree, asMeanings, MeansIn, MeansAll}
 use Rattle.smtlib.specs.Sorts.{TermSort, bool, sortIn, AllBool}
 use Rattle.echo_spec.specs.Render.{term}
-use Rattle.echo_spec.specs.Lets.{Binding, Assertion, letText, letAssertionsText}
+use Rattle.lets.specs.Lets.{Binding, Assertion, letText, letAssertionsText}
 use Rattle.theorems.specs.Terms.{termOf, FitsIn, Fresh, fresh-none}
 use Rattle.theorems.specs.Unfolding.{unfolded, meanings}
 use Rattle.theorems.specs.Meanings.{means-term-in}

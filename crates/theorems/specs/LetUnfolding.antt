@@ -17,7 +17,7 @@ use Rattle.echo_spec.specs.Widths.{widthsOf}
 use Rattle.echo_spec.specs.Trees.{amountOf, variableName, treesOver, storesOver, treeAs, treeStep, treesBelow, treeOf}
 use Rattle.echo_spec.specs.Walk.{Operand, vector, levels, operandsAs}
 use Rattle.echo_spec.specs.NodeLaws.{Low, facts}
-use Rattle.echo_spec.specs.Lets.{letName, named, namedStep, namedBelow, namedOf}
+use Rattle.lets.specs.Lets.{letName, named, namedStep, namedBelow, namedOf}
 use Rattle.theorems.specs.Unfolding.{unfoldedName, unfolded, unfoldedAll, unfoldedStores}
 
 -- ---------------------------------------------------------------- one node

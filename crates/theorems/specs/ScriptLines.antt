@@ -18,7 +18,7 @@ use Rattle.echo_spec.specs.Input.{Problem, Dag, dagOf, queryOf}
 use Rattle.echo_spec.specs.Widths.{widthsOf}
 use Rattle.echo_spec.specs.Render.{term, quoted, sortText, sortsText, variableText, arrayText, functionText, texts, assertionsText, logicOf, logicText, declarationsText, frame, render}
 use Rattle.echo_spec.specs.Answers.{reading, script}
-use Rattle.echo_spec.specs.Lets.{binds, rising, letName, Binding, bindingOf, Assertion, assertionOf, assertionsOf, letText, letAssertionsText, renderLet}
+use Rattle.lets.specs.Lets.{binds, rising, letName, Binding, bindingOf, Assertion, assertionOf, assertionsOf, letText, letAssertionsText, renderLet}
 use Rattle.theorems.specs.Terms.{FitsAll, in-variables, in-arrays, in-functions}
 use Rattle.theorems.specs.Lines.{Shown, shown-none, shown-append, shown-no-break, shown-text, shown-decimal, shown-quoted, term-shown}
 use Rattle.theorems.specs.Scripts.{bools, SoundDeclarations, Sound}

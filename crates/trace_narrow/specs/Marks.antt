@@ -34,7 +34,7 @@ pub record Marked (nodes ws marks : List ℕ) : Type 0 where
   pub at : (d : Dag) → d .nodes ≡ nodesOf nodes → (i : ℕ) → marking marks i ≡ narrow d ws i
 
 -- r says whether 14 passes the roots
-pub record Passed (nodes ws roots : List ℕ) (r : Bool) : Type 0 where
+pub record RootsNarrow (nodes ws roots : List ℕ) (r : Bool) : Type 0 where
   pub is : (d : Dag) → d .nodes ≡ nodesOf nodes → r ≡ every (narrow d ws) roots
 
 -- ---------------------------------------------------------------- laws
@@ -96,7 +96,7 @@ module _ (nodes ws : List ℕ) where
       by-place d e i false p =
           upto-past (narrowStep d ws) false n i (ltb-false i n p) ∙ sym (no-mark d i (let l : n ≤ i = ltb-false i n p in omega (arith, ap length e)))
 
-pub passed-by : {nodes ws marks roots : List ℕ} {r : Bool} → Marked nodes ws marks → r ≡ every (marking marks) roots → Passed nodes ws roots r
+pub passed-by : {nodes ws marks roots : List ℕ} {r : Bool} → Marked nodes ws marks → r ≡ every (marking marks) roots → RootsNarrow nodes ws roots r
 passed-by {nodes} {ws} {marks} {roots} m q = record { is = λ d e. q ∙ (λ k. every (λ i. m .at d e i k) roots) }
 
 -- ---------------------------------------------------------------- laws: tests one after the other

@@ -22,7 +22,7 @@ ghost use Prim.Native.Nat.{ℕ, _/_, _≤_, _<_};
 ghost use lib.Dec.{eqb};
 ghost use lib.ListN.{length, getD};
 ghost use Rattle.echo_spec.specs.Input.{nodesOf};
-ghost use Rattle.trace_narrow.specs.Marks.{marking, Tested, Marked, Passed};
+ghost use Rattle.trace_narrow.specs.Marks.{marking, Tested, Marked, RootsNarrow};
 ghost use Rattle.lists.specs.Tests.{every};
 ghost use Rattle.lent.specs.Clearing.{Zeros};
 
@@ -108,7 +108,7 @@ fn all_marked(marks: &[u64], roots: &[u64]) -> bool
 // Does 14 pass every root. Ruled out: a term of 65 bits below a root of 1 bit let through; a rotation by a constant of 65 bits refused.
 pub fn roots_narrow(nodes: &[u8], ws: &[u64], roots: &[u64]) -> bool
     requires { ⌜ length (nodesOf (now nodes)) ≤ 2048 ⌝ }
-    ensures { λ r. ⌜ Passed (now (nodes .entry)) (now (ws .entry)) (now (roots .entry)) r ⌝ }
+    ensures { λ r. ⌜ RootsNarrow (now (nodes .entry)) (now (ws .entry)) (now (roots .entry)) r ⌝ }
 {
     let mut marks = [0u64; MAX_NODES];
     narrow(nodes, ws, &mut marks);

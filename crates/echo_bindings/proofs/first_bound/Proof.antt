@@ -4,7 +4,7 @@ use Rattle.echo_bindings.proofs.first_bound.Statement.{statement}
 use Rattle.echo_bindings.proofs.first_bound.Tie as tie
 use mathlib.Core.Path.{_∙_}
 use native.Mathlib.Omega.{arith}
-use Rattle.echo_spec.specs.Lets.{binds}
+use Rattle.lets.specs.Lets.{binds}
 use Rattle.lent.specs.Lent.{dagAt}
 use Rattle.echo_bindings.specs.Checking.{usesAt, by-tables, past-nodes, few-widths}
 

@@ -6,7 +6,7 @@ use Prim.Native.Nat.{_-_, _≤_}
 use mathlib.Core.Path.{_≡_, refl}
 use native.Mathlib.Omega.{arith}
 use lib.ListN.{length, drop}
-use Rattle.echo_spec.specs.Lets.{letRoots}
+use Rattle.lets.specs.Lets.{letRoots}
 use Rattle.lent.specs.Lent.{dagAt}
 use Rattle.echo_bindings.specs.Checking.{usesAt, roots-stop, roots-pass, roots-end}
 

@@ -5,7 +5,7 @@ use Rattle.echo_clash.proofs.names_clear.Tie as tie
 use mathlib.Core.Path.{sym}
 use borrow.Author.Tests.{not-true, not-false}
 use Rattle.echo_spec.specs.Input.{dagOf}
-use Rattle.echo_spec.specs.Lets.{usesIn}
+use Rattle.lets.specs.Lets.{usesIn}
 use Rattle.lent.specs.Lent.{problemAt, dagAt}
 use Rattle.echo_clash.specs.Clash.{first-clash, second-clash, last-clash}
 

@@ -10,8 +10,8 @@ use lib.ListN.{take}
 use lib.Seq.{length-take-le}
 use Rattle.echo_spec.specs.Input.{Problem}
 use Rattle.lent.specs.Lent.{problemAt}
-use Rattle.echo_kernel.specs.Prepared.{WellFormed}
-use Rattle.echo_kernel.proofs.Checking.{checked-refused}
+use Rattle.echo_script.specs.Prepared.{WellFormed}
+use Rattle.echo_script.proofs.Checking.{checked-refused}
 use Rattle.echo_formulas.proofs.Lining.{checked-passed}
 
 -- the problem that is lent

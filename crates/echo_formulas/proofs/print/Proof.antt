@@ -4,7 +4,7 @@ use borrow.Author.Needs.{needs}
 use Rattle.lent.specs.Lent.{problemAt, dagAt}
 use Rattle.echo_spec.specs.Input.{dagOf}
 use Rattle.echo_bytes.specs.Page.{written}
-use Rattle.echo_kernel.proofs.Printing.{ready, all-fine}
+use Rattle.echo_script.proofs.Printing.{ready, all-fine}
 use Rattle.echo_formulas.specs.Lines.{lines-are}
 use Rattle.echo_formulas.proofs.print.Statement.{statement}
 use Rattle.echo_formulas.proofs.print.Tie as tie

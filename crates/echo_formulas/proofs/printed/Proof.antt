@@ -6,7 +6,7 @@ use mathlib.Core.Path.{sym, _∙_}
 use native.Mathlib.Omega.{arith}
 use Rattle.echo_spec.specs.Input.{dagOf}
 use Rattle.lent.specs.Clearing.{replicate-zeros}
-use Rattle.echo_kernel.proofs.Checking.{wrote-refused, wrote-done, walked}
+use Rattle.echo_script.proofs.Checking.{wrote-refused, wrote-done, walked}
 
 fill-requires : tie.Need-fill-requires
 fill-requires c κs =

@@ -7,7 +7,7 @@ use Rattle.echo_spec.specs.ColumnLaws.{columns-aligned}
 use Rattle.lent.specs.Lent.{problemAt}
 use Rattle.echo_checks.specs.Answered.{passed, failed}
 use Rattle.echo_checks.specs.Limits.{bounds}
-use Rattle.echo_kernel.proofs.Checking.{bad-names, shared-node, names-passed}
+use Rattle.echo_script.proofs.Checking.{bad-names, shared-node, names-passed}
 
 -- the problem that is lent
 abbrev P : tie.Start → Problem

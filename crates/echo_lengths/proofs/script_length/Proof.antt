@@ -2,7 +2,7 @@
 use borrow.Author.Needs.{needs}
 use Rattle.echo_lengths.proofs.script_length.Statement.{statement}
 use Rattle.echo_lengths.proofs.script_length.Tie as tie
-use Rattle.echo_kernel.proofs.Printing.{ready, unplanned, all-fine}
+use Rattle.echo_script.proofs.Printing.{ready, unplanned, all-fine}
 use Rattle.echo_lengths.proofs.Lengths.{few-nodes, script-long}
 
 symbol-table-requires : tie.Need-symbol-table-requires

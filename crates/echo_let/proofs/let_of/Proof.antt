@@ -4,10 +4,10 @@ use Rattle.echo_let.proofs.let_of.Statement.{statement}
 use Rattle.echo_let.proofs.let_of.Tie as tie
 use native.Mathlib.Omega.{arith}
 use Rattle.echo_spec.specs.Input.{Problem, queryOf}
-use Rattle.echo_spec.specs.Lets.{letScript, endlessLet, echo-let-answer}
+use Rattle.lets.specs.Lets.{letScript, endlessLet, echo-let-answer}
 use Rattle.lent.specs.Lent.{problemAt}
 use Rattle.echo_kernel.proofs.Answering.{answer-refused, answer-room, answer-printed}
-use Rattle.echo_let.specs.Printing.{listed}
+use Rattle.let_script.specs.Printing.{listed}
 
 -- the problem that is lent
 abbrev P : tie.Start → Problem

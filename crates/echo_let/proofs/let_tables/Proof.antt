@@ -8,7 +8,7 @@ use Rattle.echo_spec.specs.ColumnLaws.{columns-aligned}
 use Rattle.lent.specs.Lent.{problemAt}
 use Rattle.echo_checks.specs.Answered.{passed, failed}
 use Rattle.echo_checks.specs.Limits.{bounds}
-use Rattle.echo_let.specs.Printing.{bad-names, clashing, cleared, clear-plain, as-plain, whole}
+use Rattle.let_script.specs.Printing.{bad-names, clashing, cleared, clear-plain, as-plain, whole}
 
 -- the problem that is lent
 abbrev P : tie.Start → Problem

@@ -8,7 +8,7 @@ use borrow.Author.Tests.{not-true, not-false}
 use Rattle.echo_spec.specs.Input.{dagOf}
 use Rattle.lent.specs.Lent.{problemAt}
 use Rattle.echo_reach.specs.Marks.{few-nodes}
-use Rattle.echo_let.specs.Printing.{clear-plain, flags-of, unshared-is}
+use Rattle.let_script.specs.Printing.{clear-plain, flags-of, unshared-is}
 
 element-copy-out-shared-nodes : tie.Need-element-copy-out-shared-nodes
 element-copy-out-shared-nodes c = search needs

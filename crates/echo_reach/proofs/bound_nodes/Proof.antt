@@ -6,7 +6,7 @@ use Prim.Native.Nat.{_+_, _≤_}
 use mathlib.Core.Path.{_≡_}
 use native.Mathlib.Omega.{arith}
 use lib.ListN.{length}
-use Rattle.echo_spec.specs.Lets.{usesIn}
+use Rattle.lets.specs.Lets.{usesIn}
 use Rattle.lent.specs.Lent.{problemAt, dagAt}
 use Rattle.echo_reach.specs.Marks.{Reaching, few-nodes, reaching-root, reaching-down, reaching-ends, lower-operands}
 

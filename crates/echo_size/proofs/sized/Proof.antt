@@ -3,7 +3,7 @@ use Rattle.echo_size.proofs.sized.Statement.{statement}
 use Rattle.echo_size.proofs.sized.Tie as tie
 use native.Mathlib.Omega.{arith}
 use Rattle.lent.specs.Clearing.{replicate-zeros}
-use Rattle.echo_kernel.proofs.Checking.{prepare-refused, prepare-done}
+use Rattle.echo_script.proofs.Checking.{prepare-refused, prepare-done}
 use Rattle.echo_size.proofs.Sizing.{sized-place}
 
 prepare-requires : tie.Need-prepare-requires

@@ -1,5 +1,5 @@
 -- `problem_layout::limit` meets its contract: the table's limits are the definition's. Assumes nothing.
-use Rattle.problem_layout.proofs.Tables.{limit-right}
+use Rattle.problem_layout.proofs.LimitTests.{limit-right}
 use borrow.Author.Needs.{needs}
 use Rattle.problem_layout.proofs.limit.Statement.{statement}
 use Rattle.problem_layout.proofs.limit.Tie as tie

@@ -10,7 +10,7 @@ use Rattle.replay_trace.proofs.printing.Statement.{statement}
 use Rattle.replay_trace.proofs.printing.Tie as tie
 use Rattle.replay_trace.proofs.printing.Reads as reads
 use Rattle.replay_trace.proofs.printing.Lts as lts
-use Rattle.echo_kernel.proofs.checked.Reads as checked-reads
+use Rattle.echo_script.proofs.checked.Reads as checked-reads
 use Rattle.lent.proofs.count.Reads as count-reads
 
 -- src/lib.rt:55:14

@@ -1,6 +1,6 @@
 -- `array_at` meets its contract: the table has the widths.
 use native.Mathlib.Omega.{arith}
-use Rattle.script_entries.specs.Columns.{array-known}
+use Rattle.script_entries.specs.LinesMeasured.{array-known}
 use borrow.Author.Needs.{needs}
 use Rattle.script_entries.proofs.array_at.Statement.{statement}
 use Rattle.script_entries.proofs.array_at.Tie as tie

@@ -1,6 +1,6 @@
 -- `function_at` meets its contract: the table has the place of the sorts and the width.
 use native.Mathlib.Omega.{arith}
-use Rattle.script_entries.specs.Columns.{function-known}
+use Rattle.script_entries.specs.LinesMeasured.{function-known}
 use borrow.Author.Needs.{needs}
 use Rattle.script_entries.proofs.function_at.Statement.{statement}
 use Rattle.script_entries.proofs.function_at.Tie as tie

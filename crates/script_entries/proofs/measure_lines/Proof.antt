@@ -4,7 +4,7 @@ use mathlib.Core.Path.{_≡_, refl}
 use native.Mathlib.Omega.{arith}
 use Rattle.reading.specs.Trees.{Declarations}
 use Rattle.script_entries.specs.Entries.{firstOf, namesOf, KnownTo, Entered}
-use Rattle.script_entries.specs.Columns.{known-more, known-all}
+use Rattle.script_entries.specs.LinesMeasured.{known-more, known-all}
 use borrow.Author.Needs.{needs}
 use Rattle.script_entries.proofs.measure_lines.Statement.{statement}
 use Rattle.script_entries.proofs.measure_lines.Tie as tie

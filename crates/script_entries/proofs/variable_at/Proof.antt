@@ -1,6 +1,6 @@
 -- `variable_at` meets its contract: the table has the width.
 use native.Mathlib.Omega.{arith}
-use Rattle.script_entries.specs.Columns.{variable-known}
+use Rattle.script_entries.specs.LinesMeasured.{variable-known}
 use borrow.Author.Needs.{needs}
 use Rattle.script_entries.proofs.variable_at.Statement.{statement}
 use Rattle.script_entries.proofs.variable_at.Tie as tie

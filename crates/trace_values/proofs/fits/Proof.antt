@@ -1,5 +1,5 @@
 use native.Mathlib.Omega.{arith}
-use Rattle.trace_values.specs.Columns.{fits-wide, fits-narrow}
+use Rattle.trace_values.specs.RowTests.{fits-wide, fits-narrow}
 use borrow.Author.Needs.{needs}
 use Rattle.trace_values.proofs.fits.Statement.{statement}
 use Rattle.trace_values.proofs.fits.Tie as tie

@@ -1,4 +1,4 @@
-use Rattle.trace_values.specs.Columns.{column-first, column-later}
+use Rattle.trace_values.specs.RowTests.{column-first, column-later}
 use borrow.Author.Needs.{needs}
 use Rattle.trace_values.proofs.next.Statement.{statement}
 use Rattle.trace_values.proofs.next.Tie as tie

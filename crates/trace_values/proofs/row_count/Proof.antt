@@ -1,4 +1,4 @@
-use Rattle.trace_values.specs.Columns.{rows-none, rows-some}
+use Rattle.trace_values.specs.RowTests.{rows-none, rows-some}
 use borrow.Author.Needs.{needs}
 use Rattle.trace_values.proofs.row_count.Statement.{statement}
 use Rattle.trace_values.proofs.row_count.Tie as tie

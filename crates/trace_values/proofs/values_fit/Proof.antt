@@ -6,7 +6,7 @@ use mathlib.Core.Path.{_≡_, sym, _∙_}
 use native.Mathlib.Nat.{mod-lt, mod-eq-of-lt}
 use native.Mathlib.Omega.{arith}
 use lib.ListN.{length}
-use Rattle.trace_values.specs.Columns.{no-column, part-row, FitTo, fit-start, fit-next, fit-fails, fit-whole, column-next}
+use Rattle.trace_values.specs.RowTests.{no-column, part-row, FitTo, fit-start, fit-next, fit-fails, fit-whole, column-next}
 use Rattle.trace_values.proofs.values_fit.Statement.{statement}
 use Rattle.trace_values.proofs.values_fit.Tie as tie
 use Rattle.trace_values.proofs.values_fit.Reads as reads
