@@ -30,7 +30,7 @@ pub struct WidthAnswer {
     pub count: u64,
 }
 
-// Ruled out: the length of an acceptance left out; a refusal with a length.
+// Ruled out: the length of an acceptance left out; every refusal told as the want of room.
 pub fn echo_answer(r: Echo) -> EchoAnswer
     ensures { λ a. ⌜ (a .number ≡ echo.number r) × (a .length ≡ echo.count r) ⌝ }
 {
@@ -39,8 +39,8 @@ pub fn echo_answer(r: Echo) -> EchoAnswer
             number: 0,
             length: n as u64,
         },
-        Echo::Refused(e) => EchoAnswer {
-            number: refusals::number_of(e),
+        Echo::Refused(refusal) => EchoAnswer {
+            number: refusals::number_of(refusal),
             length: 0,
         },
     }

@@ -3,8 +3,8 @@
 // The checks and tables are the plain printer's; each root is then written as a line.
 use echo_bytes::Place;
 use echo_kernel::Echo;
-use echo_script::Out;
 use echo_pieces::SIGNS;
+use echo_script::Out;
 use echo_walk::TABLES;
 use lent::BYTES;
 use lent::NODES;

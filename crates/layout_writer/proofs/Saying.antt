@@ -17,9 +17,9 @@ use Rattle.problem_layout.proofs.Texts.{line-in}
 use Rattle.problem_layout.specs.Telling.{Front}
 use Rattle.layout_writer.specs.declared.Said.{Said}
 use Rattle.layout_writer.specs.declared.Said.the-variants.{Written, Room, TooLarge, TooDeep}
-use Rattle.layout_writer.specs.Encoding.{layoutBytes}
+use Rattle.layout_bytes.specs.Encoding.{layoutBytes}
 use Rattle.layout_writer.specs.Outputs.{firstOf}
-use Rattle.layout_writer.specs.Nesting.{tooDeep}
+use Rattle.script_depth.specs.Nesting.{tooDeep}
 use Rattle.layout_writer.specs.Telling.{Script, tooLarge, nested, given, longest, rebuilt, script, saidOf, writtenTo, shown, Tells, Known, Answers, Shown}
 use Rattle.layout_writer.proofs.Reading.{ReadAs}
 

@@ -10,8 +10,8 @@ use Rattle.readback.specs.Records.{recordBytes, recordsBytes, inputs}
 use Rattle.readback.specs.ReadAnswers.{limitsPassed}
 use Rattle.readback.specs.Examples.{allRead}
 use Rattle.lent.specs.Lent.{problemOf}
-use Rattle.layout_writer.specs.Encoding.{le64, numbersBytes, inputBytes, inputsBytes, layoutBytes}
-use Rattle.layout_writer.specs.Nesting.{deepFrom, tooDeep}
+use Rattle.layout_bytes.specs.Encoding.{le64, numbersBytes, inputBytes, inputsBytes, layoutBytes}
+use Rattle.script_depth.specs.Nesting.{deepFrom, tooDeep}
 use Rattle.layout_writer.specs.Telling.{given, noScript, script}
 
 -- the lowest byte first; the largest number of 64 bits

@@ -22,15 +22,15 @@ use Rattle.readback.specs.ScriptReader.{readingIn}
 use Rattle.readback.specs.ReadAnswers.{limitsPassed}
 use Rattle.readback_theorems.specs.Decided.{reading-in}
 use Rattle.readback_theorems.specs.Answered.{inputs-whole, inputs-script}
-use Rattle.problem_layout.specs.Layout as printer
+use Rattle.layout_shape.specs.Layout as printer
 use Rattle.problem_layout.specs.Telling as printing
 use Rattle.problem_layout.specs.Telling.{Front, lineIn}
 use Rattle.problem_layout.specs.declared.Told as printing-told
 use Rattle.layout_writer.specs.declared.Said.the-variants.{Written}
 use Rattle.layout_writer.specs.declared.Told.{Told}
-use Rattle.layout_writer.specs.Encoding.{layoutBytes}
+use Rattle.layout_bytes.specs.Encoding.{layoutBytes}
 use Rattle.layout_writer.specs.Laws.{layout-back}
-use Rattle.layout_writer.specs.Nesting.{tooDeep}
+use Rattle.script_depth.specs.Nesting.{tooDeep}
 use Rattle.layout_writer.specs.Telling.{Script, tooLarge, nested, noScript, overLimit, given, unless, longest, rebuilt, script, saidOf, writtenTo, shown, Tells}
 
 -- ---------------------------------------------------------------- a script that is read

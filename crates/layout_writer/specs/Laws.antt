@@ -13,9 +13,9 @@ use Rattle.lists.specs.Build.{tabulate, tabulate-places}
 use Rattle.echo_spec.specs.Input.{Problem, nodesWithin, columnWithin, arenaWithin, withinLimits, word32}
 use Rattle.lent.specs.Lent.{problemOf}
 use Rattle.input_parts.specs.Parts.{sizes, sizeOf, word64, bytesAt, numbersAt}
-use Rattle.problem_layout.specs.Layout.{inputs, inputAt, placeOf, countOf, bytesOf, numbersOf, problemIn, inputsFrom, layout, given}
-use Rattle.problem_layout.specs.LayoutLaws.{one-input, next-place, longest, longest-problem}
-use Rattle.layout_writer.specs.Encoding.{le64, numbersBytes, Input, bytes, numbers, inputBytes, inputsBytes, inputsOf, layoutBytes}
+use Rattle.layout_shape.specs.Layout.{inputs, inputAt, placeOf, countOf, bytesOf, numbersOf, problemIn, inputsFrom, layout, given}
+use Rattle.layout_shape.specs.LayoutLaws.{one-input, next-place, longest, longest-problem}
+use Rattle.layout_bytes.specs.Encoding.{le64, numbersBytes, Input, bytes, numbers, inputBytes, inputsBytes, inputsOf, layoutBytes}
 
 -- ---------------------------------------------------------------- a number
 

@@ -1,6 +1,4 @@
-pub mod Encoding
 pub mod Laws
-pub mod Nesting
 pub mod Lines
 pub mod Outputs
 pub mod Telling

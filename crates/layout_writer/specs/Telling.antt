@@ -16,8 +16,8 @@ use Rattle.problem_layout.specs.Telling.{Front, lineIn}
 use Rattle.layout_writer.specs.declared.Said.{Said}
 use Rattle.layout_writer.specs.declared.Said.the-variants.{Written, NoScript, Limit, Room, TooLarge, TooDeep}
 use Rattle.layout_writer.specs.declared.Told.{Told}
-use Rattle.layout_writer.specs.Encoding.{layoutBytes}
-use Rattle.layout_writer.specs.Nesting.{tooDeep}
+use Rattle.layout_bytes.specs.Encoding.{layoutBytes}
+use Rattle.script_depth.specs.Nesting.{tooDeep}
 use Rattle.layout_writer.specs.Lines.{noScriptLine, limitLine, roomLine, tooLargeLine, tooDeepLine}
 
 -- ---------------------------------------------------------------- what the bytes are

@@ -1,137 +1,31 @@
 // A script read back and its problem written in bytes: all that the program `read_problem` does, but for input and output. The layout is
-// that of specs/Encoding.antt and docs/FORMATS.md.
+// that of layout_bytes/specs/Encoding.antt and docs/FORMATS.md.
 use echo_bytes::Place;
+use layout_bytes::put_functions;
+use layout_bytes::put_nodes;
+use layout_bytes::put_table;
 use refusals::MAX_ARENA;
 use refusals::MAX_BITS;
 use refusals::MAX_ENTRIES;
 use refusals::MAX_NODE_BYTES;
 use refusals::MAX_ROOTS;
 use refusals::MAX_SIDE;
+use script_depth::too_deep;
 use script_reader::Outcome;
 use script_reader::ReadError;
 use script_reader::Sizes;
 ghost use mathlib.Core.Path.{_≡_};
-ghost use mathlib.Core.List.{[], _∷_};
-ghost use Prim.Native.Nat.{_%_, _≤_};
-ghost use lib.ListN.{length, take};
+ghost use lib.ListN.{length};
 ghost use Rattle.readback.specs.ScriptReader.{readingIn};
 ghost use Rattle.lent.specs.Lent.{problemOf};
 ghost use Rattle.echo_bytes.specs.Page.{page, written};
-ghost use Rattle.layout_writer.specs.Encoding.{le64, bytes, numbers, inputBytes, inputsBytes, layoutBytes};
-ghost use Rattle.layout_writer.specs.Nesting.{deepest, turns, opens, tooDeep};
+ghost use Rattle.layout_bytes.specs.Encoding.{layoutBytes};
 ghost use Rattle.layout_writer.specs.Lines.{noScriptLine, limitLine, roomLine, tooLargeLine, tooDeepLine};
 ghost use Rattle.script_rebuild.specs.Decided.{lengthsOf};
 ghost use Rattle.layout_writer.specs.Outputs.{Lies, firstOf, rooms, saidBy};
 ghost use Rattle.layout_writer.specs.Telling.{rebuilt, script, Known, Answers, Shown, Tells};
 
-// ---------------------------------------------------------------- numbers and inputs
-
-fn low(n: u64) -> u8
-    ensures { λ r. ⌜ r ≡ n % 256 ⌝ }
-{
-    (n % 256) as u8
-}
-
-// A number in 8 bytes, the lowest first.
-fn put_number(n: u64, p: Place, out: &mut [u8]) -> Place
-    ensures { λ r. ⌜ page r (now (out .exit)) ≡ written (page p (now (out .entry))) (le64 n) ⌝ }
-{
-    let b = [
-        low(n),
-        low(n / 256),
-        low(n / 65536),
-        low(n / 16777216),
-        low(n / 4294967296),
-        low(n / 1099511627776),
-        low(n / 281474976710656),
-        low(n / 72057594037927936),
-    ];
-    p.word(out, &b)
-}
-
-// An input of bytes, the first n of these: the count and then the bytes.
-fn put_bytes(xs: &[u8], n: usize, p: Place, out: &mut [u8]) -> Place
-    requires { ⌜ n ≤ length (now xs) ⌝ }
-    ensures { λ r. ⌜ page r (now (out .exit)) ≡ written (page p (now (out .entry))) (inputBytes (bytes (take n (now (xs .entry))))) ⌝ }
-{
-    let q = put_number(n as u64, p, out);
-    q.word(out, &xs[..n])
-}
-
-// An input of numbers likewise.
-fn put_numbers(xs: &[u64], n: usize, p: Place, out: &mut [u8]) -> Place
-    requires { ⌜ n ≤ length (now xs) ⌝ }
-    ensures { λ r. ⌜ page r (now (out .exit)) ≡ written (page p (now (out .entry))) (inputBytes (numbers (take n (now (xs .entry))))) ⌝ }
-{
-    let mut q = put_number(n as u64, p, out);
-    let mut i = 0;
-    while i < n {
-        q = put_number(xs[i], q, out);
-        i += 1;
-    }
-    q
-}
-
 // ---------------------------------------------------------------- the inputs
-
-// An arena and the columns of its table, four of them or three.
-fn put_table(
-    arena: &[u8],
-    size: usize,
-    n: usize,
-    a: &[u64],
-    b: &[u64],
-    c: &[u64],
-    d: &[u64],
-    p: Place,
-    out: &mut [u8],
-) -> Place
-    requires { ⌜ (size ≤ length (now arena)) × (n ≤ length (now a)) × (n ≤ length (now b)) × (n ≤ length (now c)) × (n ≤ length (now d)) ⌝ }
-    ensures { λ r. ⌜ page r (now (out .exit)) ≡ written (page p (now (out .entry))) (inputsBytes (bytes (take size (now (arena .entry))) ∷ numbers (take n (now (a .entry))) ∷ numbers (take n (now (b .entry))) ∷ numbers (take n (now (c .entry))) ∷ numbers (take n (now (d .entry))) ∷ [])) ⌝ }
-{
-    let q = put_bytes(arena, size, p, out);
-    let s = put_numbers(a, n, q, out);
-    let t = put_numbers(b, n, s, out);
-    let u = put_numbers(c, n, t, out);
-    put_numbers(d, n, u, out)
-}
-
-fn put_functions(
-    arena: &[u8],
-    size: usize,
-    n: usize,
-    a: &[u64],
-    b: &[u64],
-    c: &[u64],
-    p: Place,
-    out: &mut [u8],
-) -> Place
-    requires { ⌜ (size ≤ length (now arena)) × (n ≤ length (now a)) × (n ≤ length (now b)) × (n ≤ length (now c)) ⌝ }
-    ensures { λ r. ⌜ page r (now (out .exit)) ≡ written (page p (now (out .entry))) (inputsBytes (bytes (take size (now (arena .entry))) ∷ numbers (take n (now (a .entry))) ∷ numbers (take n (now (b .entry))) ∷ numbers (take n (now (c .entry))) ∷ [])) ⌝ }
-{
-    let q = put_bytes(arena, size, p, out);
-    let s = put_numbers(a, n, q, out);
-    let t = put_numbers(b, n, s, out);
-    put_numbers(c, n, t, out)
-}
-
-fn put_nodes(
-    z: Sizes,
-    nodes: &[u8],
-    bits: &[u8],
-    side: &[u64],
-    roots: &[u64],
-    p: Place,
-    out: &mut [u8],
-) -> Place
-    requires { ⌜ (z .nodes ≤ length (now nodes)) × (z .bits ≤ length (now bits)) × (z .side ≤ length (now side)) × (z .roots ≤ length (now roots)) ⌝ }
-    ensures { λ r. ⌜ page r (now (out .exit)) ≡ written (page p (now (out .entry))) (inputsBytes (bytes (take (z .nodes) (now (nodes .entry))) ∷ bytes (take (z .bits) (now (bits .entry))) ∷ numbers (take (z .side) (now (side .entry))) ∷ numbers (take (z .roots) (now (roots .entry))) ∷ [])) ⌝ }
-{
-    let q = put_bytes(nodes, z.nodes, p, out);
-    let s = put_bytes(bits, z.bits, q, out);
-    let t = put_numbers(side, z.side, s, out);
-    put_numbers(roots, z.roots, t, out)
-}
 
 // The layout of the problem that lies at the front of the eighteen slices.
 fn put_problem(
@@ -160,7 +54,18 @@ fn put_problem(
     requires { ⌜ Lies z (problemOf (now nodes) (now bits) (now side) (now roots) (now names) (now «name_start») (now «name_len») (now «var_node») (now «var_width») (now anames) (now «aname_start») (now «aname_len») (now «index_width») (now «value_width») (now fnames) (now «fname_start») (now «fname_len») (now «func_width»)) ⌝ }
     ensures { λ r. ⌜ page r (now (out .exit)) ≡ written (page p (now (out .entry))) (layoutBytes (firstOf z (problemOf (now (nodes .entry)) (now (bits .entry)) (now (side .entry)) (now (roots .entry)) (now (names .entry)) (now («name_start» .entry)) (now («name_len» .entry)) (now («var_node» .entry)) (now («var_width» .entry)) (now (anames .entry)) (now («aname_start» .entry)) (now («aname_len» .entry)) (now («index_width» .entry)) (now («value_width» .entry)) (now (fnames .entry)) (now («fname_start» .entry)) (now («fname_len» .entry)) (now («func_width» .entry))))) ⌝ }
 {
-    let q = put_nodes(z, nodes, bits, side, roots, p, out);
+    let q = put_nodes(
+        nodes,
+        z.nodes,
+        bits,
+        z.bits,
+        side,
+        z.side,
+        roots,
+        z.roots,
+        p,
+        out,
+    );
     let s = put_table(
         names,
         z.names,
@@ -354,54 +259,6 @@ fn read_back(script: &[u8], out: &mut [u8]) -> Said
 
 // The longest script that is read.
 pub const LONGEST: usize = 2097152;
-
-// The most brackets that are open at once in a script that is read: reading takes stack for each. It is the header's `ECHO_MAX_SCRIPT_DEPTH`, as
-// many as a script of a problem within the limits has at most.
-const DEEPEST: usize = 6146;
-
-// Behind a byte: does a name go on, and how many brackets are open.
-fn turned(named: bool, b: u8) -> bool
-    ensures { λ r. ⌜ r ≡ turns named b ⌝ }
-{
-    if b == b'|' { !named } else { named }
-}
-
-fn opened(named: bool, depth: usize, b: u8) -> usize
-    requires { ⌜ depth ≤ deepest ⌝ }
-    ensures { λ r. ⌜ r ≡ opens named depth b ⌝ }
-{
-    if named {
-        return depth;
-    }
-    if b == b'(' {
-        return depth + 1;
-    }
-    if b == b')' {
-        if depth == 0 {
-            return 0;
-        }
-        return depth - 1;
-    }
-    depth
-}
-
-fn too_deep(s: &[u8]) -> bool
-    ensures { λ r. ⌜ r ≡ tooDeep (now (s .entry)) ⌝ }
-{
-    let mut named = false;
-    let mut depth = 0;
-    let mut i = 0;
-    while i < s.len() {
-        if depth > DEEPEST {
-            return true;
-        }
-        let b = s[i];
-        depth = opened(named, depth, b);
-        named = turned(named, b);
-        i += 1;
-    }
-    depth > DEEPEST
-}
 
 fn answer(input: &[u8], out: &mut [u8]) -> Said
     ensures { λ r. ⌜ Answers (script (now (input .entry))) (now (out .entry)) r (now (out .exit)) ⌝ }

@@ -1,5 +1,3 @@
-pub mod LimitTests
-pub mod Steps
 pub mod Pieces
 pub mod Texts
 pub mod Saying

@@ -12,7 +12,7 @@ use Rattle.lists.specs.Tests.{same, same→eq, every-at, and-0, and-1}
 use Rattle.refusals.specs.declared.EchoError.{EchoError}
 use Rattle.refusals.specs.declared.EchoError.the-variants.{Malformed, Name, Sort, Var, Rotate, Shared, Signature, Encoding, Limit, Room, Clash, ArrayWidth, ShortRecord}
 use Rattle.refusals.specs.Numbers.{errorNumber}
-use Rattle.problem_layout.specs.Layout.{inputs, inputAt}
+use Rattle.layout_shape.specs.Layout.{inputs, inputAt}
 use Rattle.problem_layout.specs.Lines.{refusedLine}
 
 -- ---------------------------------------------------------------- one law for both tables

@@ -11,14 +11,14 @@ use Rattle.refusals.specs.Numbers.{errorNumber, errorOf, error-number, error-at
 use Rattle.echo_kernel.specs.declared.Echo.{Echo}
 use Rattle.echo_kernel.specs.declared.Echo.the-variants as echo
 use Rattle.echo_kernel.specs.Answered.{answered}
-use Rattle.problem_layout.specs.declared.Shape.{Shape}
-use Rattle.problem_layout.specs.declared.Shape.the-variants as shape
+use Rattle.layout_shape.specs.declared.Shape.{Shape}
+use Rattle.layout_shape.specs.declared.Shape.the-variants as shape
 use Rattle.problem_layout.specs.declared.Said.{Said}
 use Rattle.problem_layout.specs.declared.Said.the-variants.{Script, Refused, Early, TooLarge, LeftOver}
-use Rattle.problem_layout.specs.Layout.{Layout, problemIn, layout}
-use Rattle.problem_layout.specs.Reading.{Read, Shaped}
+use Rattle.layout_shape.specs.Layout.{Layout, problemIn, layout}
+use Rattle.layout_shape.specs.Reading.{Read, Shaped}
 use Rattle.input_parts.specs.Parts.{problemFrom}
-use Rattle.problem_layout.proofs.Steps.{problem-read}
+use Rattle.layout_shape.proofs.Steps.{problem-read}
 use Rattle.problem_layout.specs.Telling.{saidBy, saidOf, printedTo, shown, Tells, Known, Answers, Shown}
 
 -- ---------------------------------------------------------------- the printer's answers

@@ -5,7 +5,7 @@ use Rattle.lists.specs.Bytes.{bytes}
 use Rattle.echo_spec.specs.Render.{decimal}
 use Rattle.refusals.specs.declared.EchoError.{EchoError}
 use Rattle.refusals.specs.declared.EchoError.the-variants.{Malformed, Name, Sort, Var, Rotate, Shared, Signature, Encoding, Limit, Room, Clash, ArrayWidth, ShortRecord}
-use Rattle.problem_layout.specs.Layout.{inputAt}
+use Rattle.layout_shape.specs.Layout.{inputAt}
 
 unfoldable pub refusedLine : EchoError → List ℕ
 refusedLine Malformed = bytes "refused: 1 Malformed: a node is not well formed, the columns of a table differ in length, or a root, array or function is not there\n"

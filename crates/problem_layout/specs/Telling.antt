@@ -8,7 +8,7 @@ use Rattle.refusals.specs.Numbers.{errorOf}
 use Rattle.problem_layout.specs.declared.Said.{Said}
 use Rattle.problem_layout.specs.declared.Said.the-variants.{Script, Refused, Early, TooLarge, LeftOver}
 use Rattle.problem_layout.specs.declared.Told.{Told}
-use Rattle.problem_layout.specs.Layout.{Layout, early, tooLarge, leftOver, given, layout}
+use Rattle.layout_shape.specs.Layout.{Layout, early, tooLarge, leftOver, given, layout}
 use Rattle.problem_layout.specs.Lines.{refusedLine, earlyLine, tooLargeLine, leftOverLine}
 
 -- ---------------------------------------------------------------- what is said

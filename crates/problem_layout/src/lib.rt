@@ -1,95 +1,19 @@
 // A problem in bytes, read and printed: all that the program `print_problem` does, but for input and output. The layout is that of
-// specs/Layout.antt and docs/COMMAND.md.
+// layout_shape/specs/Layout.antt and docs/FORMATS.md.
 use echo_bytes::Place;
 use echo_kernel::Echo;
 use input_parts::INPUTS;
+use layout_shape::Shape;
+use layout_shape::limit;
+use layout_shape::read_shape;
 use refusals::EchoError;
-use refusals::MAX_ARENA;
-use refusals::MAX_BITS;
-use refusals::MAX_ENTRIES;
-use refusals::MAX_NODE_BYTES;
-use refusals::MAX_ROOTS;
-use refusals::MAX_SIDE;
 ghost use mathlib.Core.Path.{_≡_};
 ghost use Prim.Native.Nat.{_≤_, _<_};
 ghost use lib.ListN.{length};
 ghost use Rattle.echo_bytes.specs.Page.{page, written};
-ghost use Rattle.problem_layout.specs.Layout as layout;
-ghost use Rattle.problem_layout.specs.Reading.{Shaped};
+ghost use Rattle.layout_shape.specs.Layout as layout;
 ghost use Rattle.problem_layout.specs.Lines.{refusedLine, inputText, earlyLine, tooLargeLine, leftOverLine};
 ghost use Rattle.problem_layout.specs.Telling.{Answers, Known, Shown, Tells};
-
-// ---------------------------------------------------------------- the inputs
-
-// The largest count of each.
-const LIMITS: [u64; INPUTS] = [
-    MAX_NODE_BYTES as u64,
-    MAX_BITS as u64,
-    MAX_SIDE as u64,
-    MAX_ROOTS as u64,
-    MAX_ARENA as u64,
-    MAX_ENTRIES as u64,
-    MAX_ENTRIES as u64,
-    MAX_ENTRIES as u64,
-    MAX_ENTRIES as u64,
-    MAX_ARENA as u64,
-    MAX_ENTRIES as u64,
-    MAX_ENTRIES as u64,
-    MAX_ENTRIES as u64,
-    MAX_ENTRIES as u64,
-    MAX_ARENA as u64,
-    MAX_ENTRIES as u64,
-    MAX_ENTRIES as u64,
-    MAX_ENTRIES as u64,
-];
-
-fn limit(k: usize) -> u64
-    requires { ⌜ k < 18 ⌝ }
-    ensures { λ r. ⌜ (r ≡ layout.inputAt k .limit) × (r ≤ 131072) ⌝ }
-{
-    LIMITS[k]
-}
-
-// ---------------------------------------------------------------- reading
-
-// What the bytes are. With the first fault goes the number of its input, from 0.
-enum Shape {
-    Early(usize),
-    TooLarge(usize),
-    LeftOver,
-    Whole,
-}
-
-// Each input in turn: the count is there, it is within its limit, the elements are there. Then nothing is left. Where the elements of
-// each begin and how many there are goes to the two tables.
-fn read_shape(s: &[u8], starts: &mut [usize], counts: &mut [usize]) -> Shape
-    requires { ⌜ (length (now starts) ≡ 18) × (length (now counts) ≡ 18) ⌝ }
-    ensures { λ r. ⌜ Shaped (now (s .entry)) r (now (starts .exit)) (now (counts .exit)) ⌝ }
-{
-    let mut at = 0;
-    let mut k = 0;
-    while k < INPUTS {
-        if s.len() - at < 8 {
-            return Shape::Early(k);
-        }
-        let n = input_parts::word64(s, at);
-        if n > limit(k) {
-            return Shape::TooLarge(k);
-        }
-        let m = input_parts::span(k, n as usize);
-        if s.len() - at - 8 < m {
-            return Shape::Early(k);
-        }
-        starts[k] = at + 8;
-        counts[k] = n as usize;
-        at += 8 + m;
-        k += 1;
-    }
-    if at < s.len() {
-        return Shape::LeftOver;
-    }
-    Shape::Whole
-}
 
 // ---------------------------------------------------------------- what is said
 

@@ -1,6 +1,6 @@
 -- `layout_writer::put_problem` meets its contract: the eighteen inputs in four groups. Assumes nothing.
-use Rattle.layout_writer.specs.Encoding.{layoutBytes}
-use Rattle.layout_writer.proofs.Writing.{inputs-then}
+use Rattle.layout_bytes.specs.Encoding.{layoutBytes}
+use Rattle.layout_bytes.proofs.Writing.{inputs-then}
 use borrow.Author.Needs.{needs}
 use Rattle.layout_writer.proofs.put_problem.Statement.{statement}
 use Rattle.layout_writer.proofs.put_problem.Tie as tie

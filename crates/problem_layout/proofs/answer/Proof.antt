@@ -1,5 +1,5 @@
 -- `problem_layout::answer` meets its contract: by what was read and what the printer answered. Assumes nothing.
-use Rattle.problem_layout.proofs.Steps.{inside-read}
+use Rattle.layout_shape.proofs.Steps.{inside-read}
 use Rattle.problem_layout.proofs.Saying.{says-early, says-too-large, says-left-over, whole-read, says-script, says-refused}
 use borrow.Author.Needs.{needs}
 use Rattle.problem_layout.proofs.answer.Statement.{statement}

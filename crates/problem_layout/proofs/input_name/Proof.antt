@@ -2,7 +2,7 @@
 use mathlib.Core.Path.{ap, _∙_}
 use Rattle.lists.specs.Bytes.{bytes}
 use Rattle.echo_bytes.specs.Page.{written}
-use Rattle.problem_layout.specs.Layout as layout
+use Rattle.layout_shape.specs.Layout as layout
 use Rattle.problem_layout.proofs.Pieces.{name-piece}
 use borrow.Author.Needs.{needs}
 use Rattle.problem_layout.proofs.input_name.Statement.{statement}

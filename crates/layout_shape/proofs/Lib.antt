@@ -1,0 +1,2 @@
+pub mod LimitTests
+pub mod Steps

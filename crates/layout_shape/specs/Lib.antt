@@ -1,0 +1,4 @@
+pub mod Layout
+pub mod Reading
+pub mod LayoutLaws
+pub mod Examples
