@@ -5,7 +5,6 @@ use mathlib.Core.List.{List, [], _∷_}
 use mathlib.Core.Bool.{Bool, true, cond}
 use native.Mathlib.Omega.{arith}
 use native.Mathlib.Numerals.{add-one}
-use lib.Dec.{eqb}
 use lib.ListN.{length, getD, take, drop, drop-of-length-le}
 use lib.Seq.{drop-cons}
 use Rattle.echo_spec.specs.Refusals.{_orElse_}
@@ -17,23 +16,23 @@ use Rattle.blast_kernel.specs.Codes.{codeOf, code-small}
 use Rattle.echo_tables.specs.Refused.{refusedAt}
 use Rattle.echo_tables.specs.Asked.{Refusable}
 use Rattle.echo_tables.specs.Uses.{stops, goes-on}
-use Rattle.echo_sharing.specs.Flags.{Flags}
-use Rattle.echo_reach.specs.Marks.{Exactly, Whole, few-nodes}
+use Rattle.echo_reach.specs.Remainders.{Same}
+use Rattle.echo_reach.specs.Marks.{flagged, Odd, odd-same, Exactly, Whole, few-nodes}
 use Rattle.echo_bindings.specs.LetRefused.{firstFrom, ofBound, root-is, none-bound}
 
 -- all uses of the problem that is lent
 abbrev pub usesAt : List Slice → List Slice → List ℕ
 usesAt B N = usesIn (dagAt B N) (problemAt B N .roots)
 
--- what was made ready: the numbers of the nodes, and the table of the shared ones
+-- what was made ready: the numbers of the nodes, and the flags, odd for the shared ones
 pub record Sharing (B N : List Slice) (ws codes table : List ℕ) : Type 0 where
   pub whole : Whole B N
   pub refusable : Refusable B N ws codes
-  pub flags : Flags (shared (dagAt B N) (usesAt B N)) (length (dagAt B N .nodes)) table
+  pub flags : Odd (shared (dagAt B N) (usesAt B N)) (length (dagAt B N .nodes)) table
 
 -- by the tables: what a bound node is refused with, or 0
 abbrev pub tableRefusal : List ℕ → List ℕ → ℕ → ℕ
-tableRefusal codes bound i = cond (eqb (getD bound i 0) 1) (getD codes i 0 / 16) 0
+tableRefusal codes flags i = cond (flagged flags i) (getD codes i 0 / 16) 0
 
 -- ---------------------------------------------------------------- one after the other
 
@@ -60,6 +59,10 @@ first-same f g a (suc m) h = λ k. h a (omega arith) (omega arith) k orElse firs
 
 -- ---------------------------------------------------------------- the tables say it
 
+-- whatever is marked
+pub sharing-over : {B N : List Slice} {ws codes a b : List ℕ} → Same 2 a b → Sharing B N ws codes a → Sharing B N ws codes b
+sharing-over s h = record { whole = h .whole; refusable = h .refusable; flags = odd-same s (h .flags) }
+
 module _ {B N : List Slice} {ws codes table : List ℕ} (h : Sharing B N ws codes table) where
   abbrev d : Dag
   d = dagAt B N
@@ -67,10 +70,10 @@ module _ {B N : List Slice} {ws codes table : List ℕ} (h : Sharing B N ws code
   number-at : (i : ℕ) → i < length (d .nodes) → getD codes i 0 / 16 ≡ refusedAt d ws i
   number-at i l = omega (arith, h .refusable .marked .at i l, code-small (shape (getD (d .nodes) i no-node)))
 
-  -- `bound` is the table of the bound nodes
-  pub by-tables : (p : ℕ → Bool) {bound : List ℕ} {n : ℕ} → Exactly p bound → n ≡ length (d .nodes)
-      → firstFrom (tableRefusal codes bound) 0 n ≡ firstFrom (ofBound p (refusedAt d ws)) 0 (length (d .nodes))
-  by-tables p {bound} fl e = rw e (first-same (tableRefusal codes bound) (ofBound p (refusedAt d ws)) 0 (length (d .nodes)) (λ i l u. λ k. cond (fl .at i k) (number-at i (omega arith) k) 0))
+  -- `flags` has the bound nodes
+  pub by-tables : (p : ℕ → Bool) {flags : List ℕ} {n : ℕ} → Exactly p flags → n ≡ length (d .nodes)
+      → firstFrom (tableRefusal codes flags) 0 n ≡ firstFrom (ofBound p (refusedAt d ws)) 0 (length (d .nodes))
+  by-tables p {flags} fl e = rw e (first-same (tableRefusal codes flags) (ofBound p (refusedAt d ws)) 0 (length (d .nodes)) (λ i l u. λ k. cond (fl .at i k) (number-at i (omega arith) k) 0))
 
   one-root : (root : ℕ) → walkRoots d ws (root ∷ []) ≡ walk d ws root true
   unfolding walkRoots walkAll

@@ -121,8 +121,8 @@ module _ {f : ℕ → List ℕ} {n : ℕ} {p q : Page} {i : ℕ} (h : SoFar f n 
       h .stands ∙ ap (written p) (sym (h .rest ∙ ap (λ (m : ℕ). h .text ++ piecesFrom f i m) z ∙ append-nil (h .text)))
 
 -- by the flag of a node: nothing is written, or its piece
-pub unflagged : (b : ℕ) (t : List ℕ) → (b ≡ 1 → ⊥) → (p : Page) → p .place .need < 2 ^ 64 → p ≡ written p (cond (eqb b 1) t [])
-unflagged b t h p l = rw (ne-eqb b 1 h) (sym (written-nil p l))
+pub unflagged : (b : ℕ) (t : List ℕ) → (b ≡ 3 → ⊥) → (p : Page) → p .place .need < 2 ^ 64 → p ≡ written p (cond (eqb b 3) t [])
+unflagged b t h p l = rw (ne-eqb b 3 h) (sym (written-nil p l))
 
-pub flagged-piece : (b : ℕ) (t : List ℕ) → b ≡ 1 → (p : Page) {q : Page} → q ≡ written p t → q ≡ written p (cond (eqb b 1) t [])
-flagged-piece b t h p e = rw (eq-eqb b 1 h) e
+pub flagged-piece : (b : ℕ) (t : List ℕ) → b ≡ 3 → (p : Page) {q : Page} → q ≡ written p t → q ≡ written p (cond (eqb b 3) t [])
+flagged-piece b t h p e = rw (eq-eqb b 3 h) e

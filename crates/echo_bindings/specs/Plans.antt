@@ -9,7 +9,7 @@ use native.Mathlib.Decide.{decLt}
 use native.Mathlib.Numerals.{add-one}
 use borrow.Author.Tests.{eqb-true, eqb-false, eq-eqb, ne-eqb}
 use lib.Dec.{T, leb, ltb, eqb, ltb→lt}
-use lib.ListN.{length, getD, set, length-set, List·getD-eq-default}
+use lib.ListN.{length, getD, set, length-set}
 use lib.Seq.{getD-set-same, getD-set-other}
 use Rattle.lists.specs.Tests.{among, every, true→T, and-0, and-1}
 use Rattle.lists.specs.Bytes.{bytes}
@@ -32,8 +32,8 @@ use Rattle.echo_walk.specs.Texts as texts
 use Rattle.echo_walk.specs.Texts.{plain, planned, textIn}
 use Rattle.echo_walk.specs.Ready.{Ready, Fine}
 use Rattle.echo_walk.specs.LetTexts.{own-text, use-text}
-use Rattle.echo_sharing.specs.Flags.{Flags}
-use Rattle.echo_reach.specs.Marks.{Exactly, Whole}
+use Rattle.echo_reach.specs.Remainders.{Reduced, Same, same-back}
+use Rattle.echo_reach.specs.Marks.{flagged, Odd, Exactly, Whole}
 use Rattle.echo_bindings.specs.Checking.{usesAt}
 use Rattle.echo_bindings.specs.LetRefused.{reached-free}
 use Rattle.echo_bindings.specs.LetLines.{openText, opening, opensFrom, closesFrom, let-lines, unflagged, flagged-piece}
@@ -63,63 +63,13 @@ pub record PlansTo (codes : List ℕ) (bound : ℕ → Bool) (i : ℕ) (plans : 
   pub low : (j : ℕ) → j < i → getD plans j 0 ≡ getD codes j 0 % 128 + cond (bound j) 128 0
   pub high : (j : ℕ) → i ≤ j → getD plans j 0 ≡ getD codes j 0 % 128
 
--- the numbers without their plans
-pub record Unplanned (codes plans : List ℕ) : Type 0 where
-  pub size : length plans ≡ length codes
-  pub at : (j : ℕ) → getD plans j 0 ≡ getD codes j 0 % 128
-
--- the same numbers but for their plans
-pub record Same (codes plans : List ℕ) : Type 0 where
-  pub at : (j : ℕ) → getD plans j 0 % 128 ≡ getD codes j 0 % 128
-
-pub same-none : (codes : List ℕ) → Same codes codes
-same-none codes = record { at = λ j. refl }
-
-pub same-then : {a b c : List ℕ} → Same a b → Same b c → Same a c
-same-then h g = record { at = λ j. g .at j ∙ h .at j }
-
--- ---------------------------------------------------------------- plans taken out
-
--- of the first i numbers
-pub record UnplannedTo (codes : List ℕ) (i : ℕ) (plans : List ℕ) : Type 0 where
-  pub size : length plans ≡ length codes
-  pub low : (j : ℕ) → j < i → getD plans j 0 ≡ getD codes j 0 % 128
-  pub high : (j : ℕ) → i ≤ j → getD plans j 0 ≡ getD codes j 0
-
-pub unplanned-none : (codes : List ℕ) → UnplannedTo codes 0 codes
-unplanned-none codes = record { size = refl; low = λ j l. absurd (omega arith); high = λ j l. refl }
-
-module _ {codes plans : List ℕ} {i : ℕ} (h : UnplannedTo codes i plans) where
-  pub unplanned-more : i < length plans → UnplannedTo codes (i + 1) (set plans i (getD plans i 0 % 128))
-  unplanned-more l = record {
-    size = length-set plans i _ ∙ h .size;
-    low = λ j m. by-place j m (eqb j i) refl;
-    high = λ j m. getD-set-other plans i j _ 0 (λ z. let y : j ≡ i = z in omega arith) ∙ h .high j (omega arith);
-  }
-    where
-      by-place : (j : ℕ) → j < i + 1 → (t : Bool) → eqb j i ≡ t → getD (set plans i (getD plans i 0 % 128)) j 0 ≡ getD codes j 0 % 128
-      by-place j m true q = let y : j ≡ i = eqb-true j i q in rw y (getD-set-same plans i _ 0 l ∙ ap (λ (x : ℕ). x % 128) (h .high i (omega arith)))
-      by-place j m false q = let y : j ≢ i = eqb-false j i q in getD-set-other plans i j _ 0 y ∙ h .low j (omega arith)
-
-  pub unplanned-all : length plans ≤ i → Unplanned codes plans
-  unplanned-all l = record { size = h .size; at = λ j. by-place j (decLt j i) }
-    where
-      by-place : (j : ℕ) → Dec (j < i) → getD plans j 0 ≡ getD codes j 0 % 128
-      by-place j (yes m) = h .low j m
-      by-place j (no m) =
-          let z : getD codes j 0 ≡ 0 = List·getD-eq-default codes 0 (omega (arith, h .size)) in
-          h .high j (omega arith) ∙ omega (arith, z)
-
 -- ---------------------------------------------------------------- one plan more
 
-pub plans-none : {codes plans : List ℕ} (bound : ℕ → Bool) → length plans ≡ 2048 → Unplanned codes plans → PlansTo codes bound 0 plans
+pub plans-none : {codes plans : List ℕ} (bound : ℕ → Bool) → length plans ≡ 2048 → Reduced 128 codes plans → PlansTo codes bound 0 plans
 plans-none bound e c = record { size = e; low = λ j l. absurd (omega arith); high = λ j l. c .at j }
 
-pub unplanned-same : {codes plans : List ℕ} → Unplanned codes plans → Same codes plans
-unplanned-same h = record { at = λ j. omega (arith, h .at j) }
-
 -- a table with plans is as the one without
-pub plans-same : {codes plans : List ℕ} {bound : ℕ → Bool} {i : ℕ} → PlansTo codes bound i plans → Same codes plans
+pub plans-same : {codes plans : List ℕ} {bound : ℕ → Bool} {i : ℕ} → PlansTo codes bound i plans → Same 128 codes plans
 plans-same {codes} {plans} {bound} {i} h = record { at = λ j. by-place j (decLt j i) }
   where
     by-plan : (j : ℕ) (t : Bool) → getD plans j 0 ≡ getD codes j 0 % 128 + cond t 128 0 → getD plans j 0 % 128 ≡ getD codes j 0 % 128
@@ -131,17 +81,17 @@ plans-same {codes} {plans} {bound} {i} h = record { at = λ j. by-place j (decLt
     by-place j (no l) = by-plan j false (h .high j (omega arith) ∙ omega arith)
 
 -- over any table that is the same but for plans
-pub plans-over : {a b plans : List ℕ} {bound : ℕ → Bool} {i : ℕ} → Same a b → PlansTo a bound i plans → PlansTo b bound i plans
+pub plans-over : {a b plans : List ℕ} {bound : ℕ → Bool} {i : ℕ} → Same 128 a b → PlansTo a bound i plans → PlansTo b bound i plans
 plans-over {a} {b} {plans} {bound} s h = record {
   size = h .size;
   low = λ j l. h .low j l ∙ ap (λ (x : ℕ). x + cond (bound j) 128 0) (sym (s .at j));
   high = λ j l. h .high j l ∙ sym (s .at j);
 }
 
-pub plans-under : {a b plans : List ℕ} {bound : ℕ → Bool} {i : ℕ} → Same a b → PlansTo b bound i plans → PlansTo a bound i plans
-plans-under s h = plans-over (record { at = λ j. sym (s .at j) }) h
+pub plans-under : {a b plans : List ℕ} {bound : ℕ → Bool} {i : ℕ} → Same 128 a b → PlansTo b bound i plans → PlansTo a bound i plans
+plans-under s h = plans-over (same-back s) h
 
-pub walkable-over : {B N : List Slice} {ws entries a b Y : List ℕ} → Same a b → Walkable B N ws entries a Y → Walkable B N ws entries b Y
+pub walkable-over : {B N : List Slice} {ws entries a b Y : List ℕ} → Same 128 a b → Walkable B N ws entries a Y → Walkable B N ws entries b Y
 walkable-over s w = record {
   widths = w .widths;
   counted = w .counted;
@@ -243,10 +193,6 @@ module _ {B N : List Slice} {ws entries codes Y : List ℕ} (w : Walkable B N ws
 
 -- ---------------------------------------------------------------- what is asked where a text is written
 
--- a table's flags as a test
-abbrev pub flagged : List ℕ → ℕ → Bool
-flagged t i = eqb (getD t i 0) 1
-
 -- the text of a bound node written out
 abbrev pub ownText : List Slice → List Slice → List ℕ → (ℕ → Bool) → ℕ → List ℕ
 ownText B N ws bound i = term (namedOf (dagAt B N) ws (problemAt B N .bits) bound i)
@@ -283,15 +229,15 @@ pub record BindingsWritten (g : ℕ → List ℕ) (codes : List ℕ) (bound : �
 
 module _ {B N : List Slice} {ws entries Y table plans : List ℕ} {i : ℕ} (h : Bound B N ws entries Y table i plans) where
   -- node i is not bound
-  pub bind-none : (getD table i 0 ≡ 1 → ⊥) → (p : Page) → p .place .need < 2 ^ 64 → BindingWritten (ownText B N ws (flagged table)) plans (flagged table) i p p plans
+  pub bind-none : (getD table i 0 ≡ 3 → ⊥) → (p : Page) → p .place .need < 2 ^ 64 → BindingWritten (ownText B N ws (flagged table)) plans (flagged table) i p p plans
   bind-none f p l = record {
     text = unflagged (getD table i 0) (openText (ownText B N ws (flagged table)) i) f p l;
-    planned = plans-skip (h .planned) (ne-eqb (getD table i 0) 1 f);
+    planned = plans-skip (h .planned) (ne-eqb (getD table i 0) 3 f);
   }
 
-  module _ (f : getD table i 0 ≡ 1) where
+  module _ (f : getD table i 0 ≡ 3) where
     is : T (flagged table i)
-    is = true→T (eq-eqb (getD table i 0) 1 f)
+    is = true→T (eq-eqb (getD table i 0) 3 f)
 
     pub bind-here : i < length ws
     bind-here = h .bindable .here i is
@@ -320,7 +266,7 @@ module _ {B N : List Slice} {ws entries Y table plans : List ℕ} {i : ℕ} (h :
           let t = text-own (h .walkable) (h .bindable) (h .planned) bind-here in
           flagged-piece (getD table i 0) (openText (ownText B N ws (flagged table)) i) f p
           (written-then p _ _ a (written-then q _ _ (b ∙ ap (λ (x : List ℕ). written q (32 ∷ x)) t) c));
-      planned = plans-set (h .planned) (eq-eqb (getD table i 0) 1 f) (omega (arith, bind-here, h .walkable .few));
+      planned = plans-set (h .planned) (eq-eqb (getD table i 0) 3 f) (omega (arith, bind-here, h .walkable .few));
     }
 
 -- ---------------------------------------------------------------- an assertion
@@ -329,7 +275,7 @@ module _ {B N : List Slice} {ws entries Y table plans : List ℕ} {i : ℕ} (h :
 pub record Assertable (B N : List Slice) (ws entries codes Y table : List ℕ) (root : ℕ) : Type 0 where
   pub walkable : Walkable B N ws entries codes Y
   pub whole : Whole B N
-  pub flags : Flags (shared (dagAt B N) (usesAt B N)) (length (dagAt B N .nodes)) table
+  pub flags : Odd (shared (dagAt B N) (usesAt B N)) (length (dagAt B N .nodes)) table
   pub here : root < length (dagAt B N .nodes)
   pub free : refusedAt (dagAt B N) ws root ≡ 0
 
@@ -384,7 +330,7 @@ module _ {B N : List Slice} {ws entries codes Y table : List ℕ} {root : ℕ} (
     pub flags-bindable : Bindable B N ws (flagged t)
     flags-bindable = subst (Bindable B N ws) (sym same) root-bindable
 
-    pub begin-bindings : {plans : List ℕ} → length codes ≡ 2048 → Unplanned codes plans → Bound B N ws entries Y t 0 plans
+    pub begin-bindings : {plans : List ℕ} → length codes ≡ 2048 → Reduced 128 codes plans → Bound B N ws entries Y t 0 plans
     begin-bindings s c =
         let p = plans-none (flagged t) (c .size ∙ s) c in
         record { walkable = walkable-over (plans-same p) (h .walkable); bindable = flags-bindable; planned = plans-over (plans-same p) p; within = omega arith }

@@ -4,6 +4,7 @@
 // serves here too: the bound nodes in rising order, and then the root. While the text is written a bound node gets the plan to be named
 // once its binding is written, in the table itself; the next assertion takes the plans out first.
 use echo_bytes::Place;
+use echo_reach::BOUND;
 use echo_walk::SYMBOLS;
 use lent::BYTES;
 use lent::NUMBERS;
@@ -20,32 +21,34 @@ ghost use Rattle.lets.specs.Lets.{binds, assertionRefusal, letRoots};
 ghost use Rattle.lent.specs.Lent.{problemAt, dagAt};
 ghost use Rattle.echo_bytes.specs.Page.{page, start, written};
 ghost use Rattle.echo_tables.specs.Refused.{refusedAt};
+ghost use Rattle.echo_reach.specs.Remainders.{Reduced, Same};
+ghost use Rattle.echo_reach.specs.Marks.{flagged};
 ghost use Rattle.echo_walk.specs.Texts.{plain, planned, textIn, named};
 ghost use Rattle.echo_bindings.specs.LetRefused.{firstFrom, ofBound};
 ghost use Rattle.echo_bindings.specs.Checking.{usesAt, Sharing, tableRefusal};
 ghost use Rattle.echo_bindings.specs.LetLines.{closesFrom};
-ghost use Rattle.echo_bindings.specs.Plans.{Writable, Bound, BindingWritten, BindingsWritten, flagged, ownText, Same, Unplanned, Assertable, assertionText};
+ghost use Rattle.echo_bindings.specs.Plans.{Writable, Bound, BindingWritten, BindingsWritten, ownText, Assertable, assertionText};
 
 // ---------------------------------------------------------------- what an assertion is refused with
 
 // What a node's whole term is refused with, by its number in the table, if the node is bound.
-fn own_refusal(code: u64, bound: u8) -> u64
-    ensures { λ r. ⌜ r ≡ cond (eqb bound 1) (code / 16) 0 ⌝ }
+fn own_refusal(code: u64, flag: u8) -> u64
+    ensures { λ r. ⌜ r ≡ cond (eqb flag 3) (code / 16) 0 ⌝ }
 {
-    if bound == 1 {
+    if flag == BOUND {
         return code / 16;
     }
     0
 }
 
 // The first refusal among the bound nodes, in rising order.
-fn bound_refused(codes: &[u64; MAX_NODES], bound: &[u8; MAX_NODES], n: usize) -> u64
+fn bound_refused(codes: &[u64; MAX_NODES], flags: &[u8; MAX_NODES], n: usize) -> u64
     requires { ⌜ n ≤ 2048 ⌝ }
-    ensures { λ r. ⌜ r ≡ firstFrom (tableRefusal (now (codes .entry)) (now (bound .entry))) 0 n ⌝ }
+    ensures { λ r. ⌜ r ≡ firstFrom (tableRefusal (now (codes .entry)) (now (flags .entry))) 0 n ⌝ }
 {
     let mut i = 0;
     while i < n {
-        let e = own_refusal(codes[i], bound[i]);
+        let e = own_refusal(codes[i], flags[i]);
         if e > 0 {
             return e;
         }
@@ -60,18 +63,17 @@ fn first_bound(
     numbers: &[&[u64]; NUMBERS],
     ws: &[u64],
     codes: &[u64; MAX_NODES],
-    shared: &[u8; MAX_NODES],
     root: u64,
+    flags: &mut [u8; MAX_NODES],
 ) -> u64
-    requires { ⌜ Sharing (now bytes) (now numbers) (now ws) (now codes) (now shared) ⌝ }
-    ensures { λ r. ⌜ r ≡ firstFrom (ofBound (binds (dagAt (now (bytes .entry)) (now (numbers .entry))) (usesAt (now (bytes .entry)) (now (numbers .entry))) root) (refusedAt (dagAt (now (bytes .entry)) (now (numbers .entry))) (now (ws .entry)))) 0 (length (dagAt (now (bytes .entry)) (now (numbers .entry)) .nodes)) ⌝ }
+    requires { ⌜ Sharing (now bytes) (now numbers) (now ws) (now codes) (now flags) ⌝ }
+    ensures { λ r. ⌜ (r ≡ firstFrom (ofBound (binds (dagAt (now (bytes .entry)) (now (numbers .entry))) (usesAt (now (bytes .entry)) (now (numbers .entry))) root) (refusedAt (dagAt (now (bytes .entry)) (now (numbers .entry))) (now (ws .entry)))) 0 (length (dagAt (now (bytes .entry)) (now (numbers .entry)) .nodes))) × Same 2 (now (flags .entry)) (now (flags .exit)) ⌝ }
 {
     if root >= count(ws) {
         return 0;
     }
-    let mut bound = [0u8; MAX_NODES];
-    echo_reach::bound_nodes(bytes, numbers, shared, root, &mut bound);
-    bound_refused(codes, &bound, ws.len())
+    echo_reach::bound_nodes(bytes, numbers, root, flags);
+    bound_refused(codes, flags, ws.len())
 }
 
 // What the assertion of root k is refused with.
@@ -80,36 +82,36 @@ fn assertion_refused(
     numbers: &[&[u64]; NUMBERS],
     ws: &[u64],
     codes: &[u64; MAX_NODES],
-    shared: &[u8; MAX_NODES],
     roots: &[u64],
     k: usize,
+    flags: &mut [u8; MAX_NODES],
 ) -> u64
-    requires { ⌜ Sharing (now bytes) (now numbers) (now ws) (now codes) (now shared) × (k < length (now roots)) ⌝ }
-    ensures { λ r. ⌜ r ≡ assertionRefusal (dagAt (now (bytes .entry)) (now (numbers .entry))) (now (ws .entry)) (binds (dagAt (now (bytes .entry)) (now (numbers .entry))) (usesAt (now (bytes .entry)) (now (numbers .entry))) (getD (now (roots .entry)) k 0)) (getD (now (roots .entry)) k 0) ⌝ }
+    requires { ⌜ Sharing (now bytes) (now numbers) (now ws) (now codes) (now flags) × (k < length (now roots)) ⌝ }
+    ensures { λ r. ⌜ (r ≡ assertionRefusal (dagAt (now (bytes .entry)) (now (numbers .entry))) (now (ws .entry)) (binds (dagAt (now (bytes .entry)) (now (numbers .entry))) (usesAt (now (bytes .entry)) (now (numbers .entry))) (getD (now (roots .entry)) k 0)) (getD (now (roots .entry)) k 0)) × Same 2 (now (flags .entry)) (now (flags .exit)) ⌝ }
 {
-    let e = first_bound(bytes, numbers, ws, codes, shared, roots[k]);
+    let e = first_bound(bytes, numbers, ws, codes, roots[k], flags);
     if e > 0 {
         return e;
     }
     echo_tables::roots_refused(bytes, numbers, ws, codes, &roots[k..k + 1])
 }
 
-// The first refusal of the roots' assertions in order, or 0. Ruled out: the root's sort told before a bound term's refusal; the bound terms of
-// a later root checked before an earlier root.
+// The first refusal of the roots' assertions in order, or 0; the flags may then have any marks. Ruled out: the root's sort told before a bound
+// term's refusal; the bound terms of a later root checked before an earlier root.
 pub fn roots_refused(
     bytes: &[&[u8]; BYTES],
     numbers: &[&[u64]; NUMBERS],
     ws: &[u64],
     codes: &[u64; MAX_NODES],
-    shared: &[u8; MAX_NODES],
     roots: &[u64],
+    flags: &mut [u8; MAX_NODES],
 ) -> u64
-    requires { ⌜ Sharing (now bytes) (now numbers) (now ws) (now codes) (now shared) ⌝ }
+    requires { ⌜ Sharing (now bytes) (now numbers) (now ws) (now codes) (now flags) ⌝ }
     ensures { λ r. ⌜ r ≡ letRoots (dagAt (now (bytes .entry)) (now (numbers .entry))) (now (ws .entry)) (usesAt (now (bytes .entry)) (now (numbers .entry))) (now (roots .entry)) ⌝ }
 {
     let mut k = 0;
     while k < roots.len() {
-        let e = assertion_refused(bytes, numbers, ws, codes, shared, roots, k);
+        let e = assertion_refused(bytes, numbers, ws, codes, roots, k, flags);
         if e > 0 {
             return e;
         }
@@ -153,17 +155,17 @@ fn bind<'a>(
     numbers: &[&[u64]; NUMBERS],
     ws: &'a [u64],
     entries: &'a [u64],
-    bound: &[u8; MAX_NODES],
+    flags: &[u8; MAX_NODES],
     symbols: &[u8; SYMBOLS],
     p: Place,
     i: usize,
     plans: &mut [u64],
     out: &mut [u8],
 ) -> Place
-    requires { ⌜ Bound (now bytes) (now numbers) (now ws) (now entries) (now symbols) (now bound) i (now plans) ⌝ }
-    ensures { λ r. ⌜ BindingWritten (ownText (now (bytes .entry)) (now (numbers .entry)) (now (ws .entry)) (flagged (now (bound .entry)))) (now (plans .entry)) (flagged (now (bound .entry))) i (page p (now (out .entry))) (page r (now (out .exit))) (now (plans .exit)) ⌝ }
+    requires { ⌜ Bound (now bytes) (now numbers) (now ws) (now entries) (now symbols) (now flags) i (now plans) ⌝ }
+    ensures { λ r. ⌜ BindingWritten (ownText (now (bytes .entry)) (now (numbers .entry)) (now (ws .entry)) (flagged (now (flags .entry)))) (now (plans .entry)) (flagged (now (flags .entry))) i (page p (now (out .entry))) (page r (now (out .exit))) (now (plans .exit)) ⌝ }
 {
-    if bound[i] != 1 {
+    if flags[i] != BOUND {
         return p;
     }
     let q = open_binding(p, i as u64, out);
@@ -189,14 +191,14 @@ fn bindings<'a>(
     numbers: &[&[u64]; NUMBERS],
     ws: &'a [u64],
     entries: &'a [u64],
-    bound: &[u8; MAX_NODES],
+    flags: &[u8; MAX_NODES],
     symbols: &[u8; SYMBOLS],
     p: Place,
     plans: &mut [u64],
     out: &mut [u8],
 ) -> Place
-    requires { ⌜ Bound (now bytes) (now numbers) (now ws) (now entries) (now symbols) (now bound) 0 (now plans) ⌝ }
-    ensures { λ r. ⌜ BindingsWritten (ownText (now (bytes .entry)) (now (numbers .entry)) (now (ws .entry)) (flagged (now (bound .entry)))) (now (plans .entry)) (flagged (now (bound .entry))) (length (now (ws .entry))) (page p (now (out .entry))) (page r (now (out .exit))) (now (plans .exit)) ⌝ }
+    requires { ⌜ Bound (now bytes) (now numbers) (now ws) (now entries) (now symbols) (now flags) 0 (now plans) ⌝ }
+    ensures { λ r. ⌜ BindingsWritten (ownText (now (bytes .entry)) (now (numbers .entry)) (now (ws .entry)) (flagged (now (flags .entry)))) (now (plans .entry)) (flagged (now (flags .entry))) (length (now (ws .entry))) (page p (now (out .entry))) (page r (now (out .exit))) (now (plans .exit)) ⌝ }
 {
     let n = ws.len();
     let mut q = p;
@@ -207,7 +209,7 @@ fn bindings<'a>(
             numbers,
             ws,
             entries,
-            bound,
+            flags,
             symbols,
             q,
             i,
@@ -224,24 +226,24 @@ fn bindings<'a>(
 }
 
 // A closing bracket if the node is bound.
-fn close_one(bound: u8, p: Place, out: &mut [u8]) -> Place
-    ensures { λ r. ⌜ page r (now (out .exit)) ≡ written (page p (now (out .entry))) (cond (eqb bound 1) (41 ∷ []) []) ⌝ }
+fn close_one(flag: u8, p: Place, out: &mut [u8]) -> Place
+    ensures { λ r. ⌜ page r (now (out .exit)) ≡ written (page p (now (out .entry))) (cond (eqb flag 3) (41 ∷ []) []) ⌝ }
 {
-    if bound != 1 {
+    if flag != BOUND {
         return p;
     }
     p.byte(out, 41)
 }
 
 // A closing bracket for each bound node of the first n.
-fn close_bindings(bound: &[u8; MAX_NODES], n: usize, p: Place, out: &mut [u8]) -> Place
+fn close_bindings(flags: &[u8; MAX_NODES], n: usize, p: Place, out: &mut [u8]) -> Place
     requires { ⌜ n ≤ 2048 ⌝ }
-    ensures { λ r. ⌜ page r (now (out .exit)) ≡ written (page p (now (out .entry))) (closesFrom (flagged (now (bound .entry))) 0 n) ⌝ }
+    ensures { λ r. ⌜ page r (now (out .exit)) ≡ written (page p (now (out .entry))) (closesFrom (flagged (now (flags .entry))) 0 n) ⌝ }
 {
     let mut q = p;
     let mut i = 0;
     while i < n {
-        let r = close_one(bound[i], q, out);
+        let r = close_one(flags[i], q, out);
         q = Place {
             at: r.at,
             need: r.need,
@@ -253,7 +255,7 @@ fn close_bindings(bound: &[u8; MAX_NODES], n: usize, p: Place, out: &mut [u8]) -
 
 // Takes the plans out of the nodes' numbers.
 fn unplan(plans: &mut [u64])
-    ensures { λ _. ⌜ Unplanned (now (plans .entry)) (now (plans .exit)) ⌝ }
+    ensures { λ _. ⌜ Reduced 128 (now (plans .entry)) (now (plans .exit)) ⌝ }
 {
     let mut i = 0;
     while i < plans.len() {
@@ -264,27 +266,26 @@ fn unplan(plans: &mut [u64])
 
 // The assertion of a root at the start of what is lent: its bindings, the lowest node outermost, then the root, and the brackets. Ruled out:
 // the highest node outermost; a shared node bound that the root does not reach; the term of a bound node again where it is used; a number
-// of the table changed but for its plan.
+// of the table changed but for its plan; a flag changed but for its mark.
 pub fn echo_assertion<'a>(
     bytes: &[&[u8]; BYTES],
     numbers: &[&[u64]; NUMBERS],
     ws: &'a [u64],
     entries: &'a [u64; MAX_NODES],
-    shared: &[u8; MAX_NODES],
     symbols: &[u8; SYMBOLS],
     root: u64,
+    flags: &mut [u8; MAX_NODES],
     plans: &mut [u64; MAX_NODES],
     out: &mut [u8],
 ) -> Place
-    requires { ⌜ Assertable (now bytes) (now numbers) (now ws) (now entries) (now plans) (now symbols) (now shared) root ⌝ }
-    ensures { λ r. ⌜ (page r (now (out .exit)) ≡ written (page start (now (out .entry))) (literal "(assert" ++ ((32 ∷ assertionText (now (bytes .entry)) (now (numbers .entry)) (now (ws .entry)) root) ++ literal ")\n"))) × Same (now (plans .entry)) (now (plans .exit)) ⌝ }
+    requires { ⌜ Assertable (now bytes) (now numbers) (now ws) (now entries) (now plans) (now symbols) (now flags) root ⌝ }
+    ensures { λ r. ⌜ (page r (now (out .exit)) ≡ written (page start (now (out .entry))) (literal "(assert" ++ ((32 ∷ assertionText (now (bytes .entry)) (now (numbers .entry)) (now (ws .entry)) root) ++ literal ")\n"))) × Same 128 (now (plans .entry)) (now (plans .exit)) × Same 2 (now (flags .entry)) (now (flags .exit)) ⌝ }
 {
-    let mut bound = [0u8; MAX_NODES];
-    echo_reach::bound_nodes(bytes, numbers, shared, root, &mut bound);
+    echo_reach::bound_nodes(bytes, numbers, root, flags);
     unplan(plans);
     let p = echo_bytes::start();
     let q = echo_lines::open_assert(p, out);
-    let r = bindings(bytes, numbers, ws, entries, &bound, symbols, q, plans, out);
+    let r = bindings(bytes, numbers, ws, entries, flags, symbols, q, plans, out);
     let s = planned_term(
         bytes,
         numbers,
@@ -296,6 +297,6 @@ pub fn echo_assertion<'a>(
         root,
         out,
     );
-    let t = close_bindings(&bound, ws.len(), s, out);
+    let t = close_bindings(flags, ws.len(), s, out);
     echo_lines::close_line(t, out)
 }

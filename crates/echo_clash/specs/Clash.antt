@@ -18,7 +18,7 @@ use Rattle.lets.specs.Lets.{letName, shared, namesClear}
 use Rattle.echo_bytes.specs.declared.Place.{Place}
 use Rattle.echo_bytes.specs.Page.{Page, page, start, written}
 use Rattle.echo_bytes.specs.Laws.{written-then, written-fits}
-use Rattle.echo_sharing.specs.Flags.{Flags}
+use Rattle.echo_sharing.specs.Flags.{Flags, flag-is}
 use Rattle.echo_names.specs.NameTables.{length-namesOf, getD-namesOf}
 
 -- one digit more, the number held at 2,048
@@ -194,7 +194,7 @@ module _ (d : Dag) (us : List ℕ) (table : List ℕ) (flags : Flags (shared d u
   clash-name i t =
       let l = shared-here i t in
       rw (read-name i (omega arith))
-      (and-T (ltb i (length (d .nodes))) _ (true→T (lt-ltb i (length (d .nodes)) l)) (and-T (eqb (getD table i 0) 1) _ (true→T (flags .at i l ∙ T→true (shared d us i) t)) (same-refl (letName i))))
+      (and-T (ltb i (length (d .nodes))) _ (true→T (lt-ltb i (length (d .nodes)) l)) (and-T (eqb (getD table i 0) 1) _ (true→T (flag-is flags i l ∙ T→true (shared d us i) t)) (same-refl (letName i))))
 
   -- and no other name does
   clash-only : (m : Name) → T (clashes table (length (d .nodes)) m) → T (shared d us (numberOf m)) × (m ≡ letName (numberOf m))
@@ -203,7 +203,7 @@ module _ (d : Dag) (us : List ℕ) (table : List ℕ) (flags : Flags (shared d u
       let v : ℕ = numberOf m in
       let l = ltb→lt v (length (d .nodes)) (and-0 (ltb v (length (d .nodes))) _ t) in
       let rest = and-1 (ltb v (length (d .nodes))) (eqb (getD table v 0) 1 && same m (letName v)) t in
-      (subst T (flags .at v l) (and-0 (eqb (getD table v 0) 1) (same m (letName v)) rest), same→eq m (letName v) (and-1 (eqb (getD table v 0) 1) (same m (letName v)) rest))
+      (subst T (flag-is flags v l) (and-0 (eqb (getD table v 0) 1) (same m (letName v)) rest), same→eq m (letName v) (and-1 (eqb (getD table v 0) 1) (same m (letName v)) rest))
 
   clear-there : T (every clear names) → T (namesClear d us)
   unfolding namesClear

@@ -1,5 +1,6 @@
--- Marks of nodes in a table of bytes: 1 is a mark. What the code does to the table, and that it ends with the bound nodes.
-use Prim.Native.Nat.{ℕ, zero, suc, _+_, _-_, _*_, _≤_, _<_}
+-- Flags of nodes in a table of bytes: odd if the node is shared, 2 or 3 if it is marked, which is that the root reaches it. What the code does to
+-- the table, and that it ends with the bound nodes, those whose flag is 3.
+use Prim.Native.Nat.{ℕ, zero, suc, _+_, _-_, _*_, _%_, _≤_, _<_}
 use mathlib.Core.Path.{_≡_, refl, sym, ap, _∙_, subst}
 use mathlib.Core.List.{List, [], _∷_, _++_, map}
 use mathlib.Core.Bool.{Bool, true, false, _&&_, _||_, cond}
@@ -7,44 +8,49 @@ use mathlib.Core.Logic.{_≢_}
 use native.Mathlib.Omega.{arith}
 use native.Mathlib.Numerals.{add-one}
 use native.Mathlib.Decide.{decLt}
-use borrow.Author.Tests.{eqb-true, eqb-false, eq-eqb, ne-eqb, le-ltb}
-use lib.Dec.{T, eqb, ltb}
-use lib.ListN.{length, getD, set, take, drop, replicate, length-set, List·getD-eq-default}
+use borrow.Author.Tests.{eqb-true, eqb-false, ne-eqb, le-ltb, le-leb, lt-leb}
+use lib.Dec.{T, leb, eqb}
+use lib.ListN.{length, getD, set, take, drop, length-set, List·getD-eq-default}
 use lib.Seq.{getD-set-same, getD-set-other, take-suc, take-all}
-use Rattle.lists.specs.Tests.{among, and-true, no→false}
+use Rattle.lists.specs.Tests.{among, no→false}
 use Rattle.echo_spec.specs.Input.{Node, shape, no-node, nodeAt, Dag, dagOf}
 use Rattle.echo_spec.specs.Widths.{ext-wf}
 use Rattle.echo_spec.specs.NodeLaws.{facts}
 use Rattle.echo_spec.specs.Walk.{Operand, vector, levels, operandsAs}
 use Rattle.lets.specs.Lets.{operandsOf, reachedBelow, reached, usesIn, shared, binds}
-use Rattle.lets.specs.ReachedLaws.{low-among}
+use Rattle.lets.specs.ReachedLaws.{Reaches, itself, onward, low-among, reached-is}
 use Rattle.lent.specs.Lent.{Slice, problemAt, dagAt}
 use Rattle.lent.specs.Records.{nodes-length, nodes-at}
-use Rattle.lent.specs.Clearing.{replicate-zeros}
 use Rattle.echo_tables.specs.declared.Form.{Form}
 use Rattle.echo_tables.specs.declared.Form.the-variants.{Leaf, One, Two, Choice, Chain, Arguments}
 use Rattle.echo_tables.specs.Forms.{formAs, formOperands, form-operands}
 use Rattle.echo_tables.specs.Uses.{FormInside, node-inside}
 use Rattle.echo_sharing.specs.Flags.{Flags}
+use Rattle.echo_reach.specs.Remainders.{Reduced, Same, same-within}
 
--- the marks that pass the test are added
+-- the nodes that pass the test are marked
 pub record Adds (p : ℕ → Bool) (t t′ : List ℕ) : Type 0 where
   pub size : length t′ ≡ length t
-  pub at : (j : ℕ) → j < length t → eqb (getD t′ j 0) 1 ≡ (p j || eqb (getD t j 0) 1)
+  pub at : (j : ℕ) → j < length t → getD t′ j 0 ≡ cond (p j) (getD t j 0 % 2 + 2) (getD t j 0)
 
 -- the nodes of operands
 abbrev pub nodesIn : List Operand → List ℕ
 nodesIn os = map (λ (o : Operand). o .node) os
 
--- node i, with the operands os, was visited: where it was marked they are, and it is marked itself if `s` is 1
-pub record Visited (os : List ℕ) (s i : ℕ) (t t′ : List ℕ) : Type 0 where
-  pub size : length t′ ≡ length t
-  pub self : eqb (getD t′ i 0) 1 ≡ (eqb s 1 && eqb (getD t i 0) 1)
-  pub other : (j : ℕ) → j < length t → j ≢ i → eqb (getD t′ j 0) 1 ≡ ((eqb (getD t i 0) 1 && among os j) || eqb (getD t j 0) 1)
+-- is a node marked, and is it bound, by its flag
+abbrev pub marked : List ℕ → ℕ → Bool
+marked t j = leb 2 (getD t j 0)
 
--- the table is 1 where the test holds, and nowhere else
+abbrev pub flagged : List ℕ → ℕ → Bool
+flagged t j = eqb (getD t j 0) 3
+
+-- the flags are odd where the test holds, of the first n nodes
+pub record Odd (p : ℕ → Bool) (n : ℕ) (t : List ℕ) : Type 0 where
+  pub at : (j : ℕ) → j < n → getD t j 0 % 2 ≡ cond (p j) 1 0
+
+-- the bound nodes are those for which the test holds
 pub record Exactly (p : ℕ → Bool) (t : List ℕ) : Type 0 where
-  pub at : (j : ℕ) → eqb (getD t j 0) 1 ≡ p j
+  pub at : (j : ℕ) → flagged t j ≡ p j
 
 -- every node is well formed, and there are no more than the limit
 pub record Whole (b n : List Slice) : Type 0 where
@@ -56,10 +62,6 @@ pub record Whole (b n : List Slice) : Type 0 where
 or-assoc : (a b c : Bool) → (a || (b || c)) ≡ ((a || b) || c)
 or-assoc true b c = refl
 or-assoc false b c = refl
-
-or-false : (a : Bool) → (a || false) ≡ a
-or-false true = refl
-or-false false = refl
 
 or-swap : (a b : Bool) → (a || b) ≡ (b || a)
 or-swap true true = refl
@@ -76,12 +78,12 @@ among-both (x ∷ xs) ys j = rw (among-both xs ys j) (or-assoc (eqb j x) (among 
 pub adds-none : (t : List ℕ) → Adds (among []) t t
 adds-none t = record { size = refl; at = λ j l. refl }
 
-pub adds-one : (t : List ℕ) (i : ℕ) → i < length t → Adds (among (i ∷ [])) t (set t i 1)
-adds-one t i l = record { size = length-set t i 1; at = λ j m. by-place j (eqb j i) refl }
+pub adds-one : (t : List ℕ) (i : ℕ) → i < length t → Adds (among (i ∷ [])) t (set t i (getD t i 0 % 2 + 2))
+adds-one t i l = record { size = length-set t i _; at = λ j m. by-place j (eqb j i) refl }
   where
-    by-place : (j : ℕ) (b : Bool) → eqb j i ≡ b → eqb (getD (set t i 1) j 0) 1 ≡ ((eqb j i || false) || eqb (getD t j 0) 1)
-    by-place j true q = let z : j ≡ i = eqb-true j i q in rw (q, z, getD-set-same t i 1 0 l) refl
-    by-place j false q = let z : j ≢ i = eqb-false j i q in rw (q, getD-set-other t i j 1 0 z) refl
+    by-place : (j : ℕ) (b : Bool) → eqb j i ≡ b → getD (set t i (getD t i 0 % 2 + 2)) j 0 ≡ cond (eqb j i || false) (getD t j 0 % 2 + 2) (getD t j 0)
+    by-place j true q = let z : j ≡ i = eqb-true j i q in rw (q, z) (getD-set-same t i _ 0 l)
+    by-place j false q = let z : j ≢ i = eqb-false j i q in rw q (getD-set-other t i j _ 0 z)
 
 pub adds-past : (t : List ℕ) (i : ℕ) → length t ≤ i → Adds (among (i ∷ [])) t t
 adds-past t i l = record { size = refl; at = λ j m. rw (ne-eqb j i (λ z. let y : j ≡ i = z in omega arith)) refl }
@@ -89,11 +91,16 @@ adds-past t i l = record { size = refl; at = λ j m. rw (ne-eqb j i (λ z. let y
 pub adds-then : {p q : ℕ → Bool} {t t′ t″ : List ℕ} → Adds p t t′ → Adds q t′ t″ → Adds (λ j. p j || q j) t t″
 adds-then {p} {q} {t} a b = record {
   size = b .size ∙ a .size;
-  at = λ j l. b .at j (omega (arith, a .size)) ∙ ap (λ (x : Bool). q j || x) (a .at j l) ∙ or-assoc (q j) (p j) _ ∙ ap (λ (x : Bool). x || eqb (getD t j 0) 1) (or-swap (q j) (p j));
+  at = λ j l. b .at j (omega (arith, a .size)) ∙ (λ k. cond (q j) (a .at j l k % 2 + 2) (a .at j l k)) ∙ twice (p j) (q j) (getD t j 0);
 }
+  where
+    twice : (b c : Bool) (x : ℕ) → cond c (cond b (x % 2 + 2) x % 2 + 2) (cond b (x % 2 + 2) x) ≡ cond (b || c) (x % 2 + 2) x
+    twice true true x = omega arith
+    twice true false x = refl
+    twice false c x = refl
 
 pub adds-as : (p q : ℕ → Bool) {t t′ : List ℕ} → Adds p t t′ → ((j : ℕ) → p j ≡ q j) → Adds q t t′
-adds-as p q {t} a h = record { size = a .size; at = λ j l. a .at j l ∙ ap (λ (x : Bool). x || eqb (getD t j 0) 1) (h j) }
+adds-as p q {t} a h = record { size = a .size; at = λ j l. a .at j l ∙ ap (λ (x : Bool). cond x (getD t j 0 % 2 + 2) (getD t j 0)) (h j) }
 
 -- two lists, one after the other
 pub adds-both : (xs ys : List ℕ) {t t′ t″ : List ℕ} → Adds (among xs) t t′ → Adds (among ys) t′ t″ → Adds (among (xs ++ ys)) t t″
@@ -168,131 +175,13 @@ adds-arguments side {f} {s} {n} q a =
 
 -- ---------------------------------------------------------------- a visit
 
-module _ (os : List ℕ) (s i : ℕ) {t : List ℕ} where
-  -- a node that is not marked is left alone
-  pub visited-free : (getD t i 0 ≡ 1 → ⊥) → Visited os s i t t
-  visited-free h =
-      let e : eqb (getD t i 0) 1 ≡ false = ne-eqb (getD t i 0) 1 h in
-      record { size = refl; self = rw e (sym (and-false (eqb s 1))); other = λ j l m. rw e refl }
-    where
-      and-false : (b : Bool) → (b && false) ≡ false
-      and-false true = refl
-      and-false false = refl
+-- the operands os of node i are marked where it is
+module _ (os : List ℕ) (i : ℕ) {t : List ℕ} where
+  pub visited-free : getD t i 0 < 2 → Adds (λ j. marked t i && among os j) t t
+  visited-free h = record { size = refl; at = λ j l. rw (lt-leb 2 (getD t i 0) h) refl }
 
-  pub visited-marked : getD t i 0 ≡ 1 → i < length t → {t′ : List ℕ} → Adds (among os) t t′ → Visited os s i t (set t′ i s)
-  visited-marked h l {t′} a =
-      let e : eqb (getD t i 0) 1 ≡ true = eq-eqb (getD t i 0) 1 h in
-      record {
-        size = length-set t′ i s ∙ a .size;
-        self = rw (e, getD-set-same t′ i s 0 (omega (arith, a .size))) (sym (and-true (eqb s 1)));
-        other = λ j m n. rw (e, getD-set-other t′ i j s 0 n) (a .at j m);
-      }
-
--- ---------------------------------------------------------------- from the root down
-
--- The marks of the nodes below i are in the table, and for those from i on whether they are bound, by these marks.
-pub record Reaching (d : Dag) (us : List ℕ) (root i : ℕ) (t : List ℕ) : Type 0 where
-  pub size : length t ≡ 2048
-  pub marks : List ℕ
-  pub rest : reachedBelow d i marks ≡ reached d root
-  pub low : (j : ℕ) → j < i → eqb (getD t j 0) 1 ≡ among marks j
-  pub high : (j : ℕ) → i ≤ j → j < 2048 → eqb (getD t j 0) 1 ≡ (shared d us j && among marks j)
-
--- nodes above the root are not marked
-skipped : (d : Dag) (root m : ℕ) → root < m → reachedBelow d m (root ∷ []) ≡ reachedBelow d (suc root) (root ∷ [])
-unfolding reachedBelow
-skipped d root zero l = absurd (omega arith)
-skipped d root (suc m) l = by-place (eqb m root) refl (λ h. skipped d root m h)
-  where
-    by-place : (b : Bool) → eqb m root ≡ b → (root < m → reachedBelow d m (root ∷ []) ≡ reachedBelow d (suc root) (root ∷ []))
-        → reachedBelow d (suc m) (root ∷ []) ≡ reachedBelow d (suc root) (root ∷ [])
-    by-place true q rest = ap (λ (k : ℕ). reachedBelow d (suc k) (root ∷ [])) (eqb-true m root q)
-    by-place false q rest = let y : m ≢ root = eqb-false m root q in rw q (rest (omega arith))
-
-pub reaching-root : (d : Dag) (us : List ℕ) (root n : ℕ) {t : List ℕ} → t ≡ replicate n 0 → length t ≡ 2048 → root < length (d .nodes) → root < 2048
-    → Reaching d us root (root + 1) (set t root 1)
-unfolding reached
-reaching-root d us root n {t} c e l m = record {
-  size = length-set t root 1 ∙ e;
-  marks = root ∷ [];
-  rest = rw add-one (sym (skipped d root (length (d .nodes)) l));
-  low = λ j h. by-place j (eqb j root) refl;
-  high = λ j h k.
-      let far : j ≢ root = λ q. let y : j ≡ root = q in omega arith in
-      rw (getD-set-other t root j 1 0 far, z j, ne-eqb j root far) (sym (and-no (shared d us j)));
-}
-  where
-    z : (j : ℕ) → getD t j 0 ≡ 0
-    z j = rw c (replicate-zeros n .at j)
-
-    and-no : (b : Bool) → (b && (false || false)) ≡ false
-    and-no true = refl
-    and-no false = refl
-
-    by-place : (j : ℕ) (b : Bool) → eqb j root ≡ b → eqb (getD (set t root 1) j 0) 1 ≡ (eqb j root || false)
-    by-place j true q = let y : j ≡ root = eqb-true j root q in rw (q, y, getD-set-same t root 1 0 (omega arith)) refl
-    by-place j false q = rw (q, getD-set-other t root j 1 0 (eqb-false j root q), z j) refl
-
-down : (d : Dag) (us : List ℕ) (root i : ℕ) {t t′ : List ℕ} (s : ℕ) → ((j : ℕ) → T (among (operandsOf d i) j) → j < i) → i < 2048 → eqb s 1 ≡ shared d us i
-    → Reaching d us root (i + 1) t → Visited (operandsOf d i) s i t t′ → Reaching d us root i t′
-unfolding reachedBelow
-down d us root i {t} {t′} s lower l e h v = record {
-  size = v .size ∙ h .size;
-  marks = cond (among (h .marks) i) (h .marks ++ operandsOf d i) (h .marks);
-  rest = rw add-one at (h .rest);
-  low = λ j m.
-      v .other j (omega (arith, h .size)) (λ q. let y : j ≡ i = q in omega arith)
-      ∙ (λ k. (own k && among (operandsOf d i) j) || h .low j (omega arith) k) ∙ by-mark (among (h .marks) i) j;
-  high = λ j m n. by-place j m n (eqb j i) refl;
-}
-  where
-    own : eqb (getD t i 0) 1 ≡ among (h .marks) i
-    own = h .low i (omega arith)
-
-    by-mark : (b : Bool) (j : ℕ) → ((b && among (operandsOf d i) j) || among (h .marks) j) ≡ among (cond b (h .marks ++ operandsOf d i) (h .marks)) j
-    by-mark true j = or-swap (among (operandsOf d i) j) (among (h .marks) j) ∙ sym (among-both (h .marks) (operandsOf d i) j)
-    by-mark false j = refl
-
-    -- from i on no operand is marked
-    same-mark : (j : ℕ) → i ≤ j → among (cond (among (h .marks) i) (h .marks ++ operandsOf d i) (h .marks)) j ≡ among (h .marks) j
-    same-mark j m = sym (by-mark (among (h .marks) i) j) ∙ rw (no→false (among (operandsOf d i) j) (λ q. let y = lower j q in omega arith)) (none (among (h .marks) i) (among (h .marks) j))
-      where
-        none : (a b : Bool) → ((a && false) || b) ≡ b
-        none true b = refl
-        none false b = refl
-
-    by-place : (j : ℕ) → i ≤ j → j < 2048 → (b : Bool) → eqb j i ≡ b
-        → eqb (getD t′ j 0) 1 ≡ (shared d us j && among (cond (among (h .marks) i) (h .marks ++ operandsOf d i) (h .marks)) j)
-    by-place j m n true q =
-        let y : j ≡ i = eqb-true j i q in
-        rw (same-mark j m, y) (v .self ∙ λ k. e k && own k)
-    by-place j m n false q =
-        let y : j ≢ i = eqb-false j i q in
-        rw (same-mark j m)
-        (v .other j (omega (arith, h .size)) y ∙ rw (no→false (among (operandsOf d i) j) (λ o. let z = lower j o in omega arith)) (drop-none (eqb (getD t i 0) 1) (eqb (getD t j 0) 1))
-        ∙ h .high j (omega arith) n)
-      where
-        drop-none : (a b : Bool) → ((a && false) || b) ≡ b
-        drop-none true b = refl
-        drop-none false b = refl
-
--- one node further down
-pub reaching-down : (d : Dag) (us : List ℕ) (root i : ℕ) {k : ℕ} {t t′ : List ℕ} (s : ℕ) → k ≡ i + 1 → ((j : ℕ) → T (among (operandsOf d i) j) → j < i) → i < 2048
-    → eqb s 1 ≡ shared d us i → Reaching d us root k t → Visited (operandsOf d i) s i t t′ → Reaching d us root i t′
-reaching-down d us root i {k} {t} s p lower l e h v = down d us root i s lower l e (subst (λ (x : ℕ). Reaching d us root x t) p h) v
-
--- at the end the table has the bound nodes
-pub reaching-ends : (d : Dag) (us : List ℕ) (root i : ℕ) {t : List ℕ} → length (d .nodes) ≤ 2048 → Reaching d us root i t → i ≤ 0 → Exactly (binds d us root) t
-unfolding binds reachedBelow shared
-reaching-ends d us root (suc i) l h z = absurd (omega arith)
-reaching-ends d us root zero {t} l h z = record { at = λ j. by-place j (decLt j 2048) }
-  where
-    over : (j : ℕ) → (j < 2048 → ⊥) → length t ≤ j
-    over j m = omega (arith, h .size)
-
-    by-place : (j : ℕ) → Dec (j < 2048) → eqb (getD t j 0) 1 ≡ (shared d us j && among (reached d root) j)
-    by-place j (yes m) = h .high j (omega arith) m ∙ ap (λ (ms : List ℕ). shared d us j && among ms j) (h .rest)
-    by-place j (no m) = rw (List·getD-eq-default t 0 (over j m), le-ltb j (length (d .nodes)) (omega arith)) refl
+  pub visited-marked : 2 ≤ getD t i 0 → {t′ : List ℕ} → Adds (among os) t t′ → Adds (λ j. marked t i && among os j) t t′
+  visited-marked h a = record { size = a .size; at = λ j l. rw (le-leb 2 (getD t i 0) h) (a .at j l) }
 
 -- ---------------------------------------------------------------- nodes that are well formed
 
@@ -329,3 +218,144 @@ module _ {b n : List Slice} (w : Whole b n) (i : ℕ) (l : i < length (dagAt b n
 pub few-nodes : {b n : List Slice} → Whole b n → length (dagAt b n .nodes) ≤ 2048
 unfolding dagOf
 few-nodes {b} {n} w = omega (arith, nodes-length (problemAt b n .nodes), w .within)
+
+-- ---------------------------------------------------------------- parities
+
+pub odd-flags : {p : ℕ → Bool} {n : ℕ} {t : List ℕ} → Flags p n t → Odd p n t
+odd-flags {p} h = record { at = λ j l. ap (λ (x : ℕ). x % 2) (h .at j l) ∙ own (p j) }
+  where
+    own : (b : Bool) → cond b 1 0 % 2 ≡ cond b 1 0
+    own true = refl
+    own false = refl
+
+pub odd-same : {p : ℕ → Bool} {n : ℕ} {a b : List ℕ} → Same 2 a b → Odd p n a → Odd p n b
+odd-same s h = record { at = λ j l. s .at j ∙ h .at j l }
+
+-- ---------------------------------------------------------------- from the root down
+
+-- The table t₀, with the marks of the nodes that are reached when node i comes.
+pub record Reaching (d : Dag) (root i : ℕ) (t₀ t : List ℕ) : Type 0 where
+  pub size : length t ≡ 2048
+  pub marks : List ℕ
+  pub rest : reachedBelow d i marks ≡ reached d root
+  pub at : (j : ℕ) → j < 2048 → getD t j 0 ≡ getD t₀ j 0 % 2 + cond (among marks j) 2 0
+
+-- nodes above the root are not marked
+skipped : (d : Dag) (root m : ℕ) → root < m → reachedBelow d m (root ∷ []) ≡ reachedBelow d (suc root) (root ∷ [])
+unfolding reachedBelow
+skipped d root zero l = absurd (omega arith)
+skipped d root (suc m) l = by-place (eqb m root) refl (λ h. skipped d root m h)
+  where
+    by-place : (b : Bool) → eqb m root ≡ b → (root < m → reachedBelow d m (root ∷ []) ≡ reachedBelow d (suc root) (root ∷ []))
+        → reachedBelow d (suc m) (root ∷ []) ≡ reachedBelow d (suc root) (root ∷ [])
+    by-place true q rest = ap (λ (k : ℕ). reachedBelow d (suc k) (root ∷ [])) (eqb-true m root q)
+    by-place false q rest = let y : m ≢ root = eqb-false m root q in rw q (rest (omega arith))
+
+-- one mark more of a flag
+more : (a b : Bool) (x : ℕ) → cond a ((x % 2 + cond b 2 0) % 2 + 2) (x % 2 + cond b 2 0) ≡ x % 2 + cond (b || a) 2 0
+more true true x = omega arith
+more true false x = omega arith
+more false true x = refl
+more false false x = refl
+
+pub reaching-root : (d : Dag) (root : ℕ) {t₀ t t′ : List ℕ} → length t₀ ≡ 2048 → root < length (d .nodes) → Reduced 2 t₀ t → Adds (among (root ∷ [])) t t′
+    → Reaching d root (root + 1) t₀ t′
+unfolding reached
+reaching-root d root {t₀} {t} e l r a = record {
+  size = a .size ∙ r .size ∙ e;
+  marks = root ∷ [];
+  rest = rw add-one (sym (skipped d root (length (d .nodes)) l));
+  at = λ j m.
+      a .at j (omega (arith, r .size)) ∙ (λ k. cond (among (root ∷ []) j) (none j k % 2 + 2) (none j k)) ∙ more (among (root ∷ []) j) false (getD t₀ j 0);
+}
+  where
+    none : (j : ℕ) → getD t j 0 ≡ getD t₀ j 0 % 2 + 0
+    none j = r .at j ∙ omega arith
+
+down : (d : Dag) (root i : ℕ) {t₀ t t′ : List ℕ} → i < 2048 → Reaching d root (i + 1) t₀ t → Adds (λ j. marked t i && among (operandsOf d i) j) t t′
+    → Reaching d root i t₀ t′
+unfolding reachedBelow
+down d root i {t₀} {t} l h a = record {
+  size = a .size ∙ h .size;
+  marks = cond (among (h .marks) i) (h .marks ++ operandsOf d i) (h .marks);
+  rest = rw add-one at (h .rest);
+  at = λ j m.
+      a .at j (omega (arith, h .size)) ∙ (λ k. cond (own k && among (operandsOf d i) j) (h .at j m k % 2 + 2) (h .at j m k)) ∙ by-mark (among (h .marks) i) j;
+}
+  where
+    mark-is : (b : Bool) (x : ℕ) → leb 2 (x % 2 + cond b 2 0) ≡ b
+    mark-is true x = le-leb 2 (x % 2 + 2) (omega arith)
+    mark-is false x = lt-leb 2 (x % 2 + 0) (omega arith)
+
+    own : marked t i ≡ among (h .marks) i
+    own = ap (leb 2) (h .at i l) ∙ mark-is (among (h .marks) i) (getD t₀ i 0)
+
+    by-mark : (b : Bool) (j : ℕ)
+        → cond (b && among (operandsOf d i) j) ((getD t₀ j 0 % 2 + cond (among (h .marks) j) 2 0) % 2 + 2) (getD t₀ j 0 % 2 + cond (among (h .marks) j) 2 0)
+        ≡ getD t₀ j 0 % 2 + cond (among (cond b (h .marks ++ operandsOf d i) (h .marks)) j) 2 0
+    by-mark true j =
+        more (among (operandsOf d i) j) (among (h .marks) j) (getD t₀ j 0)
+        ∙ ap (λ (b : Bool). getD t₀ j 0 % 2 + cond b 2 0) (sym (among-both (h .marks) (operandsOf d i) j))
+    by-mark false j = refl
+
+-- one node further down
+pub reaching-down : (d : Dag) (root i : ℕ) {k : ℕ} {t₀ t t′ : List ℕ} → k ≡ i + 1 → i < 2048 → Reaching d root k t₀ t
+    → Adds (λ j. marked t i && among (operandsOf d i) j) t t′ → Reaching d root i t₀ t′
+reaching-down d root i {k} {t₀} {t} p l h a = down d root i l (subst (λ (x : ℕ). Reaching d root x t₀ t) p h) a
+
+-- over any table with the same parities
+pub reaching-over : {d : Dag} {root i : ℕ} {a b t : List ℕ} → Same 2 a b → Reaching d root i a t → Reaching d root i b t
+reaching-over s h = record {
+  size = h .size;
+  marks = h .marks;
+  rest = h .rest;
+  at = λ j l. h .at j l ∙ ap (λ (x : ℕ). x + cond (among (h .marks) j) 2 0) (sym (s .at j));
+}
+
+-- marks leave the parities
+pub reaching-same : {d : Dag} {root i : ℕ} {t₀ t : List ℕ} → length t₀ ≡ 2048 → Reaching d root i t₀ t → Same 2 t₀ t
+reaching-same {t₀ = t₀} {t = t} e h =
+    same-within t₀ t (h .size ∙ sym e) (λ j l. ap (λ (x : ℕ). x % 2) (h .at j (omega arith)) ∙ kept (among (h .marks) j) (getD t₀ j 0))
+  where
+    kept : (b : Bool) (x : ℕ) → (x % 2 + cond b 2 0) % 2 ≡ x % 2
+    kept true x = omega arith
+    kept false x = omega arith
+
+-- at the end the table has the bound nodes
+module _ {b n : List Slice} (w : Whole b n) (us : List ℕ) (root : ℕ) (l : root < length (dagAt b n .nodes)) where
+  abbrev d : Dag
+  d = dagAt b n
+
+  -- no node is reached that is not there
+  here : {j : ℕ} → Reaches (dagAt b n) root j → j < length (dagAt b n .nodes)
+  here (itself j e) = omega arith
+  here (onward i j r m o) = let z = lower-operands w i m j o in omega arith
+
+  unreached : (j : ℕ) → (j < length (d .nodes) → ⊥) → among (reached d root) j ≡ false
+  unreached j m = no→false (among (reached d root) j) (λ q. m (here (reached-is d (length (problemAt b n .bits)) (w .formed) root j .0 q)))
+
+  pub reaching-ends : (i : ℕ) {t₀ t : List ℕ} → Odd (shared d us) (length (d .nodes)) t₀ → Reaching d root i t₀ t → i ≤ 0 → Exactly (binds d us root) t
+  unfolding binds reachedBelow shared
+  reaching-ends (suc i) o h z = absurd (omega arith)
+  reaching-ends zero {t₀} {t} o h z = record { at = λ j. by-place j (decLt j (length (d .nodes))) }
+    where
+      flag : (j : ℕ) → j < 2048 → getD t j 0 ≡ getD t₀ j 0 % 2 + cond (among (reached d root) j) 2 0
+      flag j m = h .at j m ∙ ap (λ (ms : List ℕ). getD t₀ j 0 % 2 + cond (among ms j) 2 0) (h .rest)
+
+      both : (s r : Bool) → eqb (cond s 1 0 + cond r 2 0) 3 ≡ (s && r)
+      both true true = refl
+      both true false = refl
+      both false true = refl
+      both false false = refl
+
+      small : (j : ℕ) → among (reached d root) j ≡ false → Dec (j < 2048) → getD t j 0 < 2
+      small j e (yes m) = let f = rw e at (flag j m) in omega arith
+      small j e (no m) = let f : getD t j 0 ≡ 0 = List·getD-eq-default t 0 (omega (arith, h .size)) in omega arith
+
+      by-place : (j : ℕ) → Dec (j < length (d .nodes)) → flagged t j ≡ (shared d us j && among (reached d root) j)
+      by-place j (yes m) =
+          ap (λ (x : ℕ). eqb x 3) (flag j (omega (arith, few-nodes w)) ∙ ap (λ (x : ℕ). x + cond (among (reached d root) j) 2 0) (o .at j m))
+          ∙ both (shared d us j) (among (reached d root) j)
+      by-place j (no m) =
+          ne-eqb (getD t j 0) 3 (λ q. let e : getD t j 0 ≡ 3 = q in let f = small j (unreached j m) (decLt j 2048) in omega arith)
+          ∙ rw (le-ltb j (length (d .nodes)) (omega arith)) refl

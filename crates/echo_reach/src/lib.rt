@@ -1,28 +1,41 @@
-// The nodes that are bound in a root's assertion (document 02, L4): marks from the root down, since operands are lower nodes. A node is
-// visited when all that use it were visited, so that its mark can be replaced by whether it is bound, in one table.
+// The nodes that are bound in a root's assertion (document 02, L4): marks from the root down, since operands are lower nodes. A node has one
+// flag, which is odd if the node is shared and 2 or 3 if it is marked, so that one table serves every assertion.
 use echo_tables::Form;
 use echo_tables::operands;
 use lent::BYTES;
 use lent::NODES;
 use lent::NUMBERS;
 use lent::SIDE;
-use lent::clear_bytes;
 use lent::node_at;
 use refusals::MAX_NODES;
 ghost use mathlib.Core.Path.{_≡_};
+ghost use mathlib.Core.Bool.{_&&_};
 ghost use mathlib.Core.List.{[], _∷_, map};
 ghost use Prim.Native.Nat.{_+_, _≤_, _<_};
-ghost use lib.Dec.{eqb};
 ghost use lib.ListN.{length, getD, take, drop};
 ghost use Rattle.lists.specs.Tests.{among};
 ghost use Rattle.lets.specs.Lets.{operandsOf, usesIn, shared as «shared-in», binds};
 ghost use Rattle.lent.specs.Lent.{problemAt, dagAt};
 ghost use Rattle.echo_tables.specs.Forms.{formOperands};
 ghost use Rattle.echo_tables.specs.Uses.{FormInside};
-ghost use Rattle.echo_sharing.specs.Flags.{Flags};
-ghost use Rattle.echo_reach.specs.Marks.{Adds, nodesIn, Visited, Exactly, Whole};
+ghost use Rattle.echo_reach.specs.Remainders.{Reduced, Same};
+ghost use Rattle.echo_reach.specs.Marks.{Adds, marked, nodesIn, Odd, Exactly, Whole};
+
+// The flag of a bound node.
+pub const BOUND: u8 = 3;
 
 // ---------------------------------------------------------------- marks
+
+// Takes the marks out of the flags.
+fn unmark(flags: &mut [u8])
+    ensures { λ _. ⌜ Reduced 2 (now (flags .entry)) (now (flags .exit)) ⌝ }
+{
+    let mut i = 0;
+    while i < flags.len() {
+        flags[i] = flags[i] % 2;
+        i += 1;
+    }
+}
 
 // Marks node i. A node past the table is not marked.
 fn mark_one(marks: &mut [u8], i: u64)
@@ -30,7 +43,7 @@ fn mark_one(marks: &mut [u8], i: u64)
 {
     let k = i as usize;
     if k < marks.len() {
-        marks[k] = 1;
+        marks[k] = marks[k] % 2 + 2;
     }
 }
 
@@ -93,46 +106,38 @@ fn mark_form(marks: &mut [u8], side: &[u64], f: Form)
 
 // ---------------------------------------------------------------- from the root down
 
-// Node i is visited: if it is marked its operands are, and its mark becomes whether it is shared.
-fn visit(
-    bytes: &[&[u8]; BYTES],
-    numbers: &[&[u64]; NUMBERS],
-    shared: u8,
-    i: usize,
-    marks: &mut [u8],
-)
+// Node i is visited: if it is marked its operands are.
+fn visit(bytes: &[&[u8]; BYTES], numbers: &[&[u64]; NUMBERS], i: usize, marks: &mut [u8])
     requires { ⌜ Whole (now bytes) (now numbers) × (i < length (dagAt (now bytes) (now numbers) .nodes)) × (length (now marks) ≡ 2048) ⌝ }
-    ensures { λ _. ⌜ Visited (operandsOf (dagAt (now (bytes .entry)) (now (numbers .entry))) i) shared i (now (marks .entry)) (now (marks .exit)) ⌝ }
+    ensures { λ _. ⌜ Adds (λ j. marked (now (marks .entry)) i && among (operandsOf (dagAt (now (bytes .entry)) (now (numbers .entry))) i) j) (now (marks .entry)) (now (marks .exit)) ⌝ }
 {
-    if marks[i] != 1 {
+    if marks[i] < 2 {
         return;
     }
     let nodes = bytes[NODES];
     let side = numbers[SIDE];
     let n = node_at(nodes, i);
     mark_form(marks, side, operands(blast_kernel::shape(n.kind), n));
-    marks[i] = shared;
 }
 
-// For each node whether it is bound in the assertion of a root that is a node: it is shared, and the root reaches it by operands.
+// For each node whether it is bound in the assertion of a root that is a node: it is shared, and the root reaches it by operands. The flags may
+// have the marks of another root, and which nodes are shared stays in them.
 // Ruled out: a rotation's amount reached; a shared node that another root alone reaches; a root with two uses that is not bound.
 pub fn bound_nodes(
     bytes: &[&[u8]; BYTES],
     numbers: &[&[u64]; NUMBERS],
-    shared: &[u8; MAX_NODES],
     root: u64,
-    bound: &mut [u8; MAX_NODES],
+    flags: &mut [u8; MAX_NODES],
 )
-    requires { ⌜ Whole (now bytes) (now numbers) × (root < length (dagAt (now bytes) (now numbers) .nodes)) × Flags («shared-in» (dagAt (now bytes) (now numbers)) (usesIn (dagAt (now bytes) (now numbers)) (problemAt (now bytes) (now numbers) .roots))) (length (dagAt (now bytes) (now numbers) .nodes)) (now shared) ⌝ }
-    ensures { λ _. ⌜ Exactly (binds (dagAt (now (bytes .entry)) (now (numbers .entry))) (usesIn (dagAt (now (bytes .entry)) (now (numbers .entry))) (problemAt (now (bytes .entry)) (now (numbers .entry)) .roots)) root) (now (bound .exit)) ⌝ }
+    requires { ⌜ Whole (now bytes) (now numbers) × (root < length (dagAt (now bytes) (now numbers) .nodes)) × Odd («shared-in» (dagAt (now bytes) (now numbers)) (usesIn (dagAt (now bytes) (now numbers)) (problemAt (now bytes) (now numbers) .roots))) (length (dagAt (now bytes) (now numbers) .nodes)) (now flags) ⌝ }
+    ensures { λ _. ⌜ Exactly (binds (dagAt (now (bytes .entry)) (now (numbers .entry))) (usesIn (dagAt (now (bytes .entry)) (now (numbers .entry))) (problemAt (now (bytes .entry)) (now (numbers .entry)) .roots)) root) (now (flags .exit)) × Same 2 (now (flags .entry)) (now (flags .exit)) ⌝ }
 {
-    clear_bytes(bound);
-    let at = root as usize;
-    bound[at] = 1;
-    let marks = &mut bound[..];
-    let mut i = at + 1;
+    unmark(flags);
+    mark_one(flags, root);
+    let marks = &mut flags[..];
+    let mut i = root as usize + 1;
     while i > 0 {
         i -= 1;
-        visit(bytes, numbers, shared[i], i, marks);
+        visit(bytes, numbers, i, marks);
     }
 }

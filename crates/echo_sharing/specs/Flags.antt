@@ -1,4 +1,4 @@
--- A table with a byte for each node that is 1 where a test holds, and the table of the operators that are used twice or more.
+-- A table with a byte for each node, 1 where a test holds and 0 elsewhere, and the table of the operators that are used twice or more.
 use Prim.Native.Nat.{ℕ, _+_, _/_, _≤_, _<_}
 use mathlib.Core.Path.{_≡_, refl, sym, ap, _∙_}
 use mathlib.Core.List.{List, _++_}
@@ -18,7 +18,7 @@ use Rattle.echo_sharing.specs.Counts.{counted, counted-append, counted-z
 
 -- of the first n nodes
 pub record Flags (p : ℕ → Bool) (n : ℕ) (t : List ℕ) : Type 0 where
-  pub at : (j : ℕ) → j < n → eqb (getD t j 0) 1 ≡ p j
+  pub at : (j : ℕ) → j < n → getD t j 0 ≡ cond (p j) 1 0
 
 -- 1 where the test of the counts that were lent fails, for the first i nodes; the others keep their counts
 pub record Kept (lent : List ℕ) (ns : List Node) (i : ℕ) (t : List ℕ) : Type 0 where
@@ -33,11 +33,19 @@ pub record SharedIn (ns : List Node) (side roots : List ℕ) (some : Bool) (t : 
 
 -- ---------------------------------------------------------------- laws
 
+-- the test, by the flag
+pub flag-is : {p : ℕ → Bool} {n : ℕ} {t : List ℕ} → Flags p n t → (j : ℕ) → j < n → eqb (getD t j 0) 1 ≡ p j
+flag-is {p} h j l = rw (h .at j l) (one-is (p j))
+  where
+    one-is : (b : Bool) → eqb (cond b 1 0) 1 ≡ b
+    one-is true = refl
+    one-is false = refl
+
 -- one flag more
-pub flags-more : (p : ℕ → Bool) (t : List ℕ) (i v : ℕ) → i < length t → eqb v 1 ≡ p i → Flags p i t → Flags p (i + 1) (set t i v)
+pub flags-more : (p : ℕ → Bool) (t : List ℕ) (i v : ℕ) → i < length t → v ≡ cond (p i) 1 0 → Flags p i t → Flags p (i + 1) (set t i v)
 flags-more p t i v l e h = record { at = λ j m. by-place j m (eqb j i) refl }
   where
-    by-place : (j : ℕ) → j < i + 1 → (b : Bool) → eqb j i ≡ b → eqb (getD (set t i v) j 0) 1 ≡ p j
+    by-place : (j : ℕ) → j < i + 1 → (b : Bool) → eqb j i ≡ b → getD (set t i v) j 0 ≡ cond (p j) 1 0
     by-place j m true q = let z : j ≡ i = eqb-true j i q in rw (z, getD-set-same t i v 0 l) e
     by-place j m false q = let z : j ≢ i = eqb-false j i q in rw (getD-set-other t i j v 0 z) (h .at j (omega arith))
 
@@ -45,11 +53,11 @@ pub kept-none : (lent : List ℕ) (ns : List Node) → Kept lent ns 0 lent
 kept-none lent ns = record { size = refl; flags = record { at = λ j m. absurd (omega arith) }; rest = λ j m. refl }
 
 module _ (s : List ℕ) {lent t : List ℕ} {i : ℕ} (h : Kept lent (nodesOf s) i t) (l : i < length (nodesOf s)) (w : length (nodesOf s) ≤ length lent) where
-  pub kept-more : {m : Node} {r : Bool} (v : ℕ) → m ≡ nodeAt s i → r ≡ isLeaf (shape m) || leb (getD t i 0) 1 → eqb v 1 ≡ not r → Kept lent (nodesOf s) (i + 1) (set t i v)
+  pub kept-more : {m : Node} {r : Bool} (v : ℕ) → m ≡ nodeAt s i → r ≡ isLeaf (shape m) || leb (getD t i 0) 1 → v ≡ cond (not r) 1 0 → Kept lent (nodesOf s) (i + 1) (set t i v)
   unfolding onceIn
   kept-more {m} {r} v p q e =
       let n : getD (nodesOf s) i no-node ≡ nodeAt s i = nodes-at s no-node i (omega (arith, nodes-length s)) in
-      let f : eqb v 1 ≡ not (onceIn lent (nodesOf s) i) = rw (e, q, p, n, h .rest i (omega arith)) refl in
+      let f : v ≡ cond (not (onceIn lent (nodesOf s) i)) 1 0 = rw (e, q, p, n, h .rest i (omega arith)) refl in
       record {
         size = let z = h .size in rw lib.ListN.length-set z;
         flags = flags-more (λ j. not (onceIn lent (nodesOf s) j)) t i v (omega (arith, h .size)) f (h .flags);
@@ -80,4 +88,4 @@ module _ (s side roots : List ℕ) (small : length s ≤ 34816) {operands all : 
     pub shared-some : r ≡ false → {t : List ℕ} → Flags (λ j. not (onceIn all (nodesOf s) j)) (length (nodesOf s)) t → SharedIn (nodesOf s) side roots true t
     shared-some y h =
         let u : unshared (nodesOf s) side roots ≡ false = sym (guard s side roots small e f q) ∙ y in
-        record { is = rw u refl; flags = λ z. record { at = λ j l. h .at j l ∙ ap not (once-is j l) } }
+        record { is = rw u refl; flags = λ z. record { at = λ j l. h .at j l ∙ ap (λ (b : Bool). cond (not b) 1 0) (once-is j l) } }

@@ -19,10 +19,10 @@ use blast_kernel::VAR;
 use lent::Node;
 use refusals::MAX_NODES;
 ghost use mathlib.Core.Path.{_≡_};
-ghost use mathlib.Core.Bool.{_||_, not};
+ghost use mathlib.Core.Bool.{_||_, not, cond};
 ghost use mathlib.Core.List.{[], _∷_};
 ghost use Prim.Native.Nat.{_*_, _≤_, min};
-ghost use lib.Dec.{leb, eqb};
+ghost use lib.Dec.{leb};
 ghost use lib.ListN.{length, take, drop, replicate};
 ghost use Rattle.lists.specs.Tests.{everyFrom};
 ghost use Rattle.echo_spec.specs.Shapes.{shapeOf, isLeaf};
@@ -213,7 +213,7 @@ pub fn unshared(nodes: &[u8], side: &[u64], roots: &[u64]) -> bool
 
 // 0 for what is used once at most, 1 for the rest.
 fn flag(once: bool) -> u8
-    ensures { λ r. ⌜ eqb r 1 ≡ not once ⌝ }
+    ensures { λ r. ⌜ r ≡ cond (not once) 1 0 ⌝ }
 {
     if once { 0 } else { 1 }
 }

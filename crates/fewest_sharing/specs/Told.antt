@@ -12,7 +12,7 @@ use Rattle.echo_spec.specs.Input.{Node, nodesOf}
 use Rattle.echo_spec.specs.Sharing.{count, usesOfAll, usedOnce, unshared}
 use Rattle.lent.specs.Records.{nodes-length}
 use Rattle.echo_sharing.specs.Counts.{counted, counted-zeros, onceIn, guard}
-use Rattle.echo_sharing.specs.Flags.{Flags, SharedIn}
+use Rattle.echo_sharing.specs.Flags.{Flags, flag-is, SharedIn}
 use Rattle.fewest.specs.Least.{LeastOne, LeastTwo}
 use Rattle.fewest.specs.Uses.{Operator, uses, count-place, count-places, flag-set, flag-clear, one-shared, two-shared, one-unshared, two-unshared, Places, pair-of}
 use Rattle.fewest_sharing.specs.declared.Sharing.{Sharing}
@@ -40,12 +40,12 @@ module _ (ns : List Node) (side roots flags : List ℕ) {used : List ℕ}
   flag-true x h =
       let (l, e) = both (ltb x (length ns)) (eqb (getD flags x 0) 1) h in
       let m : x < length ns = ltb-true x (length ns) l in
-      flag-set ns side roots x m (sym (set .at x m) ∙ e)
+      flag-set ns side roots x m (sym (flag-is set x m) ∙ e)
 
   flag-false : (x : ℕ) → flagged flags (length ns) x ≡ false → Operator ns x → uses ns side x + count x roots ≤ 1
   flag-false x h o =
       let e : eqb (getD flags x 0) 1 ≡ false = rw (lt-ltb x (length ns) (o .inside)) at h in
-      flag-clear ns side roots x (sym (set .at x (o .inside)) ∙ e) o
+      flag-clear ns side roots x (sym (flag-is set x (o .inside)) ∙ e) o
 
   -- a shared root that is flagged
   flag-twice : (x : ℕ) → Operator ns x → 2 ≤ count x roots → flagged flags (length ns) x ≡ true
@@ -62,7 +62,7 @@ module _ (ns : List Node) (side roots flags : List ℕ) {used : List ℕ}
       let m : x < length ns = ltb-true x (length ns) l in
       let c = counts .at x m in
       let g = ltb-true 0 (getD used x 0) u in
-      (flag-set ns side roots x m (sym (set .at x m) ∙ f) .0, omega arith)
+      (flag-set ns side roots x m (sym (flag-is set x m) ∙ f) .0, omega arith)
 
   used-false : (k : ℕ) → k < length roots → usedToo flags used (length ns) (getD roots k 0) ≡ false → Operator ns (getD roots k 0) → uses ns side (getD roots k 0) ≤ 0
   used-false k l h o =
@@ -77,7 +77,7 @@ module _ (ns : List Node) (side roots flags : List ℕ) {used : List ℕ}
           omega arith
       go false f u =
           let c = count-place roots k l in
-          let s = flag-clear ns side roots (getD roots k 0) (sym (set .at (getD roots k 0) (o .inside)) ∙ f) o in
+          let s = flag-clear ns side roots (getD roots k 0) (sym (flag-is set (getD roots k 0) (o .inside)) ∙ f) o in
           omega arith
 
   alone : (k : ℕ) → k < length roots → usedToo flags used (length ns) (getD roots k 0) ≡ false → unshared ns side (getD roots k 0 ∷ []) ≡ true

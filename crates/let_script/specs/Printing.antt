@@ -37,10 +37,11 @@ use Rattle.blast_kernel.specs.Codes.{code-small}
 use Rattle.echo_tables.specs.Asked.{Refusable}
 use Rattle.echo_checks.specs.Limits.{bounds}
 use Rattle.echo_sharing.specs.Flags.{Flags, SharedIn}
-use Rattle.echo_reach.specs.Marks.{Whole}
+use Rattle.echo_reach.specs.Remainders.{Same}
+use Rattle.echo_reach.specs.Marks.{Odd, odd-flags, odd-same, Whole}
 use Rattle.echo_bindings.specs.LetRefused as letRefused
 use Rattle.echo_bindings.specs.Checking.{usesAt, Sharing}
-use Rattle.echo_bindings.specs.Plans.{Walkable, Same, walkable-over, Assertable, assertionText}
+use Rattle.echo_bindings.specs.Plans.{Walkable, walkable-over, Assertable, assertionText}
 use Rattle.refusals.specs.Numbers.{Numbered}
 use Rattle.echo_script.specs.declared.Out.{Out}
 use Rattle.echo_script.specs.declared.Out.the-variants.{Done, Refused}
@@ -79,7 +80,7 @@ pub record Flagged (B N : List Slice) (table : List ℕ) : Type 0 where
 pub record LetTables (B N : List Slice) (ws entries codes Y table : List ℕ) : Type 0 where
   pub walkable : Walkable B N ws entries codes Y
   pub whole : Whole B N
-  pub flags : Flags (shared (dagAt B N) (usesAt B N)) (length (dagAt B N .nodes)) table
+  pub flags : Odd (shared (dagAt B N) (usesAt B N)) (length (dagAt B N .nodes)) table
 
 -- every root is a node whose whole term is not refused
 pub record RootsFree (B N : List Slice) (ws roots : List ℕ) : Type 0 where
@@ -195,9 +196,9 @@ module _ {B N : List Slice} {ws lent l : List ℕ} {o : Out} {entries codes : Li
 
 -- ---------------------------------------------------------------- roots
 
-pub assertable : {B N : List Slice} {ws entries codes plans Y table roots : List ℕ} → LetTables B N ws entries codes Y table → Same codes plans → RootsFree B N ws roots
-    → (k : ℕ) {r : ℕ} → k < length roots → r ≡ getD roots k 0 → Assertable B N ws entries plans Y table r
-assertable t m f k l e = record { walkable = walkable-over m (t .walkable); whole = t .whole; flags = t .flags; here = rw e (f .here k l); free = rw e (f .free k l) }
+pub assertable : {B N : List Slice} {ws entries codes plans Y table flags roots : List ℕ} → LetTables B N ws entries codes Y table → Same 128 codes plans → Same 2 table flags
+    → RootsFree B N ws roots → (k : ℕ) {r : ℕ} → k < length roots → r ≡ getD roots k 0 → Assertable B N ws entries plans Y flags r
+assertable t m o f k l e = record { walkable = walkable-over m (t .walkable); whole = t .whole; flags = odd-same o (t .flags); here = rw e (f .here k l); free = rw e (f .free k l) }
 
 pub roots-are : (B N : List Slice) (ws roots : List ℕ) → rootsText (assertionText B N ws) roots ≡ letAssertionsText (assertionsOf (dagAt B N) ws (problemAt B N .bits) (usesAt B N) roots)
 unfolding rootsText rootText letAssertionsText assertionsOf bytes
@@ -242,7 +243,7 @@ module _ (B N : List Slice) {ws : List ℕ} (h : WellFormed (problemAt B N) ws) 
 
   module _ {table : List ℕ} (t : Flagged B N table) where
     pub sharing : {codes : List ℕ} → Refusable B N ws codes → Sharing B N ws codes table
-    sharing r = record { whole = whole; refusable = r; flags = t .flags }
+    sharing r = record { whole = whole; refusable = r; flags = odd-flags (t .flags) }
 
   -- the roots of a problem none of whose terms is refused
   root-free : (roots : List ℕ) → walkRoots (dagAt B N) ws roots ≡ 0 → (k : ℕ) → k < length roots → (getD roots k 0 < length (dagAt B N .nodes)) × (refusedAt (dagAt B N) ws (getD roots k 0) ≡ 0)

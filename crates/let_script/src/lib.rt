@@ -39,14 +39,14 @@ fn let_roots<'a>(
     numbers: &[&[u64]; NUMBERS],
     ws: &'a [u64],
     entries: &'a [u64; MAX_NODES],
-    shared: &[u8; MAX_NODES],
     symbols: &[u8; SYMBOLS],
     roots: &[u64],
     p: Place,
+    flags: &mut [u8; MAX_NODES],
     plans: &mut [u64; MAX_NODES],
     out: &mut [u8],
 ) -> Place
-    requires { ⌜ LetTables (now bytes) (now numbers) (now ws) (now entries) (now plans) (now symbols) (now shared) × RootsFree (now bytes) (now numbers) (now ws) (now roots) × (p .at ≤ length (now out)) ⌝ }
+    requires { ⌜ LetTables (now bytes) (now numbers) (now ws) (now entries) (now plans) (now symbols) (now flags) × RootsFree (now bytes) (now numbers) (now ws) (now roots) × (p .at ≤ length (now out)) ⌝ }
     ensures { λ r. ⌜ page r (now (out .exit)) ≡ written (page p (now (out .entry))) (rootsText (assertionText (now (bytes .entry)) (now (numbers .entry)) (now (ws .entry))) (now (roots .entry))) ⌝ }
 {
     let mut q = p;
@@ -58,9 +58,9 @@ fn let_roots<'a>(
             numbers,
             ws,
             entries,
-            shared,
             symbols,
             echo_roots::root_at(roots, k),
+            flags,
             plans,
             &mut out[at..],
         );
@@ -145,7 +145,7 @@ pub fn plain_filled(
 }
 
 // The roots of a problem with shared operators: what they are refused with where some whole term is, or else the script from them on. It is
-// called from two places, so that a compiler keeps the tables of flags in a frame of their own.
+// called from two places, so that a compiler keeps the table of flags in a frame of its own.
 fn let_rest<'a>(
     bytes: &[&[u8]; BYTES],
     numbers: &[&[u64]; NUMBERS],
@@ -160,8 +160,8 @@ fn let_rest<'a>(
     requires { ⌜ LetTabled (now bytes) (now numbers) (now ws) (now entries) (now codes) (now symbols) refused × (p .at ≤ length (now out)) ⌝ }
     ensures { λ r. ⌜ LetAfter (now (bytes .entry)) (now (numbers .entry)) (now (ws .entry)) (page p (now (out .entry))) r (now (out .exit)) ⌝ }
 {
-    let mut shared = [0u8; MAX_NODES];
-    echo_sharing::shared_nodes(bytes[NODES], numbers[SIDE], numbers[ROOTS], &mut shared);
+    let mut flags = [0u8; MAX_NODES];
+    echo_sharing::shared_nodes(bytes[NODES], numbers[SIDE], numbers[ROOTS], &mut flags);
     let roots = numbers[ROOTS];
     if refused {
         return Out::Refused(echo_bindings::roots_refused(
@@ -169,8 +169,8 @@ fn let_rest<'a>(
             numbers,
             ws,
             codes,
-            &shared,
             roots,
+            &mut flags,
         ));
     }
     let q = let_roots(
@@ -178,10 +178,10 @@ fn let_rest<'a>(
         numbers,
         ws,
         entries,
-        &shared,
         symbols,
         roots,
         p,
+        &mut flags,
         codes,
         out,
     );

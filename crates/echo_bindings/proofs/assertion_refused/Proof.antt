@@ -16,10 +16,10 @@ first-bound-requires c κs = search needs
 
 returns : tie.Need-returns
 returns c =
-    let start = c .before .before .before .before .before in
+    let start = c .before .before .before .before .before .before in
     let first-bound = c .before .first-bound in
     let if1 = c .if1 in
-    assertion-stops (start .pre .0) (start .args .roots .now) (start .args .k) (start .pre .1) (first-bound .ensures) (omega (arith, if1 .taken))
+    (assertion-stops (start .pre .0) (start .args .roots .now) (start .args .k) (start .pre .1) (first-bound .ensures .0) (omega (arith, if1 .taken)), first-bound .ensures .1)
 
 add-roots-refused : tie.Need-add-roots-refused
 add-roots-refused c = search needs
@@ -41,11 +41,11 @@ roots-refused-requires c κs = search needs
 
 returns-2 : tie.Need-returns-2
 returns-2 c =
-    let start = c .before .before .before .before .before .before .before in
+    let start = c .before .before .before .before .before .before .before .before in
     let first-bound = c .before .before .before .first-bound in
     let if1 = c .before .before .if1 in
     let roots-refused = c .roots-refused in
-    assertion-ends (start .pre .0) (start .args .roots .now) (start .args .k) (start .pre .1) (first-bound .ensures) (omega (arith, if1 .left)) (roots-refused .ensures)
+    (assertion-ends (start .pre .0) (start .args .roots .now) (start .args .k) (start .pre .1) (first-bound .ensures .0) (omega (arith, if1 .left)) (roots-refused .ensures), first-bound .ensures .1)
 
 pub assertion-refused-spec : {M : Type 1} → statement M
 assertion-refused-spec =

@@ -7,14 +7,15 @@ use mathlib.Core.Path.{_≡_, sym, _∙_}
 use native.Mathlib.Omega.{arith}
 use lib.ListN.{length}
 use Rattle.echo_bytes.specs.Page.{page}
+use Rattle.echo_reach.specs.Marks.{flagged}
 use Rattle.echo_bindings.specs.LetLines.{SoFar, opening, none-yet, same-size, one-more, all-pieces}
-use Rattle.echo_bindings.specs.Plans.{flagged, ownText, PlansTo, plans-end, plans-same, plans-over, plans-under, walkable-over}
+use Rattle.echo_bindings.specs.Plans.{ownText, PlansTo, plans-end, plans-same, plans-over, plans-under, walkable-over}
 
 abbrev Inv-loop : tie.InvT-loop
-Inv-loop bytes numbers ws entries bound symbols plans₀ out₀ n q₀ i₀ plans out q i = (n ≡ length ws) × PlansTo plans₀ (flagged bound) i plans × SoFar (opening (ownText bytes numbers ws (flagged bound)) (flagged bound)) n (page q₀ out₀) i (page q out)
+Inv-loop bytes numbers ws entries flags symbols plans₀ out₀ n q₀ i₀ plans out q i = (n ≡ length ws) × PlansTo plans₀ (flagged flags) i plans × SoFar (opening (ownText bytes numbers ws (flagged flags)) (flagged flags)) n (page q₀ out₀) i (page q out)
 
 abbrev μ-loop : tie.MeasureT-loop
-μ-loop bytes numbers ws entries bound symbols plans₀ out₀ n q₀ i₀ plans out q i = n - i
+μ-loop bytes numbers ws entries flags symbols plans₀ out₀ n q₀ i₀ plans out q i = n - i
 
 loop-holds : tie.Need-loop-holds Inv-loop μ-loop
 loop-holds c =

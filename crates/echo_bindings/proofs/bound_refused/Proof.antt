@@ -9,15 +9,15 @@ use Rattle.echo_bindings.specs.LetRefused.{firstFrom}
 use Rattle.echo_bindings.specs.Checking.{tableRefusal, first-stops, first-passes, first-ends}
 
 abbrev Inv-loop : tie.InvT-loop
-Inv-loop codes bound n i₀ i = (n ≤ 2048) × (i ≤ n) × (firstFrom (tableRefusal codes bound) i (n - i) ≡ firstFrom (tableRefusal codes bound) 0 n)
+Inv-loop codes flags n i₀ i = (n ≤ 2048) × (i ≤ n) × (firstFrom (tableRefusal codes flags) i (n - i) ≡ firstFrom (tableRefusal codes flags) 0 n)
 
 abbrev μ-loop : tie.MeasureT-loop
-μ-loop codes bound n i₀ i = n - i
+μ-loop codes flags n i₀ i = n - i
 
 loop-holds : tie.Need-loop-holds Inv-loop μ-loop
 loop-holds c =
     let start = c in
-    (start .pre, omega arith, ap (firstFrom (tableRefusal (start .args .codes .now) (start .args .bound .now)) 0) (omega arith))
+    (start .pre, omega arith, ap (firstFrom (tableRefusal (start .args .codes .now) (start .args .flags .now)) 0) (omega arith))
 
 mul-own-refusal : tie.Need-mul-own-refusal Inv-loop μ-loop
 mul-own-refusal c = search needs

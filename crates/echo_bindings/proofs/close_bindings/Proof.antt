@@ -5,14 +5,14 @@ use Rattle.echo_bindings.proofs.close_bindings.Tie as tie
 use Prim.Native.Nat.{_-_, _≤_}
 use native.Mathlib.Omega.{arith}
 use Rattle.echo_bytes.specs.Page.{page}
-use Rattle.echo_bindings.specs.Plans.{flagged}
+use Rattle.echo_reach.specs.Marks.{flagged}
 use Rattle.echo_bindings.specs.LetLines.{SoFar, closing, none-yet, same-size, one-more, all-pieces}
 
 abbrev Inv-loop : tie.InvT-loop
-Inv-loop bound n out₀ q₀ i₀ out q i = (n ≤ 2048) × SoFar (closing (flagged bound)) n (page q₀ out₀) i (page q out)
+Inv-loop flags n out₀ q₀ i₀ out q i = (n ≤ 2048) × SoFar (closing (flagged flags)) n (page q₀ out₀) i (page q out)
 
 abbrev μ-loop : tie.MeasureT-loop
-μ-loop bound n out₀ q₀ i₀ out q i = n - i
+μ-loop flags n out₀ q₀ i₀ out q i = n - i
 
 loop-holds : tie.Need-loop-holds Inv-loop μ-loop
 loop-holds c =

@@ -7,7 +7,8 @@ use native.Mathlib.Omega.{arith}
 use Rattle.lists.specs.Bytes.{bytes}
 use Rattle.echo_bytes.specs.declared.Place.{Place}
 use Rattle.echo_bytes.specs.Page.{page, written}
-use Rattle.echo_bindings.specs.Plans.{begin-bindings, root-writes, assertion-written, unplanned-same, plans-under, plans-same}
+use Rattle.echo_reach.specs.Remainders.{reduced-same}
+use Rattle.echo_bindings.specs.Plans.{begin-bindings, root-writes, assertion-written, plans-under, plans-same}
 
 bound-nodes-requires : tie.Need-bound-nodes-requires
 bound-nodes-requires c κs = search needs
@@ -26,7 +27,7 @@ bindings-requires c κs =
     let start = c .before .before .before .before .before .before .before .before .before .before .before .before .before .before .before in
     let bound-nodes = c .before .before .before .before .before .before .before .before .before .before .before .bound-nodes in
     let unplan = c .before .before .before .before .before .before .before .before .before .unplan in
-    begin-bindings (start .pre) (bound-nodes .ensures) (search needs) (unplan .ensures)
+    begin-bindings (start .pre) (bound-nodes .ensures .0) (search needs) (unplan .ensures)
 
 planned-term-requires : tie.Need-planned-term-requires
 planned-term-requires c κs =
@@ -34,7 +35,7 @@ planned-term-requires c κs =
     let bound-nodes = c .before .before .before .before .before .before .before .before .before .before .before .before .before .before .before .before .before .before .bound-nodes in
     let unplan = c .before .before .before .before .before .before .before .before .before .before .before .before .before .before .before .before .unplan in
     let bindings = c .before .before .before .before .before .before .bindings in
-    root-writes (start .pre) (bound-nodes .ensures) (plans-under (unplanned-same (unplan .ensures)) (bindings .ensures .planned))
+    root-writes (start .pre) (bound-nodes .ensures .0) (plans-under (reduced-same (unplan .ensures)) (bindings .ensures .planned))
 
 close-bindings-requires : tie.Need-close-bindings-requires
 close-bindings-requires c κs =
@@ -65,7 +66,7 @@ returns c =
     let planned-term = c .before .before .before .before .before .before .before .before .before .before .before .planned-term in
     let close-bindings = c .before .before .before .before .before .before .close-bindings in
     let close-line = c .before .before .close-line in
-    (assertion-written (start .pre) (bound-nodes .ensures) (plans-under (unplanned-same (unplan .ensures)) (bindings .ensures .planned)) _ (rw (begun .ensures) at (open-assert .ensures)) (bindings .ensures .text) (planned-term .ensures) (close-bindings .ensures) (close-line .ensures), plans-same (plans-under (unplanned-same (unplan .ensures)) (bindings .ensures .planned)))
+    (assertion-written (start .pre) (bound-nodes .ensures .0) (plans-under (reduced-same (unplan .ensures)) (bindings .ensures .planned)) _ (rw (begun .ensures) at (open-assert .ensures)) (bindings .ensures .text) (planned-term .ensures) (close-bindings .ensures) (close-line .ensures), plans-same (plans-under (reduced-same (unplan .ensures)) (bindings .ensures .planned)), bound-nodes .ensures .1)
 
 pub echo-assertion-spec : {M : Type 1} → statement M
 echo-assertion-spec =

@@ -6,6 +6,7 @@ use mathlib.Core.Path.{_∙_}
 use native.Mathlib.Omega.{arith}
 use Rattle.lets.specs.Lets.{binds}
 use Rattle.lent.specs.Lent.{dagAt}
+use Rattle.echo_reach.specs.Remainders.{same-none}
 use Rattle.echo_bindings.specs.Checking.{usesAt, by-tables, past-nodes, few-widths}
 
 count-requires : tie.Need-count-requires
@@ -16,7 +17,7 @@ returns c =
     let start = c .before .before .before in
     let count = c .before .count in
     let if1 = c .if1 in
-    past-nodes (start .pre) _ (count .ensures) (omega (arith, if1 .taken))
+    (past-nodes (start .pre) _ (count .ensures) (omega (arith, if1 .taken)), same-none _)
 
 bound-nodes-requires : tie.Need-bound-nodes-requires
 bound-nodes-requires c κs =
@@ -35,7 +36,7 @@ returns-2 c =
     let start = c .before .before .before .before .before .before .before in
     let bound-nodes = c .before .before .bound-nodes in
     let bound-refused = c .bound-refused in
-    bound-refused .ensures ∙ by-tables (start .pre) (binds (dagAt (start .args .bytes .now) (start .args .numbers .now)) (usesAt (start .args .bytes .now) (start .args .numbers .now)) (start .args .root)) (bound-nodes .ensures) (start .pre .refusable .measured .counted)
+    (bound-refused .ensures ∙ by-tables (start .pre) (binds (dagAt (start .args .bytes .now) (start .args .numbers .now)) (usesAt (start .args .bytes .now) (start .args .numbers .now)) (start .args .root)) (bound-nodes .ensures .0) (start .pre .refusable .measured .counted), bound-nodes .ensures .1)
 
 pub first-bound-spec : {M : Type 1} → statement M
 first-bound-spec =

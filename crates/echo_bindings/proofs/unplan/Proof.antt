@@ -5,16 +5,16 @@ use Rattle.echo_bindings.proofs.unplan.Tie as tie
 use Prim.Native.Nat.{_-_, _≤_}
 use native.Mathlib.Omega.{arith}
 use lib.ListN.{length}
-use Rattle.echo_bindings.specs.Plans.{UnplannedTo, unplanned-none, unplanned-more, unplanned-all}
+use Rattle.echo_reach.specs.Remainders.{ReducedTo, reduced-none, reduced-more, reduced-all}
 
 abbrev Inv-loop : tie.InvT-loop
-Inv-loop plans₀ i₀ plans i = (i ≤ length plans₀) × UnplannedTo plans₀ i plans
+Inv-loop plans₀ i₀ plans i = (i ≤ length plans₀) × ReducedTo 128 plans₀ i plans
 
 abbrev μ-loop : tie.MeasureT-loop
 μ-loop plans₀ i₀ plans i = length plans₀ - i
 
 loop-holds : tie.Need-loop-holds Inv-loop μ-loop
-loop-holds c = (omega arith, unplanned-none _)
+loop-holds c = (omega arith, reduced-none _)
 
 mul-plans : tie.Need-mul-plans Inv-loop μ-loop
 mul-plans c = search needs
@@ -41,7 +41,7 @@ loop-again : tie.Need-loop-again Inv-loop μ-loop
 loop-again c =
     let loop = c .before .before .loop in
     let loop-test = c .before .loop-test in
-    (omega (arith, loop .inv .1 .size, loop-test .taken), unplanned-more (loop .inv .1) (loop-test .taken))
+    (omega (arith, loop .inv .1 .size, loop-test .taken), reduced-more (loop .inv .1) (loop-test .taken))
 
 same-length : tie.Need-same-length Inv-loop μ-loop
 same-length c =
@@ -52,7 +52,7 @@ returns : tie.Need-returns Inv-loop μ-loop
 returns c =
     let loop = c .before .loop in
     let loop-test = c .loop-test in
-    unplanned-all (loop .inv .1) (omega (arith, loop-test .left))
+    reduced-all (loop .inv .1) (omega (arith, loop-test .left))
 
 pub unplan-spec : {M : Type 1} → statement M
 unplan-spec =

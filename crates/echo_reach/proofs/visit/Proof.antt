@@ -3,6 +3,8 @@ use borrow.Author.Needs.{needs}
 use Rattle.echo_reach.proofs.visit.Statement.{statement}
 use Rattle.echo_reach.proofs.visit.Tie as tie
 use native.Mathlib.Omega.{arith}
+use Rattle.lets.specs.Lets.{operandsOf}
+use Rattle.lent.specs.Lent.{dagAt}
 use Rattle.echo_reach.specs.Marks.{few-nodes, record-within, record-is, form-within, adds-operands, visited-free, visited-marked}
 use Rattle.echo_spec.specs.Input.{dagOf}
 
@@ -13,8 +15,9 @@ slice-read-if1 c =
 
 returns : tie.Need-returns
 returns c =
+    let start = c .before .before .before in
     let if1 = c .if1 in
-    visited-free _ _ _ (if1 .taken)
+    visited-free (operandsOf (dagAt (start .args .bytes .now) (start .args .numbers .now)) (start .args .i)) _ (if1 .taken)
 
 element-copy-out-nodes : tie.Need-element-copy-out-nodes
 element-copy-out-nodes c = search needs
@@ -41,12 +44,6 @@ mark-form-requires c κs =
     let operands = c .operands in
     form-within (start .pre .0) _ (start .pre .1) (record-is (start .pre .0) _ (start .pre .1) (node-at .ensures)) (operands .ensures)
 
-slice-write-marks : tie.Need-slice-write-marks
-slice-write-marks c =
-    let start = c .before .before .before .before .before .before .before .before .before .before .before .before in
-    let mark-form = c .before .before .mark-form in
-    omega (arith, start .pre .1, start .pre .2, few-nodes (start .pre .0), mark-form .ensures .size)
-
 same-length : tie.Need-same-length
 same-length c = search needs
 
@@ -58,7 +55,7 @@ returns-2 c =
     let node-at = c .before .before .before .before .before .before .node-at in
     let operands = c .before .before .before .operands in
     let mark-form = c .before .before .mark-form in
-    visited-marked _ _ _ (if1 .left) (omega (arith, start .pre .1, start .pre .2, few-nodes (start .pre .0))) (adds-operands (start .pre .0) _ (start .pre .1) (record-is (start .pre .0) _ (start .pre .1) (node-at .ensures)) (operands .ensures) (mark-form .ensures))
+    visited-marked (operandsOf (dagAt (start .args .bytes .now) (start .args .numbers .now)) (start .args .i)) _ (if1 .left) (adds-operands (start .pre .0) _ (start .pre .1) (record-is (start .pre .0) _ (start .pre .1) (node-at .ensures)) (operands .ensures) (mark-form .ensures))
 
 pub visit-spec : {M : Type 1} → statement M
 visit-spec =
@@ -72,6 +69,5 @@ visit-spec =
     shape-requires
     operands-requires
     mark-form-requires
-    slice-write-marks
     same-length
     returns-2)

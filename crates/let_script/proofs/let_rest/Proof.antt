@@ -7,6 +7,7 @@ use native.Mathlib.Omega.{arith}
 use Rattle.lists.specs.Bytes.{bytes}
 use Rattle.lent.specs.Lent.{problemAt}
 use Rattle.echo_checks.specs.Limits.{bounds}
+use Rattle.echo_reach.specs.Marks.{odd-flags}
 use Rattle.echo_script.proofs.Checking.{wrote-refused, wrote-done}
 use Rattle.let_script.specs.Printing.{refusable, sharing, walkable, whole, roots-free, some-flags, let-refused, let-free, some-refused, none-refused, print-in}
 
@@ -45,7 +46,7 @@ let-roots-requires c κs =
     let start = c .before .before .before .before .before .before .before .before .before .before .before .before in
     let shared-nodes = c .before .before .before .before .before .shared-nodes in
     let if1 = c .before .before .before .if1 in
-    (record { walkable = walkable (start .args .bytes .now) (start .args .numbers .now) (start .pre .0 .tabled .filled .formed) (start .pre .0 .tabled .filled) (start .pre .0 .symbols); whole = whole (start .args .bytes .now) (start .args .numbers .now) (start .pre .0 .tabled .filled .formed); flags = (some-flags (start .args .bytes .now) (start .args .numbers .now) (shared-nodes .ensures) (start .pre .0 .some)) .flags }, roots-free (start .args .bytes .now) (start .args .numbers .now) (start .pre .0 .tabled .filled .formed) _ (none-refused _ (start .pre .0 .is) (if1 .left)), start .pre .1)
+    (record { walkable = walkable (start .args .bytes .now) (start .args .numbers .now) (start .pre .0 .tabled .filled .formed) (start .pre .0 .tabled .filled) (start .pre .0 .symbols); whole = whole (start .args .bytes .now) (start .args .numbers .now) (start .pre .0 .tabled .filled .formed); flags = odd-flags (some-flags (start .args .bytes .now) (start .args .numbers .now) (shared-nodes .ensures) (start .pre .0 .some) .flags) }, roots-free (start .args .bytes .now) (start .args .numbers .now) (start .pre .0 .tabled .filled .formed) _ (none-refused _ (start .pre .0 .is) (if1 .left)), start .pre .1)
 
 check-sat-requires : tie.Need-check-sat-requires
 check-sat-requires c κs = search needs
