@@ -3,8 +3,9 @@ use Prim.Native.Nat.{ℕ}
 use mathlib.Core.Path.{_≡_}
 use mathlib.Core.Bool.{Bool, true, false}
 use mathlib.Core.List.{List, [], _∷_}
-use Rattle.echo_spec.specs.Input.{shape}
-use Rattle.lent.specs.Lent.{Slice}
+use lib.ListN.{getD}
+use Rattle.echo_spec.specs.Input.{shape, no-node, nodesOf}
+use Rattle.lent.specs.Lent.{Slice, slot}
 use Rattle.echo_tables.specs.Forms.{formAs}
 use Rattle.echo_walk.specs.Ready.{nodeIn}
 use Rattle.echo_pieces.specs.Signs.{levelOf}
@@ -16,7 +17,11 @@ unfoldable pub bracketText : Bool → ℕ → List ℕ
 bracketText true b = b ∷ []
 bracketText false b = []
 
--- the kind of node i, its level, and its operands
+-- the kind of node i
+abbrev pub kindAt : List Slice → ℕ → ℕ
+kindAt B i = getD (nodesOf (slot B 0)) i no-node .kind
+
+-- its kind, its level, and its operands
 pub record About (B N : List Slice) (i : ℕ) (t : Told) : Type 0 where
   pub kind-is : t .kind ≡ nodeIn B N i .kind
   pub level-is : t .level ≡ levelOf (nodeIn B N i .kind)

@@ -1,4 +1,5 @@
-// A node as a formula (document 02, L13): one function that calls itself, with a loop over the operands, the level that is wanted passed down.
+// A node as a formula (document 02, L13): functions that call each other, the level that is wanted passed down: leaves, operators
+// between their operands, and all others, with a loop over the operands.
 use echo_bytes::Place;
 use echo_openings::open_leaf;
 use echo_openings::open_term;
@@ -18,11 +19,16 @@ use lent::NODES;
 use lent::NUMBERS;
 use lent::SIDE;
 ghost use mathlib.Core.Path.{_≡_};
-ghost use Prim.Native.Nat.{_≤_};
+ghost use Prim.Native.Nat.{_≤_, _<_};
+ghost use lib.Dec.{ltb};
+ghost use lib.ListN.{length};
+ghost use Rattle.echo_spec.specs.Input.{nodesOf};
+ghost use Rattle.lent.specs.Lent.{slot};
 ghost use Rattle.echo_bytes.specs.Page.{page, written};
-ghost use Rattle.echo_walk.specs.Ready.{Fine};
+ghost use Rattle.echo_walk.specs.Ready.{Fine, TermAt};
+ghost use Rattle.echo_pieces.specs.Signs.{levelOf, signTable};
 ghost use Rattle.echo_openings.specs.Signed.{Signed, placedAt};
-ghost use Rattle.echo_formula.specs.Told.{bracketText, About};
+ghost use Rattle.echo_formula.specs.Told.{bracketText, kindAt, About};
 
 // What is told of a node: its kind, its level, its operands and how many they are.
 pub struct Told {
@@ -65,9 +71,19 @@ fn told_of(
     }
 }
 
-// Node i where level l or a tighter one may stand as it is: between brackets where it is looser. Ruled out: brackets around what is as tight as
-// wanted; the left operand's level for the right one; an operand left out.
-pub fn formula_node(
+// Is node i an operator between its operands.
+fn is_infix(bytes: &[&[u8]; BYTES], signs: &[u8; SIGNS], i: u64) -> bool
+    requires { ⌜ now signs ≡ signTable ⌝ }
+    requires { ⌜ (i < length (nodesOf (slot (now bytes) 0))) × (kindAt (now bytes) i < 39) ⌝ }
+    ensures { λ r. ⌜ r ≡ ltb (levelOf (kindAt (now (bytes .entry)) i)) 10 ⌝ }
+{
+    let nodes = bytes[NODES];
+    let n = node_here(nodes, i);
+    level(signs, n.kind) < 10
+}
+
+// Such an operator: its sign between its operands, and nothing before the first.
+fn formula_infix(
     bytes: &[&[u8]; BYTES],
     numbers: &[&[u64]; NUMBERS],
     tables: &[&[u64]; TABLES],
@@ -77,12 +93,74 @@ pub fn formula_node(
     l: u64,
     out: &mut [u8],
 ) -> Place
-    requires { ⌜ Signed (now bytes) (now numbers) (now tables) (now signs) × Fine (now bytes) (now numbers) (now tables) i × (l ≤ 11) ⌝ }
+    requires { ⌜ Signed (now bytes) (now numbers) (now tables) (now signs) × Fine (now bytes) (now numbers) (now tables) i × (levelOf (kindAt (now bytes) i) < 10) ⌝ }
     ensures { λ r. ⌜ page r (now (out .exit)) ≡ written (page p (now (out .entry))) (placedAt (now (bytes .entry)) (now (numbers .entry)) (now (tables .entry)) l i) ⌝ }
 {
-    if is_leaf(tables, i) {
-        return open_leaf(bytes, numbers, tables, p, i, out);
-    }
+    let nodes = bytes[NODES];
+    let n = node_here(nodes, i);
+    let own = level(signs, n.kind);
+    let a = push_bracket(own < l, b'(', p, out);
+    let b = formula_node(
+        bytes,
+        numbers,
+        tables,
+        signs,
+        Place {
+            at: a.at,
+            need: a.need,
+        },
+        n.a,
+        own,
+        out,
+    );
+    let c = push_behind(
+        signs,
+        n.kind,
+        1,
+        Place {
+            at: b.at,
+            need: b.need,
+        },
+        out,
+    );
+    let d = formula_node(
+        bytes,
+        numbers,
+        tables,
+        signs,
+        Place {
+            at: c.at,
+            need: c.need,
+        },
+        n.b,
+        own + 1,
+        out,
+    );
+    push_bracket(
+        own < l,
+        b')',
+        Place {
+            at: d.at,
+            need: d.need,
+        },
+        out,
+    )
+}
+
+// Any other node that is no leaf: its opening, and its operands one after the other.
+fn formula_other(
+    bytes: &[&[u8]; BYTES],
+    numbers: &[&[u64]; NUMBERS],
+    tables: &[&[u64]; TABLES],
+    signs: &[u8; SIGNS],
+    p: Place,
+    i: u64,
+    l: u64,
+    out: &mut [u8],
+) -> Place
+    requires { ⌜ Signed (now bytes) (now numbers) (now tables) (now signs) × Fine (now bytes) (now numbers) (now tables) i × TermAt (now bytes) (now numbers) (now tables) i ⌝ }
+    ensures { λ r. ⌜ page r (now (out .exit)) ≡ written (page p (now (out .entry))) (placedAt (now (bytes .entry)) (now (numbers .entry)) (now (tables .entry)) l i) ⌝ }
+{
     let side = numbers[SIDE];
     let t = told_of(bytes, numbers, tables, signs, i);
     let kind = t.kind;
@@ -116,4 +194,28 @@ pub fn formula_node(
         k += 1;
     }
     push_bracket(own < l, b')', q, out)
+}
+
+// Node i where level l or a tighter one may stand as it is: between brackets where it is looser. Ruled out: brackets around what is as tight as
+// wanted; the left operand's level for the right one; an operand left out.
+pub fn formula_node(
+    bytes: &[&[u8]; BYTES],
+    numbers: &[&[u64]; NUMBERS],
+    tables: &[&[u64]; TABLES],
+    signs: &[u8; SIGNS],
+    p: Place,
+    i: u64,
+    l: u64,
+    out: &mut [u8],
+) -> Place
+    requires { ⌜ Signed (now bytes) (now numbers) (now tables) (now signs) × Fine (now bytes) (now numbers) (now tables) i × (l ≤ 11) ⌝ }
+    ensures { λ r. ⌜ page r (now (out .exit)) ≡ written (page p (now (out .entry))) (placedAt (now (bytes .entry)) (now (numbers .entry)) (now (tables .entry)) l i) ⌝ }
+{
+    if is_leaf(tables, i) {
+        return open_leaf(bytes, numbers, tables, p, i, out);
+    }
+    if is_infix(bytes, signs, i) {
+        return formula_infix(bytes, numbers, tables, signs, p, i, l, out);
+    }
+    formula_other(bytes, numbers, tables, signs, p, i, l, out)
 }
