@@ -1,9 +1,9 @@
 -- The laws of the writer of formulas: a leaf, an operator between its operands, the operands of a node one after the other,
 -- and the node between its brackets. Assumes nothing.
-use Prim.Native.Nat.{ℕ, suc, _+_, _^_, _≤_, _<_}
+use Prim.Native.Nat.{ℕ, zero, suc, _+_, _-_, _^_, _≤_, _<_}
 use mathlib.Core.Path.{_≡_, refl, sym, ap, _∙_, subst}
 use mathlib.Core.Bool.{Bool, true, false}
-use mathlib.Core.List.{List, [], _∷_, _++_, append-assoc, append-nil}
+use mathlib.Core.List.{List, [], _∷_, _++_, append-nil}
 use native.Mathlib.Omega.{arith}
 use borrow.Author.Tests.{lt-ltb, le-ltb}
 use lib.Dec.{T, ltb}
@@ -30,33 +30,32 @@ use Rattle.echo_spec.specs.Shapes.{
   shapes,
   shapeOf,
 }
-use Rattle.echo_spec.specs.Input.{Node, shape, no-node, nodesOf, Dag, dagOf}
+use Rattle.echo_spec.specs.Input.{Node, shape, nodesOf, Dag, dagOf}
 use Rattle.echo_spec.specs.Trees.{treeAs, treeStep, treeOf}
 use Rattle.echo_spec.specs.Walk.{Operand}
 use Rattle.blast_kernel.specs.Codes.{codeOf}
 use Rattle.lent.specs.Lent.{Slice, problemAt, dagAt}
 use Rattle.echo_bytes.specs.declared.Place.{Place}
 use Rattle.echo_bytes.specs.Page.{Page, page, written}
-use Rattle.echo_bytes.specs.Laws.{written-then}
+use Rattle.echo_bytes.specs.Laws.{written-nil, written-then}
 use Rattle.echo_tables.specs.declared.Form.{Form}
 use Rattle.echo_tables.specs.declared.Form.the-variants.{Leaf, One, Two, Choice, Chain, Arguments}
 use Rattle.echo_tables.specs.Forms.{formAs, formOperands}
 use Rattle.echo_tables.specs.Uses.{FormInside}
-use Rattle.echo_tables.specs.Refused.{Each, Passes, form-passes}
-use Rattle.echo_lines.specs.Symbols.{symbolTable}
-use Rattle.echo_walk.specs.Operands.{OverForm, over-form}
-use Rattle.echo_walk.specs.Ready.{widthsIn, nodeIn, Ready, Fine, Under, LeafAt}
-use Rattle.echo_walk.proofs.Laws.{first-two, Begun, begun-next}
+use Rattle.echo_tables.specs.Refused.{Each, form-passes}
+use Rattle.echo_walk.specs.Operands.{Entries, OverForm, over-form}
+use Rattle.echo_walk.specs.Ready.{widthsIn, nodeIn, Fine, Under, LeafAt}
+use Rattle.echo_walk.proofs.Laws.{first-two, Begun, begun-next, begun-none}
 use Rattle.formula_text.specs.Notation.{notations, level, placed, formula}
 use Rattle.echo_pieces.specs.Signs.{signOf, levelOf}
 use Rattle.echo_pieces.specs.declared.Piece.{Piece}
-use Rattle.echo_pieces.specs.Pieces.{behindText, twoPieces, piecesOf, countOf, piecesText}
-use Rattle.echo_pieces.specs.PieceLaws.{no-piece, pieces-count, Wanted, pieces-each, each-at, text-step}
+use Rattle.echo_pieces.specs.Pieces.{piece, behindText, twoPieces, storePieces, chainPieces, argPieces, piecesOf, countOf, piecesText}
+use Rattle.echo_pieces.specs.PieceLaws.{no-piece, pieces-count, arg-more, arg-last, Wanted, pieces-each, each-at, text-step}
 use Rattle.echo_openings.specs.Openings.{plainOpening, openingAs}
 use Rattle.echo_openings.specs.NodeText.{placedTree, level-bound, own-inside, node-level, node-kind, node-text}
 use Rattle.echo_openings.specs.Signed.{Signed, openingOf, placedAt}
 use Rattle.echo_formula.specs.declared.Told.{Told}
-use Rattle.echo_formula.specs.Told.{bracketText, kindAt, About}
+use Rattle.echo_formula.specs.Told.{bracketText, listText, kindAt, About}
 
 -- ---------------------------------------------------------------- leaves
 
@@ -155,6 +154,88 @@ infix-text d ws bits i n g l = by-two _ text text text text
     text =
         rw (lt-ltb (levelOf (n .kind)) 10 l, plainOpening, twoPieces) (ap (λ (z : List ℕ). g (levelOf (n .kind)) (n .a) ++ (signOf (n .kind) ++ z)) (append-nil (g (levelOf (n .kind) + 1) (n .b))))
 
+-- ---------------------------------------------------------------- pieces one after the other
+
+module _ (g : ℕ → ℕ → List ℕ) (sign : List ℕ) (xs : List Piece) where
+  -- a piece, and what is behind it
+  piece-next : (k : ℕ) → k < length xs → {x : Piece} → x ≡ getD xs k no-piece → {whole : List ℕ} {p q r s : Page} → Begun whole (piecesText g sign (drop k xs)) p q
+      → r ≡ written q (g (x .level) (x .node)) → s ≡ written r (behindText sign (x .behind)) → Begun whole (piecesText g sign (drop (k + 1) xs)) p s
+  piece-next k m e b v w = begun-next b _ _ (text-step g sign xs k m e) (written-then _ _ _ v w)
+
+  pieces-end : (k : ℕ) → k ≡ length xs → piecesText g sign (drop k xs) ≡ []
+  unfolding piecesText
+  pieces-end k e = ap (λ (n : ℕ). piecesText g sign (drop n xs)) e ∙ ap (piecesText g sign) (drop-length xs)
+
+-- ---------------------------------------------------------------- stores and arguments
+
+pub entry-at : {P : ℕ → Type 0} {side : List ℕ} {s n : ℕ} → Entries P side s n → (k : ℕ) → k < n → {x : ℕ} → x ≡ getD side (s + k) 0 → P x
+entry-at {s} h k l e = rw e (h .each (s + k) (omega arith) (omega arith))
+
+-- no sign is written behind one of them, so any may stand for it
+module _ (g : ℕ → ℕ → List ℕ) (sign side : List ℕ) where
+  chain-any : (j s n : ℕ) → piecesText g [] (chainPieces side j s n) ≡ piecesText g sign (chainPieces side j s n)
+  unfolding piecesText chainPieces storePieces behindText
+  chain-any j s zero = refl
+  chain-any j s (suc n) =
+      ap (λ (z : List ℕ). g 0 (getD side (s + (n + n)) 0) ++ (bytes ", " ++ (g 0 (getD side (s + (n + n + 1)) 0) ++ (bytes "), " ++ z)))) (chain-any j s n)
+
+  args-any : (s n : ℕ) → piecesText g [] (argPieces side s n) ≡ piecesText g sign (argPieces side s n)
+  unfolding piecesText argPieces behindText
+  args-any s zero = refl
+  args-any s (suc zero) = refl
+  args-any s (suc (suc n)) = ap (λ (z : List ℕ). g 0 (getD side s 0) ++ (bytes ", " ++ z)) (args-any (s + 1) (suc n))
+
+-- the last pair, and then the others
+chain-more : (side : List ℕ) (j s n : ℕ) → 0 < n → {x v : ℕ} → x ≡ getD side (s + (n - 1 + (n - 1))) 0 → v ≡ getD side (s + (n - 1 + (n - 1) + 1)) 0
+    → chainPieces side j s n ≡ piece x 0 2 ∷ piece v 0 4 ∷ chainPieces side j s (n - 1)
+unfolding chainPieces storePieces
+chain-more side j s n h d e = let m : n ≡ suc (n - 1) = omega arith in ap (chainPieces side j s) m ∙ rw (d, e) refl
+
+module _ (B N F : List Slice) where
+  abbrev side : List ℕ
+  side = problemAt B N .side
+
+  abbrev below : ℕ → ℕ → List ℕ
+  below l j = placedAt B N F l j
+
+  args-count : (s n : ℕ) → length (argPieces side s n) ≡ n
+  unfolding piecesOf countOf
+  args-count s n = pieces-count 0 side (Arguments s n)
+
+  pub args-none : (s : ℕ) {n : ℕ} → n ≡ 0 → (p : Place) (l : List ℕ) → p .need < 2 ^ 64 → page p l ≡ written (page p l) (listText B N F (argPieces side s n))
+  unfolding piecesText argPieces
+  args-none s e p l h = rw e (sym (written-nil (page p l) h))
+
+  module _ {whole : List ℕ} {p q : Page} where
+    pub chain-next : (j s n : ℕ) → 0 < n → {x v : ℕ} → x ≡ getD side (s + (n - 1 + (n - 1))) 0 → v ≡ getD side (s + (n - 1 + (n - 1) + 1)) 0
+        → Begun whole (listText B N F (chainPieces side j s n)) p q → {a b c d : Page} → a ≡ written q (placedAt B N F 0 x) → b ≡ written a (44 ∷ 32 ∷ [])
+        → c ≡ written b (placedAt B N F 0 v) → d ≡ written c (41 ∷ 44 ∷ 32 ∷ []) → Begun whole (listText B N F (chainPieces side j s (n - 1))) p d
+    unfolding behindText bytes
+    chain-next j s n h {x} {v} d e b u w y z =
+        let xs : List Piece = piece x 0 2 ∷ piece v 0 4 ∷ chainPieces side j s (n - 1) in
+        let c : Begun whole (listText B N F xs) p q = subst (λ (ys : List Piece). Begun whole (listText B N F ys) p q) (chain-more side j s n h d e) b in
+        piece-next below [] xs 1 (omega arith) refl (piece-next below [] xs 0 (omega arith) refl c u w) y z
+
+    pub chain-done : (j s n : ℕ) → n ≡ 0 → Begun whole (listText B N F (chainPieces side j s n)) p q → {a b : Page} → a ≡ written q (placedAt B N F 0 j)
+        → b ≡ written a (41 ∷ []) → b ≡ written p whole
+    unfolding chainPieces storePieces piecesText behindText bytes
+    chain-done j s n e b v w =
+        let c : Begun whole (listText B N F (chainPieces side j s 0)) p q = subst (λ (m : ℕ). Begun whole (listText B N F (chainPieces side j s m)) p q) e b in
+        begun-none (piece-next below [] (piece j 0 3 ∷ []) 0 (omega arith) refl c v w) refl
+
+    module _ (s n k : ℕ) {x : ℕ} (e : x ≡ getD side (s + k) 0) (t : Begun whole (listText B N F (drop k (argPieces side s n))) p q) where
+      pub args-next : k + 1 < n → {a b : Page} → a ≡ written q (placedAt B N F 0 x) → b ≡ written a (44 ∷ 32 ∷ [])
+          → Begun whole (listText B N F (drop (k + 1) (argPieces side s n))) p b
+      unfolding behindText bytes
+      args-next h v w = piece-next below [] (argPieces side s n) k (omega (arith, args-count s n)) {x = piece x 0 2} (rw e (sym (arg-more side s n k h))) t v w
+
+      pub args-done : k < n → n ≤ k + 1 → {a b : Page} → a ≡ written q (placedAt B N F 0 x) → b ≡ written a (41 ∷ []) → b ≡ written p whole
+      unfolding behindText bytes
+      args-done h l v w =
+          begun-none
+          (piece-next below [] (argPieces side s n) k (omega (arith, args-count s n)) {x = piece x 0 3} (rw e (sym (arg-last side s n k (omega arith)))) t v w)
+          (pieces-end below [] (argPieces side s n) (k + 1) (omega (arith, args-count s n)))
+
 -- ---------------------------------------------------------------- node i
 
 module _ (B N F : List Slice) (S : List ℕ) (lent : Signed B N F S) (i : ℕ) (fine : Fine B N F i) where
@@ -195,6 +276,10 @@ module _ (B N F : List Slice) (S : List ℕ) (lent : Signed B N F S) (i : ℕ) (
       over-form (Under B N F i) (dagAt B N .side) f (form-in refl)
       (each-of (λ o p. record { below = p .low; fine = record { here = omega (arith, p .low, fine .here); free = p .passed } }) (formOperands (dagAt B N .side) f)
       (form-passes (dagAt B N) (widthsIn F) (length (problemAt B N .bits)) (lent .ready .widths) (lent .ready .counted) i node-there (fine .free) refl))
+
+  pub form-under : {f : Form} → f ≡ formAs (nodeIn B N i) (shape (nodeIn B N i)) → OverForm (Under B N F i) (problemAt B N .side) f
+  unfolding dagOf
+  form-under e = rw e under
 
   -- its formula between its brackets
   node-placed : (l : ℕ) (p : Page) {own : ℕ} → own ≡ levelOf (nodeIn B N i .kind) → {a q r : Page} → a ≡ written p (bracketText (ltb own l) 40)
@@ -269,14 +354,19 @@ module _ (B N F : List Slice) (S : List ℕ) (lent : Signed B N F S) (i : ℕ) (
       -- an operand, and what is behind it
       pub next-written : {p q r s : Page} → Begun all (left k) p q → r ≡ written q (g (x .level) (x .node)) → s ≡ written r (behindText (signOf (t .kind)) (x .behind))
           → Begun all (left (k + 1)) p s
-      next-written b v w =
-          begun-next b _ _ (text-step g (signOf (t .kind)) pieces k inside e) (written-then _ _ _ v w)
+      next-written b v w = piece-next g (signOf (t .kind)) pieces k inside e b v w
 
     pub none-left : {k : ℕ} → t .count ≤ k → k ≤ t .count → left k ≡ []
-    unfolding piecesText
-    none-left {k} a b =
-        let c : k ≡ length pieces = omega (arith, pieces-count (t .level) (problemAt B N .side) (t .form), h .count-is) in
-        ap (λ (xs : List Piece). piecesText g (signOf (t .kind)) xs) (ap (λ (n : ℕ). drop n pieces) c ∙ drop-length pieces)
+    none-left {k} a b = pieces-end g (signOf (t .kind)) pieces k (omega (arith, pieces-count (t .level) (problemAt B N .side) (t .form), h .count-is))
+
+    -- of stores and arguments
+    pub chain-all : {j s n : ℕ} → t .form ≡ Chain j s n → (p : Page) {q : Page} → q ≡ written p (listText B N F (chainPieces (problemAt B N .side) j s n)) → q ≡ written p all
+    unfolding piecesOf
+    chain-all e p w = rw e (w ∙ ap (written p) (chain-any g (signOf (t .kind)) (problemAt B N .side) _ _ _))
+
+    pub args-all : {s n : ℕ} → t .form ≡ Arguments s n → (p : Page) {q : Page} → q ≡ written p (listText B N F (argPieces (problemAt B N .side) s n)) → q ≡ written p all
+    unfolding piecesOf
+    args-all e p w = rw e (w ∙ ap (written p) (args-any g (signOf (t .kind)) (problemAt B N .side) _ _))
 
     text-is : openingOf B N F i ++ all ≡ formula (treeOf (dagAt B N) (widthsIn F) (problemAt B N .bits) i)
     unfolding dagOf

@@ -1,4 +1,4 @@
--- What is told of a node before its operands are written, and the brackets around it.
+-- What is told of a node before its operands are written, the brackets around it, and the text of a list of operands.
 use Prim.Native.Nat.{ℕ}
 use mathlib.Core.Path.{_≡_}
 use mathlib.Core.Bool.{Bool, true, false}
@@ -9,13 +9,19 @@ use Rattle.lent.specs.Lent.{Slice, slot}
 use Rattle.echo_tables.specs.Forms.{formAs}
 use Rattle.echo_walk.specs.Ready.{nodeIn}
 use Rattle.echo_pieces.specs.Signs.{levelOf}
-use Rattle.echo_pieces.specs.Pieces.{countOf}
+use Rattle.echo_pieces.specs.Pieces.{countOf, piecesText}
+use Rattle.echo_pieces.specs.declared.Piece.{Piece}
+use Rattle.echo_openings.specs.Signed.{placedAt}
 use Rattle.echo_formula.specs.declared.Told.{Told}
 
 -- a bracket where there is to be one
 unfoldable pub bracketText : Bool → ℕ → List ℕ
 bracketText true b = b ∷ []
 bracketText false b = []
+
+-- the text of operands that no sign parts
+abbrev pub listText : List Slice → List Slice → List Slice → List Piece → List ℕ
+listText B N F xs = piecesText (λ l j. placedAt B N F l j) [] xs
 
 -- the kind of node i
 abbrev pub kindAt : List Slice → ℕ → ℕ

@@ -1,5 +1,5 @@
 // A node as a formula (document 02, L13): functions that call each other, the level that is wanted passed down: leaves, operators
-// between their operands, and all others, with a loop over the operands.
+// between their operands, stores, arguments, and all others, with a loop over the operands.
 use echo_bytes::Place;
 use echo_openings::open_leaf;
 use echo_openings::open_term;
@@ -18,17 +18,20 @@ use lent::BYTES;
 use lent::NODES;
 use lent::NUMBERS;
 use lent::SIDE;
+use lent::get;
 ghost use mathlib.Core.Path.{_≡_};
 ghost use Prim.Native.Nat.{_≤_, _<_};
 ghost use lib.Dec.{ltb};
 ghost use lib.ListN.{length};
 ghost use Rattle.echo_spec.specs.Input.{nodesOf};
-ghost use Rattle.lent.specs.Lent.{slot};
+ghost use Rattle.lent.specs.Lent.{slot, problemAt};
 ghost use Rattle.echo_bytes.specs.Page.{page, written};
-ghost use Rattle.echo_walk.specs.Ready.{Fine, TermAt};
+ghost use Rattle.echo_walk.specs.Operands.{OverForm};
+ghost use Rattle.echo_walk.specs.Ready.{Fine, Under, TermAt};
 ghost use Rattle.echo_pieces.specs.Signs.{levelOf, signTable};
+ghost use Rattle.echo_pieces.specs.Pieces.{chainPieces, argPieces};
 ghost use Rattle.echo_openings.specs.Signed.{Signed, placedAt};
-ghost use Rattle.echo_formula.specs.Told.{bracketText, kindAt, About};
+ghost use Rattle.echo_formula.specs.Told.{bracketText, listText, kindAt, About};
 
 // What is told of a node: its kind, its level, its operands and how many they are.
 pub struct Told {
@@ -147,7 +150,112 @@ fn formula_infix(
     )
 }
 
-// Any other node that is no leaf: its opening, and its operands one after the other.
+// n stores over the pairs of side entries from place s on, the last pair first, and then the index j; all of these nodes are below lim.
+fn formula_chain(
+    bytes: &[&[u8]; BYTES],
+    numbers: &[&[u64]; NUMBERS],
+    tables: &[&[u64]; TABLES],
+    signs: &[u8; SIGNS],
+    p: Place,
+    lim: u64,
+    j: u64,
+    s: u64,
+    n: u64,
+    out: &mut [u8],
+) -> Place
+    requires { ⌜ Signed (now bytes) (now numbers) (now tables) (now signs) × OverForm (Under (now bytes) (now numbers) (now tables) lim) (problemAt (now bytes) (now numbers) .side) (Form.Chain j s n) ⌝ }
+    ensures { λ r. ⌜ page r (now (out .exit)) ≡ written (page p (now (out .entry))) (listText (now (bytes .entry)) (now (numbers .entry)) (now (tables .entry)) (chainPieces (problemAt (now (bytes .entry)) (now (numbers .entry)) .side) j s n)) ⌝ }
+{
+    let side = numbers[SIDE];
+    let mut q = Place {
+        at: p.at,
+        need: p.need,
+    };
+    let mut left = n;
+    while left > 0 {
+        left -= 1;
+        let x = get(side, s + (left + left));
+        let v = get(side, s + (left + left + 1));
+        let a = formula_node(bytes, numbers, tables, signs, q, x, 0, out);
+        let b = Place {
+            at: a.at,
+            need: a.need,
+        }.word(out, b", ");
+        let c = formula_node(
+            bytes,
+            numbers,
+            tables,
+            signs,
+            Place {
+                at: b.at,
+                need: b.need,
+            },
+            v,
+            0,
+            out,
+        );
+        let d = Place {
+            at: c.at,
+            need: c.need,
+        }.word(out, b"), ");
+        q = Place {
+            at: d.at,
+            need: d.need,
+        };
+    }
+    let a = formula_node(bytes, numbers, tables, signs, q, j, 0, out);
+    Place {
+        at: a.at,
+        need: a.need,
+    }.byte(out, b')')
+}
+
+// n arguments, the side entries from place s on; all of these nodes are below lim.
+fn formula_args(
+    bytes: &[&[u8]; BYTES],
+    numbers: &[&[u64]; NUMBERS],
+    tables: &[&[u64]; TABLES],
+    signs: &[u8; SIGNS],
+    p: Place,
+    lim: u64,
+    s: u64,
+    n: u64,
+    out: &mut [u8],
+) -> Place
+    requires { ⌜ Signed (now bytes) (now numbers) (now tables) (now signs) × OverForm (Under (now bytes) (now numbers) (now tables) lim) (problemAt (now bytes) (now numbers) .side) (Form.Arguments s n) ⌝ }
+    ensures { λ r. ⌜ page r (now (out .exit)) ≡ written (page p (now (out .entry))) (listText (now (bytes .entry)) (now (numbers .entry)) (now (tables .entry)) (argPieces (problemAt (now (bytes .entry)) (now (numbers .entry)) .side) s n)) ⌝ }
+{
+    if n == 0 {
+        return p;
+    }
+    let side = numbers[SIDE];
+    let mut q = Place {
+        at: p.at,
+        need: p.need,
+    };
+    let mut k = 0;
+    while k + 1 < n {
+        let x = get(side, s + k);
+        let a = formula_node(bytes, numbers, tables, signs, q, x, 0, out);
+        let b = Place {
+            at: a.at,
+            need: a.need,
+        }.word(out, b", ");
+        q = Place {
+            at: b.at,
+            need: b.need,
+        };
+        k += 1;
+    }
+    let y = get(side, s + k);
+    let a = formula_node(bytes, numbers, tables, signs, q, y, 0, out);
+    Place {
+        at: a.at,
+        need: a.need,
+    }.byte(out, b')')
+}
+
+// Any other node that is no leaf: its opening, and its operands, stores and arguments by their own loops.
 fn formula_other(
     bytes: &[&[u8]; BYTES],
     numbers: &[&[u64]; NUMBERS],
@@ -173,6 +281,30 @@ fn formula_other(
         at: b.at,
         need: b.need,
     };
+    if let Form::Chain(j, s, n) = f {
+        let c = formula_chain(bytes, numbers, tables, signs, q, i, j, s, n, out);
+        return push_bracket(
+            own < l,
+            b')',
+            Place {
+                at: c.at,
+                need: c.need,
+            },
+            out,
+        );
+    }
+    if let Form::Arguments(s, n) = f {
+        let c = formula_args(bytes, numbers, tables, signs, q, i, s, n, out);
+        return push_bracket(
+            own < l,
+            b')',
+            Place {
+                at: c.at,
+                need: c.need,
+            },
+            out,
+        );
+    }
     let mut k = 0;
     while k < m {
         let x = operand(f, side, own, k);
