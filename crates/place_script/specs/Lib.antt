@@ -3,3 +3,4 @@ pub mod Roots
 pub mod Zeros
 pub mod Uncalled
 pub mod Scripts
+pub mod Placing

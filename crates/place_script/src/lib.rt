@@ -5,16 +5,17 @@ ghost use mathlib.Core.List.{List, []};
 ghost use Prim.Native.Nat.{ℕ, _+_, _≤_, _<_};
 ghost use lib.ListN.{length};
 ghost use mathlib.Core.Bool.{true, false};
-ghost use Rattle.reading.specs.Trees.{Tree, Trees, Declarations};
-ghost use Rattle.readback.specs.Rebuild.{Item, withUncalled};
+ghost use Rattle.reading.specs.Trees.{Tree, Declarations};
+ghost use Rattle.readback.specs.Rebuild.{Item};
 ghost use Rattle.heap_laws.specs.Heap.{Held, Stacked};
 ghost use Rattle.script_entries.specs.Entries.{namesOf, Known, ArgumentsAt};
-ghost use Rattle.script_calls.specs.Flags.{Flagged};
 ghost use Rattle.script_heap.specs.declared.Settled.the-variants.{Over, At};
 ghost use Rattle.place_script.specs.Variables.{VariablesTo};
-ghost use Rattle.place_script.specs.Roots.{Asserted, RootsTo};
 ghost use Rattle.place_script.specs.Zeros.{zerosCall, HeldTo};
-ghost use Rattle.place_script.specs.Scripts.{Ready, ScriptTo};
+ghost use Rattle.place_script.specs.Uncalled.{unflagged};
+ghost use Rattle.place_script.specs.Scripts.{Ready, ScriptTo, RootsIn};
+ghost use Rattle.place_script.specs.Placing.{PlacedRoots};
+use script_check::last_line;
 use script_entries::function_at;
 use script_entries::next_argument;
 use script_entries::variable_at;
@@ -30,6 +31,15 @@ use script_names::TABLE;
 use script_place::Placed;
 use script_place::place;
 use script_tokens::Number;
+use script_tokens::Step;
+use script_tokens::literal;
+
+// How many roots a script has, all nodes of which are placed; or that the bytes are no script; or that they are over a limit.
+pub enum Roots {
+    No,
+    Over,
+    Are(usize),
+}
 
 // ---------------------------------------------------------------- variables
 
@@ -114,11 +124,11 @@ fn place_uncalled(
     nodes: &mut [u8; NODES],
     bits: &mut [u8; BITS],
 ) -> bool
-    requires { ⌜ ((D : Declarations) × ((ts : Trees) × ((first : List Item) × Known (now s) (now t) (now h) D × (namesOf (now h) ≤ 1536) × (length (D .functions) ≤ 512) × Flagged D ts (now flags)
-        × Held (now heap) (now nodes) (now bits) first × Stacked (now s) (now heap) []))) ⌝ }
-    ensures { λ r. ⌜ ((D : Declarations) (ts : Trees) (first : List Item) → Known (now (s .entry)) (now (t .entry)) (now (h .entry)) D → length (D .functions) ≤ 512 → Flagged D ts (now (flags .entry))
+    requires { ⌜ ((D : Declarations) × (first : List Item) × Known (now s) (now t) (now h) D × (namesOf (now h) ≤ 1536) × (length (D .functions) ≤ 512)
+        × Held (now heap) (now nodes) (now bits) first × Stacked (now s) (now heap) []) ⌝ }
+    ensures { λ r. ⌜ ((D : Declarations) (first : List Item) → Known (now (s .entry)) (now (t .entry)) (now (h .entry)) D
         → Held (now (heap .entry)) (now (nodes .entry)) (now (bits .entry)) first → Stacked (now (s .entry)) (now (heap .entry)) []
-        → HeldTo (now (s .entry)) (now (heap .exit)) (now (nodes .exit)) (now (bits .exit)) (withUncalled ts 0 (D .functions) first) r) ⌝ }
+        → HeldTo (now (s .entry)) (now (heap .exit)) (now (nodes .exit)) (now (bits .exit)) (unflagged (now (flags .entry)) 0 (D .functions) first) r) ⌝ }
 {
     let n = h[3] as usize - h[2] as usize;
     let mut g: usize = 0;
@@ -148,34 +158,48 @@ fn place_assertions(
     bits: &mut [u8; BITS],
     roots: &mut [u64; 256],
     from: usize,
-) -> bool
-    requires { ⌜ ((D : Declarations) × ((ts : List Tree) × ((first : List Item) × Asserted (now s) (now t) (now h) (now heap) (now nodes) (now bits) from D ts first))) × (length (now roots) ≡ 256) ⌝ }
-    ensures { λ r. ⌜ ((D : Declarations) (ts : List Tree) (first : List Item)
-        → Asserted (now (s .entry)) (now (t .entry)) (now (h .entry)) (now (heap .entry)) (now (nodes .entry)) (now (bits .entry)) from D ts first → length (now (roots .entry)) ≡ 256
-        → RootsTo (now (s .entry)) (now (heap .exit)) (now (nodes .exit)) (now (bits .exit)) (now (roots .exit)) D ts first r) ⌝ }
+) -> Roots
+    requires { ⌜ ((D : Declarations) × (first : List Item) × Known (now s) (now t) (now h) D × Held (now heap) (now nodes) (now bits) first × Stacked (now s) (now heap) []
+        × (length (D .variables) ≤ length first) × (from ≤ length (now s)) × (length (now roots) ≡ 256)) ⌝ }
+    ensures { λ r. ⌜ PlacedRoots (now (s .entry)) (now (t .entry)) (now (h .entry)) (now (heap .entry)) (now (nodes .entry)) (now (bits .entry)) from (now (heap .exit)) (now (nodes .exit)) (now (bits .exit)) (now (roots .exit)) r ⌝ }
 {
     let mut k: usize = 0;
     let mut p = from;
-    while s[p + 1] == b'a' {
-        let z = place(s, t, h, heap, nodes, bits, p + 8, 0);
+    loop {
+        let Step::To(a) = literal(s, p, b"(assert ") else {
+            if last_line(s, p) {
+                return Roots::Are(k);
+            }
+            return Roots::No;
+        };
+        let z = place(s, t, h, heap, nodes, bits, a, 0);
         match z {
-            Placed::Over => return false,
-            Placed::Constant(d, w, e) => return false,
+            Placed::No => return Roots::No,
+            Placed::Over => return Roots::Over,
+            Placed::Constant(d, w, e) => return Roots::No,
             Placed::Node(i, w, e) => {
+                if w != 0 {
+                    return Roots::No;
+                }
+                let Step::To(q) = literal(s, e, b")\n") else {
+                    return Roots::No;
+                };
+                if k == 256 {
+                    return Roots::Over;
+                }
                 roots[k] = i;
                 k += 1;
-                p = e + 2;
+                p = q;
             }
         }
     }
-    true
 }
 
 // ---------------------------------------------------------------- scripts
 
-// All nodes of a script that is read, in arrays that hold nothing yet, and its roots; or that they are over a limit.
-// Ruled out: a function that an assertion calls, called on zeros too; roots in another order; an answer that the nodes are over a limit where they
-// keep to it.
+// All nodes of a script whose assertions begin at place `from`, in arrays that hold nothing yet, and its roots; or that the bytes are no script, or
+// over a limit. Ruled out: a function that an assertion calls, called on zeros too; roots in another order; an answer that the nodes are over a
+// limit where they keep to it; bytes that are no script told as one.
 pub fn place_script(
     s: &[u8],
     t: &[u64; TABLE],
@@ -186,17 +210,19 @@ pub fn place_script(
     bits: &mut [u8; BITS],
     roots: &mut [u64; 256],
     from: usize,
-) -> bool
-    requires { ⌜ ((D : Declarations) × ((ts : List Tree) × Ready (now s) (now t) (now h) (now flags) (now heap) (now nodes) (now bits) (now roots) from D ts)) ⌝ }
-    ensures { λ r. ⌜ ((D : Declarations) (ts : List Tree)
+) -> Roots
+    requires { ⌜ ((D : Declarations) × Known (now s) (now t) (now h) D × (length (D .functions) ≤ 512) × (namesOf (now h) ≤ 1536) × Held (now heap) (now nodes) (now bits) [] × Stacked (now s) (now heap) []
+        × (from ≤ length (now s)) × (length (now roots) ≡ 256)) ⌝ }
+    ensures reads { λ r. ⌜ ((D : Declarations) → Known (now (s .entry)) (now (t .entry)) (now (h .entry)) D → RootsIn (now (s .entry)) D from r) ⌝ }
+    ensures placed { λ r. ⌜ ((D : Declarations) (ts : List Tree)
         → Ready (now (s .entry)) (now (t .entry)) (now (h .entry)) (now (flags .entry)) (now (heap .entry)) (now (nodes .entry)) (now (bits .entry)) (now (roots .entry)) from D ts
         → ScriptTo (now (heap .exit)) (now (nodes .exit)) (now (bits .exit)) (now (roots .exit)) D ts r) ⌝ }
 {
     if !place_variables(s, t, h, heap, nodes) {
-        return false;
+        return Roots::Over;
     }
     if !place_uncalled(s, t, h, flags, heap, nodes, bits) {
-        return false;
+        return Roots::Over;
     }
     place_assertions(s, t, h, heap, nodes, bits, roots, from)
 }

@@ -15,9 +15,10 @@ use Rattle.echo_spec.specs.TreeSortLaws.{has-eq}
 use Rattle.readback.specs.Reader.{Took, took, andThen, expect, readTerm}
 use Rattle.readback.specs.ScriptReader.{many, termSteps, readAssertion, treesFrom, isEmpty}
 use Rattle.reader_laws.specs.TermsStrict.{impossible, and-then, took-both, expected}
-use Rattle.sort_reader.specs.Sorted.{ofSort, sorted}
+use Rattle.sort_reader.specs.Sorted.{sorted}
 use Rattle.header_laws.specs.Body.{lastLine, assertionsIn, readingOf, ifBools, bodyIn, AssertionsAt}
 use Rattle.header_laws.specs.Assertions.{Assertion, assertion-read, read-assertion}
+use Rattle.script_terms.specs.SortLaws.{sorted-term, term-sorted}
 
 -- ---------------------------------------------------------------- definitions
 
@@ -189,24 +190,6 @@ module _ {s : List ℕ} {D : Declarations} {from p n : ℕ} (g : Going s D from 
           (by-rest (x .value) (h (x .value) (x .rest) (assertion-read D (drop p s) (x .value) (x .rest) u)) (many (readAssertion D) (f - (n + 1)) (x .rest)))
 
 -- ---------------------------------------------------------------- the sort of an assertion
-
-of-sort : (o : Option TreeSort) (r : List ℕ) (σ : TreeSort) (z : List ℕ) → ofSort o r ≡ took σ z → (o ≡ some σ) × (r ≡ z)
-unfolding ofSort
-of-sort none r σ z e = absurd (impossible e)
-of-sort (some τ) r σ z e = let (m, n) = took-both τ σ r z e in (ap (λ (x : TreeSort). some x) m, n)
-
--- a term that has a sort
-pub sorted-term : (f : ℕ) (D : Declarations) (b : List ℕ) (σ : TreeSort) (z : List ℕ) → sorted f D b ≡ took σ z → (t : Tree) × (readTerm f D b ≡ took t z) × (treeSort D t ≡ some σ)
-unfolding sorted
-sorted-term f D b σ z e =
-    let (t, r, q, g) = and-then (readTerm f D b) _ σ z e in
-    let (m, n) = of-sort (treeSort D t) r σ z g in
-    (t, q ∙ ap (λ (x : List ℕ). took t x) n, m)
-
--- the sort of a term that is read
-term-sorted : (f : ℕ) (D : Declarations) (b : List ℕ) (t : Tree) (σ : TreeSort) (z : List ℕ) → readTerm f D b ≡ took t z → treeSort D t ≡ some σ → sorted f D b ≡ took σ z
-unfolding sorted andThen ofSort
-term-sorted f D b t σ z e q = rw (e, q) refl
 
 module _ (D : Declarations) (b q : List ℕ) (e : expect (bytes "(assert ") b ≡ took [] q) where
   -- the sort of what an assertion holds

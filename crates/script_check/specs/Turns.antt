@@ -1,4 +1,4 @@
--- One turn of the first pass: what is read of an assertion, by the sort that is told of its term.
+-- One turn over the assertions: what is read of an assertion, by the sort that is told of its term.
 use Prim.Native.Nat.{ℕ, zero, suc, _+_, _≤_, _<_}
 use mathlib.Core.Path.{_≡_, refl, ap, sym, _∙_, subst}
 use mathlib.Core.List.{List, [], _∷_}
@@ -12,6 +12,8 @@ use Rattle.readback.specs.Reader.{took, expect}
 use Rattle.readback.specs.ScriptReader.{termSteps, readAssertion, readingIn}
 use Rattle.reader_laws.specs.TermsStrict.{expected}
 use Rattle.sort_reader.specs.Sorted.{sorted}
+use Rattle.script_tokens.specs.declared.Step.{Step}
+use Rattle.script_tokens.specs.declared.Step.the-variants.{No as Nowhere, To}
 use Rattle.script_header.specs.Header.{headerIn, HeaderAt, HeaderTo}
 use Rattle.script_header.specs.declared.Header.{Header}
 use Rattle.script_header.specs.declared.Header.the-variants.{No as NoHeader, Read}
@@ -24,7 +26,7 @@ use Rattle.script_terms.specs.declared.Sort.the-variants.{No as NoSort, Is}
 use Rattle.script_terms.specs.States.{sortFrom, SortAt}
 use Rattle.script_check.specs.declared.Check.{Check}
 use Rattle.script_check.specs.declared.Check.the-variants.{No, Yes}
-use Rattle.script_check.specs.Check.{CheckTo, BodyAt, BodyTo}
+use Rattle.script_check.specs.Check.{Topped, TopTo, Checked, CheckTo, BodyAt, BodyTo}
 use Rattle.script_check.specs.Steps.{Going, going-read, going-last, going-next, going-bad, bad-none, bad-sort, bad-close, good-assertion}
 
 -- ---------------------------------------------------------------- sorts
@@ -104,14 +106,31 @@ module _ (s t : List ℕ) {r : Header} {first v w c e : ℕ} (x : HeaderTo s 0 t
     pub entered : Entered s t h (header-at .value)
     entered = known-header header-at k (header-declarable (suc (length s)) s (header-at .value) (drop e s) header-read)
 
-    -- what the bytes after the header tell is what the script tells, once the table u has what the lines declare
-    pub check-body : {u : List ℕ} → Known s u h (header-at .value) → (o : Check) → BodyTo s (header-at .value) e o → CheckTo s u h o
-    check-body κ No b = header-reads s (header-at .value) (drop e s) header-read ∙ b (suc (length s)) (omega arith)
-    check-body κ (Yes a n) b = record {
-      declarations = header-at .value;
-      trees = b .trees;
-      reading = header-reads s (header-at .value) (drop e s) header-read ∙ b .read (suc (length s)) (omega arith);
-      known = κ;
-      assertions = subst (λ (i : ℕ). AssertionsAt s (header-at .value) i (b .trees)) (sym (b .start)) (b .assertions);
-      roots = b .roots;
-    }
+    -- once the table u has what the lines declare
+    pub topped : {u : List ℕ} → Known s u h (header-at .value) → Topped s u h e
+    topped κ = record { declarations = header-at .value; known = κ; place = header-at .place; read = header-read }
+
+pub top-none : (s t h : List ℕ) {r : Step} → TopTo s t h r → r ≡ Nowhere → readingIn s ≡ none
+top-none s t h x q = subst (TopTo s t h) q x
+
+pub top-at : (s t h : List ℕ) {r : Step} {e : ℕ} → TopTo s t h r → r ≡ To e → Topped s t h e
+top-at s t h x q = subst (TopTo s t h) q x
+
+-- what the bytes after the header tell is what the script tells
+module _ {s t h : List ℕ} {e : ℕ} (x : Topped s t h e) where
+  pub body-none : BodyTo s (x .declarations) e No → readingIn s ≡ none
+  body-none b = header-reads s (x .declarations) (drop e s) (x .read) ∙ b (suc (length s)) (omega arith)
+
+  abbrev pub body-checked : {a n : ℕ} → BodyAt s (x .declarations) e a n → Checked s t h a n
+  body-checked b = record {
+    declarations = x .declarations;
+    trees = b .trees;
+    reading = header-reads s (x .declarations) (drop e s) (x .read) ∙ b .read (suc (length s)) (omega arith);
+    known = x .known;
+    assertions = subst (λ (i : ℕ). AssertionsAt s (x .declarations) i (b .trees)) (sym (b .start)) (b .assertions);
+    roots = b .roots;
+  }
+
+  pub body-told : (o : Check) → BodyTo s (x .declarations) e o → CheckTo s t h o
+  body-told No b = body-none b
+  body-told (Yes a n) b = body-checked b

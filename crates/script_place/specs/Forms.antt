@@ -14,12 +14,12 @@ use Rattle.echo_spec.specs.Render.{term, binaryDigits}
 use Rattle.echo_spec.specs.TreeSorts.{TreeSort, treeSort}
 use Rattle.readback.specs.Reader.{took, andThen, expect, upTo, readConstant, readTerm}
 use Rattle.reader_laws.specs.TermsStrict.{impossible, took-both, term-strict}
-use Rattle.sort_reader.specs.Sorted.{ofSort, sorted}
 use Rattle.sort_reader.specs.Selects.{raised, raised-by}
 use Rattle.heap_laws.specs.Heap.{bitsAt}
 use Rattle.place_laws.specs.Steps.{more-steps}
 use Rattle.place_laws.specs.Ahead.{storedThen, storesIn, Ahead, operator-ahead, call-ahead, select-ahead}
 use Rattle.script_heads.specs.Heads.{numeralsOf, nameTo, selectName, NothingAt, OperatorAt, CallAt, SelectAt}
+use Rattle.script_terms.specs.SortLaws.{term-sorted}
 
 -- ---------------------------------------------------------------- bytes at a place
 
@@ -40,16 +40,12 @@ module _ (s : List ℕ) (D : Declarations) (at steps : ℕ) (tree : Tree) (rest 
   leaf-form u e h = took-both u tree (drop e s) rest (sym (h steps) ∙ more-steps D (suc zero) steps (drop at s) tree rest read)
 
   -- a term that has a sort begins with something
-  sorted-took : (f : ℕ) (σ : TreeSort) → readTerm f D (drop at s) ≡ took tree rest → treeSort D tree ≡ some σ → sorted f D (drop at s) ≡ took σ rest
-  unfolding sorted andThen ofSort
-  sorted-took f σ r e = rw (r, e)
-
   pub no-head : {C : Type 0} (σ : TreeSort) → treeSort D tree ≡ some σ → NothingAt s D at → C
   no-head σ e n =
       let k : ℕ = suc (length (drop at s)) in
       let f : ℕ = raised k steps in
       let l : length (drop at s) < f = (let z = raised-by k steps in omega arith) in
-      absurd (impossible (sym (n .unsorted f l) ∙ sorted-took f σ (more-steps D k steps (drop at s) tree rest read) e))
+      absurd (impossible (sym (n .unsorted f l) ∙ term-sorted f D (drop at s) tree σ rest (more-steps D k steps (drop at s) tree rest read) e))
 
   -- ---------------------------------------------------------------- terms with operands
 

@@ -1,30 +1,112 @@
 -- What the head of a term tells: the term is placed, or it is a call without arguments, or its operands begin.
 use Prim.Native.Nat.{ℕ, suc, _+_, _-_, _≤_, _<_}
-use mathlib.Core.Path.{_≡_, ap, sym, _∙_, subst}
-use mathlib.Core.List.{List}
-use mathlib.Core.Option.{Option, some}
+use mathlib.Core.Path.{_≡_, refl, ap, sym, _∙_, subst}
+use mathlib.Core.List.{List, [], _∷_}
+use mathlib.Core.Option.{Option, none, some}
 use native.Mathlib.Omega.{arith}
 use lib.ListN.{length, drop}
 use Rattle.reading.specs.Trees.{Tree, variable, Trees, Declarations}
-use Rattle.echo_spec.specs.TreeSorts.{bits as vector, widthOf, treeSort}
+use Rattle.echo_spec.specs.TreeSorts.{TreeSort, bits as vector, widthOf, treeSort}
 use Rattle.readback.specs.Rebuild.{here, pending, Put, numberOr0, put, variableNumber}
+use Rattle.readback.specs.Reader.{Took, took}
+use Rattle.reader_laws.specs.TermsStrict.{impossible, took-both}
+use Rattle.sort_reader.specs.Sorted.{sorted}
+use Rattle.sort_reader.specs.Selects.{raised, raised-by}
 use Rattle.heap_laws.specs.Heap.{countIn, Held}
 use Rattle.heap_laws.specs.Within.{within-parts}
 use Rattle.place_laws.specs.Ahead.{Ahead}
 use Rattle.place_laws.specs.Operands.{operandsOf}
 use Rattle.place_laws.specs.SoFar.{NoLeaf, open-room}
+use Rattle.place_laws.specs.Steps.{more-steps}
+use Rattle.script_entries.specs.Entries.{Known}
 use Rattle.script_heads.specs.declared.Head.{Head}
 use Rattle.script_heads.specs.declared.Head.the-variants.{No, Constant, Variable, Nullary, Operator, Call, Select}
 use Rattle.script_heads.specs.Heads.{numeralsOf, nameTo, HeadAt, ConstantAt, VariableAt}
+use Rattle.script_terms.specs.declared.Sort.the-variants.{No as NoSort, Is}
+use Rattle.script_terms.specs.States.{sortFrom, rest, stateOf, enough, SortAt, Going as Reads}
+use Rattle.script_terms.specs.SortLaws.{term-sorted}
+use Rattle.script_terms.specs.Turns.{headEnd}
+use Rattle.script_terms.specs.OpenLaws.{nothing-open, constant-going, variable-going, nullary-going}
 use Rattle.script_place.specs.declared.Placed.{Placed}
-use Rattle.script_place.specs.declared.Placed.the-variants.{Over, Node, Constant as Digits}
+use Rattle.script_place.specs.declared.Placed.the-variants.{No as NotPlaced, Over, Node, Constant as Digits}
 use Rattle.script_place.specs.declared.Begun.{Begun}
 use Rattle.script_place.specs.declared.Begun.the-variants.{Done, Nullary as Alone, Open}
-use Rattle.script_place.specs.Terms.{Term, State, PlacedAs, OpenedTo, BegunTo, Opening}
+use Rattle.script_heap.specs.declared.Settled.{Settled}
+use Rattle.script_heap.specs.declared.Settled.the-variants.{Over as OverLimit, At}
+use Rattle.script_place.specs.Terms.{Term, State, SortIs, PlacedAs, PlacedAt, OpenedTo, BegunTo, Finished, Opening}
 use Rattle.script_place.specs.Forms.{leaf-form, no-head, operator-form, call-form, select-form, constant-digits}
 use Rattle.script_place.specs.Closing.{operands-of-apply, operands-of-call, operands-of-select}
 
+-- ---------------------------------------------------------------- a term that is there, and the sort that is told
+
+-- its sort, of enough steps
+pub sorted-at : {s t h : List ℕ} {at : ℕ} (q : Term s t h at) → (f : ℕ) × (enough s at ≤ f) × (sorted f (q .declarations) (drop at s) ≡ took (q .sort) (q .rest))
+sorted-at {s} {t} {h} {at} q = (
+  raised (enough s at) (q .steps),
+  (let z = raised-by (enough s at) (q .steps) in omega arith),
+  term-sorted (raised (enough s at) (q .steps)) (q .declarations) (drop at s) (q .tree) (q .sort) (q .rest)
+      (more-steps (q .declarations) (enough s at) (q .steps) (drop at s) (q .tree) (q .rest) (q .read)) (q .sorted),
+)
+
+told : {s t h : List ℕ} {at : ℕ} (q : Term s t h at) (o : Option (Took TreeSort)) → ((f : ℕ) → enough s at ≤ f → sorted f (q .declarations) (drop at s) ≡ o) → o ≡ took (q .sort) (q .rest)
+told q o k = let (f, l, e) = sorted-at q in sym (k f l) ∙ e
+
+pub unsorted : {s t h : List ℕ} {at : ℕ} (q : Term s t h at) → SortAt s (q .declarations) at NoSort → ⊥
+unsorted q k = impossible (told q none k)
+
+pub sorts-as : {s t h : List ℕ} {at : ℕ} (q : Term s t h at) (n e : ℕ) → SortAt s (q .declarations) at (Is n e) → (sortFrom n ≡ q .sort) × (drop e s ≡ q .rest)
+sorts-as {s} {t} {h} {at} q n e k = took-both (sortFrom n) (q .sort) (drop e s) (q .rest) (told q (took (sortFrom n) (drop e s)) (k .2))
+
 -- ---------------------------------------------------------------- by the head
+
+-- a term that its head is
+leaf-sort : {s : List ℕ} {D : Declarations} {a w e : ℕ} → Reads s D a (1 ∷ w ∷ 0 ∷ 0 ∷ []) e → SortAt s D a (Is w e)
+unfolding stateOf rest
+leaf-sort {s} {D} {a} {w} {e} x = (x .moved refl, x .high, λ f l. let (g, m, k) = x .reads f l in k ∙ ap (λ o. rest g D o (drop e s)) (x .held .is))
+
+module _ (s heap : List ℕ) (D : Declarations) (at levels : ℕ) where
+  done-is : (a b : Placed) → SortIs s D at b → _≡_ {A = Begun} (Done a) (Done b) → SortIs s D at a
+  done-is a b k e = let f : a ≡ b = cc in subst (SortIs s D at) (sym f) k
+
+  open-is : (x : Head) → HeadAt s D at x → (p : Placed) → OpenedTo (countIn heap) x at levels (Done p) → SortIs s D at p
+  open-is x k NotPlaced e = e s D k
+  open-is x k Over e = tt
+  open-is x k (Node i w f) e = absurd e
+  open-is x k (Digits i w f) e = absurd e
+
+  -- ITS SORT, where its head places it.
+  pub done-sorts : (x : Head) → HeadAt s D at x → (p : Placed) → BegunTo heap x at levels (Done p) → SortIs s D at p
+  done-sorts No k p e = done-is p NotPlaced (nothing-open k) e
+  done-sorts (Constant f) k p e = done-is p (Digits (at + 2) (f - (at + 2)) f) (leaf-sort (constant-going k)) e
+  done-sorts (Variable i w f) k p e = done-is p (Node i w f) (leaf-sort (variable-going k)) e
+  done-sorts (Nullary f w z) k p e = absurd (let y : _≡_ {A = ℕ} 0 1 = cc in omega arith)
+  done-sorts (Operator i m a b f) k p e = open-is (Operator i m a b f) k p e
+  done-sorts (Call f i w z) k p e = open-is (Call f i w z) k p e
+  done-sorts (Select a i v n f) k p e = open-is (Select a i v n f) k p e
+
+pub alone-sorts : {s : List ℕ} {D : Declarations} {at g w e : ℕ} → HeadAt s D at (Nullary g w e) → (r : Settled) (p : Placed) → Finished r w e p → SortIs s D at p
+alone-sorts {s} {D} {at} k OverLimit p f = subst (SortIs s D at) (sym f) tt
+alone-sorts {s} {D} {at} k (At i) p f = subst (SortIs s D at) (sym f) (leaf-sort (nullary-going k))
+
+-- a call without arguments
+pub alone-head : (heap : List ℕ) (at levels : ℕ) (x : Head) (f w e : ℕ) → BegunTo heap x at levels (Alone f w e) → x ≡ Nullary f w e
+alone-head heap at levels No f w e k = absurd (let y : _≡_ {A = ℕ} 0 1 = cc in omega arith)
+alone-head heap at levels (Constant z) f w e k = absurd (let y : _≡_ {A = ℕ} 0 1 = cc in omega arith)
+alone-head heap at levels (Variable i v z) f w e k = absurd (let y : _≡_ {A = ℕ} 0 1 = cc in omega arith)
+alone-head heap at levels (Nullary i v z) f w e k = cc
+alone-head heap at levels (Operator i m a b z) f w e k = absurd k
+alone-head heap at levels (Call i p v z) f w e k = absurd k
+alone-head heap at levels (Select a i v n z) f w e k = absurd k
+
+-- the state of a term with operands
+pub open-state : (heap : List ℕ) (at levels : ℕ) (x : Head) (c a b d f : ℕ) → BegunTo heap x at levels (Open c a b d f) → OpenedTo (countIn heap) x at levels (Open c a b d f) × Opening x
+open-state heap at levels No c a b d f e = absurd (let y : _≡_ {A = ℕ} 0 1 = cc in omega arith)
+open-state heap at levels (Constant z) c a b d f e = absurd (let y : _≡_ {A = ℕ} 0 1 = cc in omega arith)
+open-state heap at levels (Variable i v z) c a b d f e = absurd (let y : _≡_ {A = ℕ} 0 1 = cc in omega arith)
+open-state heap at levels (Nullary i v z) c a b d f e = absurd (let y : _≡_ {A = ℕ} 0 1 = cc in omega arith)
+open-state heap at levels (Operator i m j k z) c a b d f e = (e, tt)
+open-state heap at levels (Call i p v z) c a b d f e = (e, tt)
+open-state heap at levels (Select j i v n z) c a b d f e = (e, tt)
 
 -- a term whose operands begin at place e, with n stores to close
 pub record Opened {s t h : List ℕ} {at : ℕ} (q : Term s t h at) (x : Head) (e n : ℕ) : Type 0 where
@@ -78,10 +160,11 @@ module _ {s t h heap nodes bits : List ℕ} {at levels : ℕ} (q : Term s t h at
       let c = g .held .count in
       omega arith
 
-  done-open : (x : Head) (e n : ℕ) → Opened q x e n → (p : Placed) → OpenedTo (countIn heap) levels e n (Done p) → PlacedAs q g heap nodes bits p
-  done-open x e n o Over l = too-deep (o .leaf) l
-  done-open x e n o (Node i w f) l = absurd l
-  done-open x e n o (Digits d w f) l = absurd l
+  done-open : (x : Head) → HeadAt s D at x → (e n : ℕ) → Opened q x e n → (p : Placed) → OpenedTo (countIn heap) x at levels (Done p) → PlacedAs q g heap nodes bits p
+  done-open x k e n o NotPlaced l = unsorted q (l s D k)
+  done-open x k e n o Over l = too-deep (o .leaf) l
+  done-open x k e n o (Node i w f) l = absurd l
+  done-open x k e n o (Digits d w f) l = absurd l
 
   constant-placed : (e : ℕ) → ConstantAt s D at e → PlacedAs q g heap nodes bits (Digits (at + 2) (e - (at + 2)) e)
   unfolding put
@@ -135,29 +218,27 @@ module _ {s t h heap nodes bits : List ℕ} {at levels : ℕ} (q : Term s t h at
   done-placed (Constant f) k p e = done-as p (Digits (at + 2) (f - (at + 2)) f) (constant-placed f k) e
   done-placed (Variable i w f) k p e = done-as p (Node i w f) (variable-placed i w f k) e
   done-placed (Nullary f w z) k p e = absurd (let y : _≡_ {A = ℕ} 0 1 = cc in omega arith)
-  done-placed (Operator i m a b f) k p e = done-open (Operator i m a b f) f 0 (operator-opened k) p e
-  done-placed (Call f i w z) k p e = done-open (Call f i w z) z 0 (call-opened k) p e
-  done-placed (Select a i v n f) k p e = done-open (Select a i v n f) f n (select-opened k) p e
+  done-placed (Operator i m a b f) k p e = done-open (Operator i m a b f) k f 0 (operator-opened k) p e
+  done-placed (Call f i w z) k p e = done-open (Call f i w z) k z 0 (call-opened k) p e
+  done-placed (Select a i v n f) k p e = done-open (Select a i v n f) k f n (select-opened k) p e
 
-  -- A CALL WITHOUT ARGUMENTS.
-  pub alone-head : (x : Head) (f w e : ℕ) → BegunTo heap x at levels (Alone f w e) → x ≡ Nullary f w e
-  alone-head No f w e k = absurd (let y : _≡_ {A = ℕ} 0 1 = cc in omega arith)
-  alone-head (Constant z) f w e k = absurd (let y : _≡_ {A = ℕ} 0 1 = cc in omega arith)
-  alone-head (Variable i v z) f w e k = absurd (let y : _≡_ {A = ℕ} 0 1 = cc in omega arith)
-  alone-head (Nullary i v z) f w e k = cc
-  alone-head (Operator i m a b z) f w e k = absurd k
-  alone-head (Call i p v z) f w e k = absurd k
-  alone-head (Select a i v n z) f w e k = absurd k
-
-  opened-same : (x : Head) (e n f m : ℕ) → Opened q x e n → f ≡ e → m ≡ n → Opened q x f m
-  opened-same x e n f m o a b = subst (λ (y : ℕ). Opened q x y m) (sym a) (subst (λ (y : ℕ). Opened q x e y) (sym b) o)
+  opened-same : (x : Head) (e n f : ℕ) → Opened q x e n → f ≡ e → Opened q x f n
+  opened-same x e n f o a = subst (λ (y : ℕ). Opened q x y n) (sym a) o
 
   -- A TERM WITH OPERANDS.
-  pub open-head : (x : Head) → HeadAt s D at x → (f m : ℕ) → BegunTo heap x at levels (Open f m) → Opened q x f m × (countIn heap + levels < 2048)
-  open-head No k f m e = absurd (let y : _≡_ {A = ℕ} 0 1 = cc in omega arith)
-  open-head (Constant z) k f m e = absurd (let y : _≡_ {A = ℕ} 0 1 = cc in omega arith)
-  open-head (Variable i v z) k f m e = absurd (let y : _≡_ {A = ℕ} 0 1 = cc in omega arith)
-  open-head (Nullary i v z) k f m e = absurd (let y : _≡_ {A = ℕ} 0 1 = cc in omega arith)
-  open-head (Operator i n a b z) k f m (e, y, w) = (opened-same _ z 0 f m (operator-opened k) y w, e)
-  open-head (Call i p v z) k f m (e, y, w) = (opened-same _ z 0 f m (call-opened k) y w, e)
-  open-head (Select a i v n z) k f m (e, y, w) = (opened-same _ z n f m (select-opened k) y w, e)
+  pub open-head : (x : Head) → HeadAt s D at x → Opening x → (f : ℕ) → f ≡ headEnd x → (n : ℕ) × Opened q x f n
+  open-head No k o f e = absurd o
+  open-head (Constant z) k o f e = absurd o
+  open-head (Variable i v z) k o f e = absurd o
+  open-head (Nullary i v z) k o f e = absurd o
+  open-head (Operator i m a b z) k o f e = (0, opened-same _ z 0 f (operator-opened k) e)
+  open-head (Call i p v z) k o f e = (0, opened-same _ z 0 f (call-opened k) e)
+  open-head (Select a i v n z) k o f e = (n, opened-same _ z n f (select-opened k) e)
+
+-- a term that its head places, told
+pub done-at : {s t h heap nodes bits : List ℕ} {at levels : ℕ} (x : Head) → ((D : Declarations) → Known s t h D → HeadAt s D at x) → (p : Placed) → BegunTo heap x at levels (Done p)
+    → PlacedAt s t h heap nodes bits at levels heap nodes bits p
+done-at {s} {t} {h} {heap} {nodes} {bits} {at} {levels} x k p b = record {
+  sorted = λ D κ. done-sorts s heap D at levels x (k D κ) p b;
+  placed = λ q g. done-placed q g x (k (q .declarations) (q .known)) p b;
+}

@@ -3,3 +3,4 @@ pub mod Forms
 pub mod Closing
 pub mod Going
 pub mod Loop
+pub mod Turning

@@ -23,7 +23,7 @@ use Rattle.script_ends.specs.declared.Seen.{Seen}
 use Rattle.script_ends.specs.Parts.{SeenOf, OneMore}
 use Rattle.script_ends.specs.Ends.{Ending}
 use Rattle.script_place.specs.declared.Placed.{Placed}
-use Rattle.script_place.specs.declared.Placed.the-variants.{Over, Node, Constant as Digits}
+use Rattle.script_place.specs.declared.Placed.the-variants.{No as NotPlaced, Over, Node, Constant as Digits}
 use Rattle.script_place.specs.declared.More.the-variants.{Over as NoMore, To}
 use Rattle.script_place.specs.Terms.{Term, State, After, PlacedAs, Pushable, MoreTo, Opening, Closing}
 use Rattle.script_place.specs.Forms.{at-byte}
@@ -72,6 +72,7 @@ byte-here s e c l h = drop-cons s e 0 l ∙ (λ i. h i ∷ drop (sym (add-one e)
 -- what is placed can wait
 pub placed-pushable : {s t h heap nodes bits : List ℕ} {at levels : ℕ} (q : Term s t h at) (g : State (q .declarations) s heap nodes bits levels) (heap′ nodes′ bits′ : List ℕ) (z : Placed)
     → PlacedAs q g heap′ nodes′ bits′ z → Pushable s z
+placed-pushable q g heap′ nodes′ bits′ NotPlaced p = tt
 placed-pushable q g heap′ nodes′ bits′ Over p = tt
 placed-pushable q g heap′ nodes′ bits′ (Node i w e) p = p .1
 placed-pushable q g heap′ nodes′ bits′ (Digits i w e) p = p .1
@@ -170,6 +171,7 @@ module _ {s t h heap₀ nodes₀ bits₀ heap nodes bits : List ℕ} {at levels 
     -- NO ROOM for an operand: there is none for its term.
     pub step-over : (heap₁ nodes₁ bits₁ heap₂ : List ℕ) (z : Placed) → PlacedAs operand-term operand-state heap₁ nodes₁ bits₁ z → MoreTo s heap₁ heap₂ z NoMore
         → Room levels (g .side) (put (q .declarations) (q .tree) (g .items) .items) → ⊥
+    step-over heap₁ nodes₁ bits₁ heap₂ NotPlaced p m r = p
     step-over heap₁ nodes₁ bits₁ heap₂ Over p m r = p (operand-has-room r)
     step-over heap₁ nodes₁ bits₁ heap₂ (Node i x f) (p, _) m r = stack-full (m nodes₁ bits₁ _ (g .refs ++ w .rs) (p .held) (p .stacked)) r
     step-over heap₁ nodes₁ bits₁ heap₂ (Digits i x f) (p, _) m r = stack-full (m nodes₁ bits₁ _ (g .refs ++ w .rs) (p .held) (p .stacked)) r
@@ -209,6 +211,7 @@ module _ {s t h heap₀ nodes₀ bits₀ heap nodes bits : List ℕ} {at levels 
     -- AN OPERAND that is placed and waits.
     pub step-going : (heap₁ nodes₁ bits₁ heap₂ : List ℕ) (z : Placed) (x f : ℕ) (v′ : Seen) → PlacedAs operand-term operand-state heap₁ nodes₁ bits₁ z → MoreTo s heap₁ heap₂ z (To x f) → OneMore v x v′
         → Going q g heap₂ nodes₁ bits₁ base f n v′ × (e < f) × (f ≤ length s)
+    step-going heap₁ nodes₁ bits₁ heap₂ NotPlaced x f v′ p m o = absurd p
     step-going heap₁ nodes₁ bits₁ heap₂ Over x f v′ p m o = absurd (let y : _≡_ {A = ℕ} 0 1 = cc in omega arith)
     step-going heap₁ nodes₁ bits₁ heap₂ (Node i y z) x f v′ (p, _) (a, b, c, d) o =
         step-with heap₁ nodes₁ bits₁ heap₂ (here i) x f v′ (subst (λ (k : ℕ). After s heap₁ nodes₁ bits₁ (e + 1) (next-here .rest) (widthOf (some (sorts-here .0 .0))) (put (q .declarations) (next-here .tree) (w .now)) (g .refs ++ w .rs) (here i) k f) (sym a)

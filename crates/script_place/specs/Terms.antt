@@ -16,16 +16,19 @@ use Rattle.script_entries.specs.Entries.{Known}
 use Rattle.script_heads.specs.declared.Head.{Head}
 use Rattle.script_heads.specs.declared.Head.the-variants.{No, Constant, Variable, Nullary, Operator, Call, Select}
 use Rattle.script_heads.specs.Heads.{HeadAt}
+use Rattle.script_terms.specs.declared.Sort.the-variants.{No as NoSort, Is}
+use Rattle.script_terms.specs.States.{SortAt, Going as Reads}
+use Rattle.script_terms.specs.Turns.{headEnd}
 use Rattle.script_heap.specs.declared.Settled.{Settled}
 use Rattle.script_heap.specs.declared.Settled.the-variants.{Over as OverLimit, At}
 use Rattle.script_ends.specs.declared.Seen.{Seen}
 use Rattle.script_ends.specs.Parts.{SeenOf}
 use Rattle.script_place.specs.declared.Placed.{Placed}
-use Rattle.script_place.specs.declared.Placed.the-variants.{Over, Node, Constant as Digits}
+use Rattle.script_place.specs.declared.Placed.the-variants.{No as NotPlaced, Over, Node, Constant as Digits}
 use Rattle.script_place.specs.declared.Begun.{Begun}
 use Rattle.script_place.specs.declared.Begun.the-variants.{Done, Nullary as Alone, Open}
 use Rattle.script_place.specs.declared.More.{More}
-use Rattle.script_place.specs.declared.More.the-variants.{Over as NoMore, To}
+use Rattle.script_place.specs.declared.More.the-variants.{No as NoneMore, Over as NoMore, To}
 
 -- ---------------------------------------------------------------- what stands at a place, and what is there so far
 
@@ -64,8 +67,16 @@ pub record After (s heap nodes bits : List ℕ) (at : ℕ) (rest : List ℕ) (wi
   pub held : Held heap nodes bits (p .items)
   pub stacked : Stacked s heap refs
 
+-- the sort of a term that is placed, whatever was there before
+abbrev pub SortIs : List ℕ → Declarations → ℕ → Placed → Type 0
+SortIs s D at NotPlaced = SortAt s D at NoSort
+SortIs s D at Over = Unit
+SortIs s D at (Node i w e) = SortAt s D at (Is w e)
+SortIs s D at (Digits q w e) = SortAt s D at (Is w e)
+
 -- There is no room for it, with the terms around it that are to become nodes and the operands that are to become side entries; or it is placed.
 abbrev pub PlacedTo : (s heap nodes bits : List ℕ) (at : ℕ) (rest : List ℕ) (width : ℕ) (p : Put) (refs : List Ref) (levels side : ℕ) → Placed → Type 0
+PlacedTo s heap nodes bits at rest width p refs levels side NotPlaced = ⊥
 PlacedTo s heap nodes bits at rest width p refs levels side Over = Room levels side (p .items) → ⊥
 PlacedTo s heap nodes bits at rest width p refs levels side (Node i w e) = After s heap nodes bits at rest width p refs (here i) w e × (i ≤ 2048)
 PlacedTo s heap nodes bits at rest width p refs levels side (Digits q w e) = After s heap nodes bits at rest width p refs (pending (bitsAt s q)) w e × (q ≤ length s)
@@ -74,15 +85,22 @@ abbrev pub PlacedAs : {s t h heap nodes bits : List ℕ} {at levels : ℕ} (q : 
 PlacedAs {s} {t} {h} {heap} {nodes} {bits} {at} {levels} q g heap′ nodes′ bits′ r =
     PlacedTo s heap′ nodes′ bits′ at (q .rest) (widthOf (some (q .sort))) (put (q .declarations) (q .tree) (g .items)) (g .refs) levels (g .side) r
 
+-- What placing the term at a place says: its sort, whatever was there before; and its node, where a term stands there.
+pub record PlacedAt (s t h heap nodes bits : List ℕ) (at levels : ℕ) (heap′ nodes′ bits′ : List ℕ) (r : Placed) : Type 0 where
+  pub sorted : (D : Declarations) → Known s t h D → SortIs s D at r
+  pub placed : (q : Term s t h at) (g : State (q .declarations) s heap nodes bits levels) → PlacedAs q g heap′ nodes′ bits′ r
+
 -- ---------------------------------------------------------------- heads
 
--- there is no room for one node more under the others, or the operands begin at place e
-abbrev pub OpenedTo : ℕ → ℕ → ℕ → ℕ → Begun → Type 0
-OpenedTo count levels e n (Done Over) = 2048 ≤ count + levels
-OpenedTo count levels e n (Done (Node i w f)) = ⊥
-OpenedTo count levels e n (Done (Digits q w f)) = ⊥
-OpenedTo count levels e n (Alone g w f) = ⊥
-OpenedTo count levels e n (Open f m) = (count + levels < 2048) × (f ≡ e) × (m ≡ n)
+-- there is no room for one node more under the others; the term has no sort; or its operands begin at place e, in this state
+abbrev pub OpenedTo : ℕ → Head → ℕ → ℕ → Begun → Type 0
+OpenedTo count x at levels (Done NotPlaced) = (s : List ℕ) (D : Declarations) → HeadAt s D at x → SortAt s D at NoSort
+OpenedTo count x at levels (Done Over) = 2048 ≤ count + levels
+OpenedTo count x at levels (Done (Node i w f)) = ⊥
+OpenedTo count x at levels (Done (Digits q w f)) = ⊥
+OpenedTo count x at levels (Alone g w f) = ⊥
+OpenedTo count x at levels (Open c a b d e) =
+    (count + levels < 2048) × (e ≡ headEnd x) × ((s : List ℕ) (D : Declarations) → HeadAt s D at x → Reads s D at (c ∷ a ∷ b ∷ d ∷ []) e)
 
 -- where the head says that the term goes on
 pub record Begins (heap : List ℕ) (x : Head) (at levels : ℕ) : Type 0 where
@@ -93,29 +111,32 @@ pub record Begins (heap : List ℕ) (x : Head) (at levels : ℕ) : Type 0 where
   pub count : countIn heap ≤ 2048
 
 abbrev pub BegunTo : List ℕ → Head → ℕ → ℕ → Begun → Type 0
-BegunTo heap No at levels r = r ≡ Done Over
+BegunTo heap No at levels r = r ≡ Done NotPlaced
 BegunTo heap (Constant e) at levels r = r ≡ Done (Digits (at + 2) (e - (at + 2)) e)
 BegunTo heap (Variable k w e) at levels r = r ≡ Done (Node k w e)
 BegunTo heap (Nullary g w e) at levels r = r ≡ Alone g w e
-BegunTo heap (Operator k m i j e) at levels r = OpenedTo (countIn heap) levels e 0 r
-BegunTo heap (Call g p w e) at levels r = OpenedTo (countIn heap) levels e 0 r
-BegunTo heap (Select a i v n e) at levels r = OpenedTo (countIn heap) levels e n r
+BegunTo heap (Operator k m i j e) at levels r = OpenedTo (countIn heap) (Operator k m i j e) at levels r
+BegunTo heap (Call g p w e) at levels r = OpenedTo (countIn heap) (Call g p w e) at levels r
+BegunTo heap (Select a i v n e) at levels r = OpenedTo (countIn heap) (Select a i v n e) at levels r
 
 -- ---------------------------------------------------------------- operands
 
 abbrev pub Pushable : List ℕ → Placed → Type 0
+Pushable s NotPlaced = Unit
 Pushable s Over = Unit
 Pushable s (Node i w e) = i ≤ 2048
 Pushable s (Digits q w e) = q ≤ length s
 
 -- one operand more waits, or there is no room for it
 abbrev pub MoreOf : List ℕ → List ℕ → List ℕ → Ref → ℕ → ℕ → More → Type 0
+MoreOf s heap heap′ ref w e NoneMore = ⊥
 MoreOf s heap heap′ ref w e NoMore = (nodes bits : List ℕ) (t : List Item) (refs : List Ref) → Held heap nodes bits t → Stacked s heap refs → length refs ≡ stackSize
 MoreOf s heap heap′ ref w e (To v f) =
     (v ≡ w) × (f ≡ e) × ((nodes bits : List ℕ) (t : List Item) → Held heap nodes bits t → Held heap′ nodes bits t)
     × ((nodes bits : List ℕ) (t : List Item) (refs : List Ref) → Held heap nodes bits t → Stacked s heap refs → Stacked s heap′ (refs ++ (ref ∷ [])))
 
 abbrev pub MoreTo : List ℕ → List ℕ → List ℕ → Placed → More → Type 0
+MoreTo s heap heap′ NotPlaced r = r ≡ NoneMore
 MoreTo s heap heap′ Over r = r ≡ NoMore
 MoreTo s heap heap′ (Node i w e) r = MoreOf s heap heap′ (here i) w e r
 MoreTo s heap heap′ (Digits q w e) r = MoreOf s heap heap′ (pending (bitsAt s q)) w e r

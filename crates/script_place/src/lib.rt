@@ -1,9 +1,11 @@
-// The nodes of a term, placed as its text is gone over: each operand first, then the constants among them, then the term's own node.
+// The nodes of a term, placed as its text is checked: each operand first, then the constants among them, then the term's own node.
 // Under "Ruled out" stand wrong programs that a public function's contract refuses.
 ghost use mathlib.Core.Path.{_≡_};
 ghost use Prim.Native.Nat.{_+_, _≤_, _<_};
+ghost use Rattle.reading.specs.Trees.{Declarations};
 ghost use Rattle.heap_laws.specs.Heap.{countIn};
-ghost use Rattle.script_place.specs.Terms.{Term, State, PlacedAs, OpenedTo, Begins, BegunTo, Pushable, MoreTo, Finished, Closes, ClosedTo};
+ghost use Rattle.script_entries.specs.Entries.{Known};
+ghost use Rattle.script_place.specs.Terms.{State, PlacedAt, OpenedTo, Begins, BegunTo, Pushable, MoreTo, Finished, Closes, ClosedTo};
 use script_ends::Seen;
 use script_ends::end_call;
 use script_ends::end_operator;
@@ -21,23 +23,30 @@ use script_heap::TOP;
 use script_heap::push_constant;
 use script_heap::push_node;
 use script_names::TABLE;
+use script_terms::Opened;
+use script_terms::head_state;
+use script_terms::more;
+use script_terms::step;
 
-// A term that is placed: its node, or the place of its digits if it is a constant; its width, 0 of a Bool; and the place after it.
+// A term that is placed: its node, or the place of its digits if it is a constant; its width, 0 of a Bool; and the place after it. Or that no
+// term with a sort stands there; or that there is no room for it.
 pub enum Placed {
+    No,
     Over,
     Node(u64, u64, usize),
     Constant(usize, u64, usize),
 }
 
-// A term by its head: it is placed; it is a call without arguments; or its operands begin at a place, with so many stores to close.
+// A term by its head: it is placed; it is a call without arguments; or its state, and the place where its operands begin.
 enum Begun {
     Done(Placed),
     Nullary(u64, u64, usize),
-    Open(usize, usize),
+    Open(u64, u64, u64, u64, usize),
 }
 
 // An operand that waits now: its width and the place after it.
 enum More {
+    No,
     Over,
     To(u64, usize),
 }
@@ -45,15 +54,18 @@ enum More {
 // ---------------------------------------------------------------- heads
 
 // A term that is to become a node, if there is room for it and those around it.
-fn opened(heap: &[u64; HEAP], levels: u64, e: usize, n: usize) -> Begun
-    requires { ⌜ (countIn (now heap) ≤ 2048) × (levels ≤ 2048) ⌝ }
-    ensures { λ r. ⌜ OpenedTo (countIn (now (heap .entry))) levels e n r ⌝ }
+fn opening(heap: &[u64; HEAP], x: Head, at: usize, levels: u64) -> Begun
+    requires { ⌜ Begins (now heap) x at levels ⌝ }
+    ensures { λ r. ⌜ OpenedTo (countIn (now (heap .entry))) x at levels r ⌝ }
 {
     let count = heap[COUNT];
     if count + levels >= 2048 {
         return Begun::Done(Placed::Over);
     }
-    Begun::Open(e, n)
+    match head_state(x, at) {
+        Opened::No => Begun::Done(Placed::No),
+        Opened::At(c, a, b, d, e) => Begun::Open(c, a, b, d, e),
+    }
 }
 
 // What a term begins with.
@@ -62,13 +74,13 @@ fn begin(heap: &[u64; HEAP], x: Head, at: usize, levels: u64) -> Begun
     ensures { λ r. ⌜ BegunTo (now (heap .entry)) x at levels r ⌝ }
 {
     match x {
-        Head::No => Begun::Done(Placed::Over),
+        Head::No => Begun::Done(Placed::No),
         Head::Constant(e) => Begun::Done(Placed::Constant(at + 2, (e - (at + 2)) as u64, e)),
         Head::Variable(k, w, e) => Begun::Done(Placed::Node(k as u64, w, e)),
         Head::Nullary(g, w, e) => Begun::Nullary(g as u64, w, e),
-        Head::Operator(k, m, i, j, e) => opened(heap, levels, e, 0),
-        Head::Call(g, p, w, e) => opened(heap, levels, e, 0),
-        Head::Select(a, i, v, n, e) => opened(heap, levels, e, n),
+        Head::Operator(k, m, i, j, e) => opening(heap, x, at, levels),
+        Head::Call(g, p, w, e) => opening(heap, x, at, levels),
+        Head::Select(a, i, v, n, e) => opening(heap, x, at, levels),
     }
 }
 
@@ -80,6 +92,7 @@ fn pushed(s: &[u8], heap: &mut [u64; HEAP], z: Placed) -> More
     ensures { λ r. ⌜ MoreTo (now (s .entry)) (now (heap .entry)) (now (heap .exit)) z r ⌝ }
 {
     match z {
+        Placed::No => More::No,
         Placed::Over => More::Over,
         Placed::Node(i, w, e) => {
             if push_node(heap, i) {
@@ -152,8 +165,8 @@ fn closed(
 
 // ---------------------------------------------------------------- terms
 
-// The term at a place, under so many terms that are not ended. Ruled out: a constant placed before another term; the node of a term before those
-// of its operands; an operand's node left out of the limit of a term around it.
+// The term at a place, under so many terms that are not ended. Ruled out: a term without a sort that is placed; a constant placed before another
+// term; the node of a term before those of its operands; an operand's node left out of the limit of a term around it.
 pub fn place(
     s: &[u8],
     t: &[u64; TABLE],
@@ -164,9 +177,8 @@ pub fn place(
     at: usize,
     levels: u64,
 ) -> Placed
-    requires { ⌜ ((q : Term (now s) (now t) (now h) at) × State (q .declarations) (now s) (now heap) (now nodes) (now bits) levels) ⌝ }
-    ensures { λ r. ⌜ ((q : Term (now (s .entry)) (now (t .entry)) (now (h .entry)) at) (g : State (q .declarations) (now (s .entry)) (now (heap .entry)) (now (nodes .entry)) (now (bits .entry)) levels)
-        → PlacedAs q g (now (heap .exit)) (now (nodes .exit)) (now (bits .exit)) r) ⌝ }
+    requires { ⌜ ((D : Declarations) × Known (now s) (now t) (now h) D × State D (now s) (now heap) (now nodes) (now bits) levels) ⌝ }
+    ensures { λ r. ⌜ PlacedAt (now (s .entry)) (now (t .entry)) (now (h .entry)) (now (heap .entry)) (now (nodes .entry)) (now (bits .entry)) at levels (now (heap .exit)) (now (nodes .exit)) (now (bits .exit)) r ⌝ }
 {
     let x = head_at(s, t, h, at);
     let y = begin(heap, x, at, levels);
@@ -177,31 +189,32 @@ pub fn place(
             let r = end_call(s, heap, nodes, bits, top, g, w);
             finished(r, w, e)
         }
-        Begun::Open(from, stores) => {
+        Begun::Open(c, a, b, d, from) => {
             let base = heap[TOP] as usize;
+            let mut w = [c, a, b, d];
             let mut e = from;
-            let mut n = stores;
             let mut v = Seen {
                 count: 0,
                 first: 0,
                 second: 0,
             };
-            loop {
-                if s[e] == b' ' {
-                    let z = place(s, t, h, heap, nodes, bits, e + 1, levels + 1);
-                    let More::To(w, f) = pushed(s, heap, z) else {
-                        return Placed::Over;
-                    };
-                    v = one_more(v, w);
-                    e = f;
-                } else {
-                    if n == 0 {
-                        return closed(s, heap, nodes, bits, x, base, v, e);
+            while more(s, &mut e, &mut w) {
+                let z = place(s, t, h, heap, nodes, bits, e, levels + 1);
+                let m = pushed(s, heap, z);
+                match m {
+                    More::No => return Placed::No,
+                    More::Over => return Placed::Over,
+                    More::To(n, f) => {
+                        v = one_more(v, n);
+                        e = f;
+                        step(s, &mut w, n);
                     }
-                    n -= 1;
-                    e += 1;
                 }
             }
+            if e == 0 {
+                return Placed::No;
+            }
+            closed(s, heap, nodes, bits, x, base, v, e - 1)
         }
     }
 }

@@ -1,9 +1,10 @@
 -- The steps of rebuilding a script's problem.
-use Prim.Native.Nat.{ℕ, zero, suc, _+_, _-_, _≤_, _<_, min}
+use Prim.Native.Nat.{ℕ, _+_, _-_, _≤_, _<_, min}
 use mathlib.Core.Path.{_≡_, refl, ap, sym, _∙_, subst}
-use mathlib.Core.List.{List, [], _∷_, _++_, map}
+use mathlib.Core.List.{List, [], map}
 use mathlib.Core.Bool.{Bool, true, false}
 use mathlib.Core.Option.{Option, none, some}
+use mathlib.Core.Logic.{⊎-elim}
 use native.Mathlib.Omega.{arith}
 use lib.Dec.{T, leb, leb→le, le→leb}
 use lib.ListN.{length, take, length-map}
@@ -24,15 +25,20 @@ use Rattle.script_opening.specs.declared.Begins.{Begins}
 use Rattle.script_opening.specs.declared.Begins.the-variants.{Nowhere}
 use Rattle.script_fill.specs.Filling.{lineNames, Few}
 use Rattle.script_fill.specs.Turns.{variable-lines, array-lines, function-lines}
-use Rattle.header_laws.specs.Body.{readingOf}
-use Rattle.heap_laws.specs.Heap.{within, Held, Stacked}
-use Rattle.script_rebuild.specs.Limits.{TableWithin, TablesWithin, Tables, Passes, passes, passed, roots-counted}
-use Rattle.place_script.specs.Scripts.{Ready, ScriptTo}
+use Rattle.header_laws.specs.Body.{readingOf, AssertionsAt}
+use Rattle.heap_laws.specs.Heap.{Held, Stacked}
+use Rattle.script_rebuild.specs.Limits.{TablesWithin, Tables, Passes, passes, roots-counted}
+use Rattle.place_script.specs.declared.Roots.{Roots}
+use Rattle.place_script.specs.declared.Roots.the-variants.{No, Over, Are}
+use Rattle.place_script.specs.Scripts.{Ready, ScriptTo, RootsIn}
 use Rattle.script_rebuild.specs.ArenaLengths.{ArenasAre}
-use Rattle.script_check.specs.Check.{Checked, CheckTo}
-use Rattle.script_rebuild.specs.Rebuilt.{WholeProblem}
+use Rattle.script_check.specs.Check.{Topped, BodyAt, BodyTo}
+use Rattle.script_check.specs.Turns.{body-none, body-checked}
+use Rattle.script_rebuild.specs.Rebuilt.{WholeProblem, RebuiltTo}
 use Rattle.script_check.specs.declared.Check.{Check}
-use Rattle.script_check.specs.declared.Check.the-variants.{No, Yes}
+use Rattle.script_check.specs.declared.Check.the-variants.{No as NotChecked, Yes}
+use Rattle.script_rebuild.specs.declared.Rebuilt.{Rebuilt}
+use Rattle.script_rebuild.specs.declared.Rebuilt.the-variants.{NoScript, Limit, Whole}
 use Rattle.script_rebuild.specs.declared.Arenas.{Arenas}
 
 -- ---------------------------------------------------------------- tables
@@ -86,11 +92,6 @@ module _ (D : Declarations) {h : List ℕ} (c : Counts h D) where
         }
         by-last false e = λ w. (let f : r .fnames ≤ 16384 → ⊥ = λ l. absurd (subst T e (le→leb (r .fnames) 16384 l)) in omega (arith, f, a .fnames, w .functions .names))
 
--- the functions that a table within its limits has
-few-functions : (D : Declarations) (b : Bool) → Tables D b → b ≡ true → length (D .functions) ≤ 512
-few-functions D true w e = let f = length-map (D .functions) (λ (x : Function). x .name) in omega (arith, f, w .functions .entries)
-few-functions D false w e = absurd (subst T (sym e) tt)
-
 -- ---------------------------------------------------------------- how a script begins
 
 -- bytes that do not begin so are no script
@@ -104,74 +105,67 @@ not-begun s e f = by-opening (expect (bytes "(set-logic ") s) refl (sym e ∙ f)
 
 -- ---------------------------------------------------------------- the answer
 
--- what was told of the script
-pub check-none : (s t h : List ℕ) (r : Check) → CheckTo s t h r → r ≡ No → readingIn s ≡ none
-check-none s t h No x e = x
-check-none s t h (Yes a n) x e = absurd (let z : _≡_ {A = ℕ} 0 1 = cc in omega arith)
+-- the names and the functions that tables within their limits have
+pub few-names : {s t h : List ℕ} {D : Declarations} → Known s t h D → TablesWithin D → namesOf h ≤ 1536
+few-names {s} {t} {h} {D} k w =
+    let c = counts s t h D k in
+    omega (arith, c .variables, c .arrays, c .functions, w .variables .entries, w .arrays .entries, w .functions .entries)
 
-pub check-read : (s t h : List ℕ) (r : Check) (a n : ℕ) → CheckTo s t h r → r ≡ Yes a n → Checked s t h a n
-check-read s t h No a n x e = absurd (let z : _≡_ {A = ℕ} 0 1 = cc in omega arith)
-check-read s t h (Yes b m) a n x e =
-    let p : b ≡ a = cc in
-    let q : m ≡ n = cc in
-    subst (λ (i : ℕ). Checked s t h i n) p (subst (λ (j : ℕ). Checked s t h b j) q x)
+pub few-functions : (D : Declarations) → TablesWithin D → length (D .functions) ≤ 512
+few-functions D w = let f = length-map (D .functions) (λ (x : Function). x .name) in omega (arith, f, w .functions .entries)
 
-module _ {s t h : List ℕ} {a n : ℕ} (x : Checked s t h a n) where
-  abbrev r : Reading
-  r = readingOf (x .declarations) (x .trees)
+-- the bytes from place `from` on are no script's, or they are
+abbrev pub OverTo : List ℕ → Declarations → ℕ → Rebuilt → Type 0
+OverTo s D from NoScript = BodyTo s D from NotChecked
+OverTo s D from Limit = (a : ℕ) × (n : ℕ) × BodyAt s D from a n
+OverTo s D from (Whole n) = ⊥
 
-  over : (Passes r → ⊥) → (q : Reading) × (readingIn s ≡ some q) × (limitsPassed (rebuild q) ≡ false)
-  over f = (r, x .reading, no→false (limitsPassed (rebuild r)) (λ p. f (passes r p)))
+pub over-told : (s : List ℕ) (D : Declarations) (from : ℕ) {r : Check} → BodyTo s D from r → {a n : ℕ} → r ≡ Yes a n → OverTo s D from Limit
+over-told s D from x {a} {n} q = (a, n, subst (BodyTo s D from) q x)
 
-  roots-are : length (placed r .refs) ≡ n
-  roots-are = roots-counted (x .declarations) (x .trees) ∙ sym (x .roots)
+module _ {s t h : List ℕ} {from : ℕ} (x : Topped s t h from) where
+  abbrev D : Declarations
+  D = x .declarations
 
-  few-roots : n ≤ 256 → length (x .trees) ≤ 256
-  few-roots l = omega (arith, l, x .roots)
+  abbrev r : List Tree → Reading
+  r ts = readingOf D ts
 
-  few-names : (b : Bool) → Tables (x .declarations) b → b ≡ true → namesOf h ≤ 1536
-  few-names true w e =
-      let c = counts s t h (x .declarations) (x .known) in
-      omega (arith, c .variables, c .arrays, c .functions, w .variables .entries, w .arrays .entries, w .functions .entries)
-  few-names false w e = absurd (subst T (sym e) tt)
+  -- every script that the bytes are passes a limit
+  over : (heap nodes bits roots : List ℕ) → ((ts : List Tree) → AssertionsAt s D from ts → Passes (r ts) → ⊥) → (o : Rebuilt) → OverTo s D from o → RebuiltTo s t h heap nodes bits roots o
+  over heap nodes bits roots f NoScript b = body-none x b
+  over heap nodes bits roots f Limit (_, _, b) = (r (b .trees), body-checked x b .reading, no→false (limitsPassed (rebuild (r (b .trees)))) (λ p. f (b .trees) (b .assertions) (passes (r (b .trees)) p)))
+  over heap nodes bits roots f (Whole n) b = absurd b
 
-  -- what placing the script's nodes asks
-  pub ready : {flags heap nodes bits roots : List ℕ} (b : Bool) → n ≤ 256 → Tables (x .declarations) b → b ≡ true → Flagged (x .declarations) (treesFrom (x .trees)) flags → Held heap nodes bits [] → Stacked s heap [] → length roots ≡ 256
-      → Ready s t h flags heap nodes bits roots a (x .declarations) (x .trees)
-  ready b l w e f k m z = record {
-    known = x .known;
-    names = few-names b w e;
-    functions = few-functions (x .declarations) b w e;
-    assertions = x .assertions;
-    few = few-roots l;
-    flagged = f;
-    held = k;
-    stacked = m;
-    long = z;
-  }
+  pub over-tables : (heap nodes bits roots : List ℕ) → Tables D false → (o : Rebuilt) → OverTo s D from o → RebuiltTo s t h heap nodes bits roots o
+  over-tables heap nodes bits roots w = over heap nodes bits roots (λ ts _ p. w (record { variables = p .variables; arrays = p .arrays; functions = p .functions }))
 
-  pub over-roots : 256 < n → (q : Reading) × (readingIn s ≡ some q) × (limitsPassed (rebuild q) ≡ false)
-  over-roots l = over (λ p. omega (arith, l, roots-are, p .roots))
+  module _ {flags heap₀ nodes₀ bits₀ roots₀ : List ℕ} (w : TablesWithin D) (f : (D : Declarations) (ts : List Tree) → Known s t h D → AssertionsAt s D from ts → Flagged D (treesFrom ts) flags)
+      (k : Held heap₀ nodes₀ bits₀ []) (m : Stacked s heap₀ []) (z : length roots₀ ≡ 256) (heap nodes bits roots : List ℕ) (b : Roots) where
+    -- what placing the script's nodes asks, and what it says
+    ready : (ts : List Tree) → AssertionsAt s D from ts → Ready s t h flags heap₀ nodes₀ bits₀ roots₀ from D ts
+    ready ts a = record { known = x .known; functions = few-functions D w; assertions = a; flagged = f D ts (x .known) a; held = k; stacked = m; long = z }
 
-  pub over-tables : (b : Bool) → Tables (x .declarations) b → b ≡ false → (q : Reading) × (readingIn s ≡ some q) × (limitsPassed (rebuild q) ≡ false)
-  over-tables true w e = absurd (subst T e tt)
-  over-tables false w e = over (λ p. w (record { variables = p .variables; arrays = p .arrays; functions = p .functions }))
+    module _ (y : (D : Declarations) (ts : List Tree) → Ready s t h flags heap₀ nodes₀ bits₀ roots₀ from D ts → ScriptTo heap nodes bits roots D ts b) where
+      placed-by : {c : Roots} → b ≡ c → (ts : List Tree) → AssertionsAt s D from ts → ScriptTo heap nodes bits roots D ts c
+      placed-by q ts a = subst (ScriptTo heap nodes bits roots D ts) q (y D ts (ready ts a))
 
-  pub over-items : (heap nodes bits roots : List ℕ) (b : Bool) → ScriptTo heap nodes bits roots (x .declarations) (x .trees) b → b ≡ false → (q : Reading) × (readingIn s ≡ some q) × (limitsPassed (rebuild q) ≡ false)
-  over-items heap nodes bits roots true w e = absurd (subst T e tt)
-  over-items heap nodes bits roots false w e = over (λ p. subst T w (p .items))
+      pub over-items : b ≡ Over → (o : Rebuilt) → OverTo s D from o → RebuiltTo s t h heap nodes bits roots o
+      over-items q = over heap nodes bits roots (λ ts a p. ⊎-elim (λ e. subst T e (p .items)) (λ l. omega (arith, l, roots-counted D ts, p .roots)) (placed-by q ts a))
 
-  pub whole : (heap nodes bits roots : List ℕ) (b c : Bool) → n ≤ 256 → Tables (x .declarations) b → b ≡ true → ScriptTo heap nodes bits roots (x .declarations) (x .trees) c → c ≡ true
-      → WholeProblem s t h heap nodes bits roots n
-  whole heap nodes bits roots false c l w e p f = absurd (subst T (sym e) tt)
-  whole heap nodes bits roots true false l w e p f = absurd (subst T (sym f) tt)
-  whole heap nodes bits roots true true l w e p f = record {
-    declarations = x .declarations;
-    trees = x .trees;
-    reading = x .reading;
-    known = x .known;
-    passes = record { items = p .0 .inside; roots = omega (arith, l, roots-are); variables = w .variables; arrays = w .arrays; functions = w .functions };
-    held = p .0;
-    counted = x .roots;
-    rooted = subst (λ (k : ℕ). take k roots ≡ map (nodeOf (placed r .items)) (placed r .refs)) (sym (x .roots)) (p .1);
-  }
+      pub whole : {n : ℕ} → b ≡ Are n → RootsIn s D from b → WholeProblem s t h heap nodes bits roots n
+      whole {n} q v =
+          let (c, l) = subst (RootsIn s D from) q v in
+          let (i, j) = placed-by q (c .trees) (c .assertions) in
+          record {
+            declarations = D;
+            trees = c .trees;
+            reading = body-checked x c .reading;
+            known = x .known;
+            passes = record { items = i .inside; roots = omega (arith, l, roots-counted D (c .trees), c .roots); variables = w .variables; arrays = w .arrays; functions = w .functions };
+            held = i;
+            counted = c .roots;
+            rooted = subst (λ (k : ℕ). take k roots ≡ map (nodeOf (placed (r (c .trees)) .items)) (placed (r (c .trees)) .refs)) (sym (c .roots)) j;
+          }
+
+  pub none-placed : {b : Roots} → RootsIn s D from b → b ≡ No → readingIn s ≡ none
+  none-placed v q = body-none x (subst (RootsIn s D from) q v)

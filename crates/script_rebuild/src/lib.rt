@@ -14,17 +14,19 @@ ghost use Rattle.header_laws.specs.Body.{readingOf};
 ghost use Rattle.heap_laws.specs.Heap.{Held, Stacked};
 ghost use Rattle.script_rebuild.specs.Limits.{Tables};
 ghost use Rattle.script_rebuild.specs.Rebuilt.{WholeProblem, RebuiltTo};
+ghost use Rattle.script_rebuild.specs.Steps.{OverTo};
 ghost use Rattle.script_rebuild.specs.Decided.{lengthsOf, allWithin, needsOf, Decided};
 ghost use Rattle.readback.specs.Records.{inputs};
 ghost use Rattle.script_rebuild.specs.ArenaLengths.{ArenasAre};
+use place_script::Roots;
 use place_script::place_script;
 use refusals::MAX_ARENA;
 use refusals::MAX_ENTRIES;
-use refusals::MAX_ROOTS;
 use script_calls::FLAGS;
 use script_calls::called_in;
 use script_check::Check;
-use script_check::check_script;
+use script_check::assertions;
+use script_check::check_header;
 use script_fill::names_length;
 use script_heap::BITS;
 use script_heap::HEAP;
@@ -32,6 +34,7 @@ use script_heap::NODES;
 use script_names::TABLE;
 use script_opening::Begins;
 use script_opening::opening;
+use script_tokens::Step;
 
 // How many bytes the names of each table have.
 pub struct Arenas {
@@ -97,6 +100,17 @@ fn tables_fit(s: &[u8], t: &[u64; TABLE], h: &[u64; 4]) -> bool
     a.fnames <= MAX_ARENA
 }
 
+// What bytes are whose problem would be over a limit: a script, or none.
+fn over_limit(s: &[u8], t: &[u64; TABLE], h: &[u64; 4], from: usize) -> Rebuilt
+    requires { ⌜ ((D : Declarations) × Known (now s) (now t) (now h) D) × (from ≤ length (now s)) ⌝ }
+    ensures { λ r. ⌜ ((D : Declarations) → Known (now (s .entry)) (now (t .entry)) (now (h .entry)) D → OverTo (now (s .entry)) D from r) ⌝ }
+{
+    match assertions(s, t, h, from) {
+        Check::No => Rebuilt::NoScript,
+        Check::Yes(a, n) => Rebuilt::Limit,
+    }
+}
+
 // The script's problem, rebuilt. Ruled out: a limit told of bytes that are no script; a problem over a limit that is told as whole; roots left out.
 pub fn rebuild_script(
     s: &[u8],
@@ -114,20 +128,18 @@ pub fn rebuild_script(
     let Begins::At(p) = opening(s) else {
         return Rebuilt::NoScript;
     };
-    let Check::Yes(from, n) = check_script(s, t, h) else {
+    let Step::To(from) = check_header(s, t, h) else {
         return Rebuilt::NoScript;
     };
-    if n > MAX_ROOTS {
-        return Rebuilt::Limit;
-    }
     if !tables_fit(s, t, h) {
-        return Rebuilt::Limit;
+        return over_limit(s, t, h, from);
     }
     called_in(s, t, h, from, flags);
-    if !place_script(s, t, h, flags, heap, nodes, bits, roots, from) {
-        return Rebuilt::Limit;
+    match place_script(s, t, h, flags, heap, nodes, bits, roots, from) {
+        Roots::No => Rebuilt::NoScript,
+        Roots::Over => over_limit(s, t, h, from),
+        Roots::Are(n) => Rebuilt::Whole(n),
     }
-    Rebuilt::Whole(n)
 }
 
 // ---------------------------------------------------------------- room

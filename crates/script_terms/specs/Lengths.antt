@@ -21,6 +21,7 @@ use Rattle.sort_reader.specs.Selects.{operandOf, storesThen}
 use Rattle.script_decls.specs.Tails.{word-less}
 use Rattle.script_heads.specs.HeadLaws.{no-sort}
 use Rattle.script_terms.specs.States.{State, done, waits, index, value, stored, own, widths, rest, afterIndex, after, stateOf, enough, Asking, SortedTo, SortedBy}
+use Rattle.script_terms.specs.SortLaws.{of-sort}
 use Rattle.script_terms.specs.Turns.{BeforeIs}
 
 term-long : (t : Tree) → 0 < length (term t)
@@ -33,9 +34,7 @@ term-long (call n noTrees) = omega arith
 term-long (call n (more t ts)) = omega arith
 
 sort-rest : (o : Option TreeSort) (q : List ℕ) (σ : TreeSort) (r : List ℕ) → ofSort o q ≡ took σ r → q ≡ r
-unfolding ofSort
-sort-rest none q σ r e = absurd (impossible e)
-sort-rest (some τ) q σ r e = took-both τ σ q r e .1
+sort-rest o q σ r e = of-sort o q σ r e .1
 
 word-takes : (b v r : List ℕ) → expect (bytes ")") b ≡ took v r → length r < length b
 unfolding bytes
@@ -182,7 +181,7 @@ module _ (D : Declarations) where
   index-takes g i v (suc n) r τ z e = value-takes g i v n r τ z e
 
   -- whatever the state before the operand was
-  after-takes : (q : State) (σ : TreeSort) (g : ℕ) (r : List ℕ) (τ : TreeSort) (z : List ℕ) → rest g D (after q σ) r ≡ took τ z → length z < length r
+  pub after-takes : (q : State) (σ : TreeSort) (g : ℕ) (r : List ℕ) (τ : TreeSort) (z : List ℕ) → rest g D (after q σ) r ≡ took τ z → length z < length r
   unfolding after
   after-takes (done ρ) σ g r τ z e = wait-takes g stuck r τ z e
   after-takes (waits w) σ g r τ z e = wait-takes g (step w σ) r τ z e

@@ -5,3 +5,4 @@ pub mod OperandLaws
 pub mod TurnLaws
 pub mod OpenLaws
 pub mod Lengths
+pub mod SortLaws

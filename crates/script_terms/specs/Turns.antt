@@ -4,6 +4,7 @@ use mathlib.Core.Path.{_≡_}
 use mathlib.Core.List.{List, [], _∷_}
 use mathlib.Core.Bool.{Bool, true, false}
 use mathlib.Core.Option.{Option, none}
+use mathlib.Core.Logic.{_⊎_}
 use lib.ListN.{length, drop, getD}
 use Rattle.reading.specs.Trees.{Declarations}
 use Rattle.echo_spec.specs.Shapes.{shapeOf}
@@ -12,6 +13,8 @@ use Rattle.readback.specs.Reader.{Took, took, andThen}
 use Rattle.sort_reader.specs.Waits.{first, endsWith}
 use Rattle.sort_reader.specs.Sorted.{sorted, operands}
 use Rattle.script_entries.specs.Entries.{ArgumentsAt}
+use Rattle.script_heads.specs.declared.Head.{Head}
+use Rattle.script_heads.specs.declared.Head.the-variants.{No as NoHead, Constant, Variable, Nullary, Operator, Call, Select}
 use Rattle.script_heads.specs.Heads.{numeralsOf}
 use Rattle.script_terms.specs.States.{sortFrom, State, waits, rest, after, stateOf, callCode, Held, enough, Going, Asking, SortedTo}
 use Rattle.script_terms.specs.declared.Coded.{Coded}
@@ -77,6 +80,24 @@ NextSays s D p c x y z ws (Operand d e) = (d ≤ 19) × (d ≡ callCode → c �
 abbrev pub NextIs : List ℕ → ℕ → ℕ → ℕ → ℕ → ℕ → Next → Type 0
 NextIs s p c x y z r = (D : Declarations) (ws : List ℕ) → (c ≡ callCode → ArgumentsAt s x ws) → NextSays s D p c x y z ws r
 
+-- an operand that begins at place e: after a blank at place p; or after the bracket of a store there, and a blank
+abbrev pub Begun : List ℕ → ℕ → ℕ → Type 0
+Begun s p e = ((getD s p 0 ≡ 32) × (e ≡ p + 1)) ⊎ ((getD s p 0 ≡ 41) × (getD s (p + 1) 0 ≡ 32) × (e ≡ p + 2))
+
+-- a term that ends before place e: at place p, or with the bracket there
+abbrev pub Ended : List ℕ → ℕ → ℕ → Type 0
+Ended s p e = (e ≡ p) ⊎ ((getD s p 0 ≡ 41) × (e ≡ p + 1))
+
+abbrev pub StandsAt : List ℕ → ℕ → Next → Type 0
+StandsAt s p NoNext = Unit
+StandsAt s p (Done n e) = Ended s p e
+StandsAt s p (Operand d e) = Begun s p e
+
+-- the bytes from place p to place e
+abbrev pub MovedTo : List ℕ → ℕ → ℕ → Bool → Type 0
+MovedTo s p e true = Begun s p e
+MovedTo s p e false = 0 < e → Ended s p e
+
 -- an operand of the term from place a on follows; or the term was read, or has no sort
 abbrev pub Turned : List ℕ → Declarations → ℕ → ℕ → List ℕ → Bool → Type 0
 Turned s D a p w true = Asking s D a w p
@@ -105,6 +126,20 @@ pub record CodeIs (k m c : ℕ) : Type 0 where
 abbrev pub OpenedIs : List ℕ → Declarations → ℕ → Opened → Type 0
 OpenedIs s D a NotOpened = (f : ℕ) → enough s a ≤ f → sorted f D (drop a s) ≡ none
 OpenedIs s D a (At c x y z e) = Going s D a (c ∷ x ∷ y ∷ z ∷ []) e
+
+-- the place after a head
+abbrev pub headEnd : Head → ℕ
+headEnd NoHead = 0
+headEnd (Constant e) = e
+headEnd (Variable k w e) = e
+headEnd (Nullary g w e) = e
+headEnd (Operator k m i j e) = e
+headEnd (Call g p w e) = e
+headEnd (Select a i v n e) = e
+
+abbrev pub BeginsAt : Head → Opened → Type 0
+BeginsAt x NotOpened = Unit
+BeginsAt x (At c a b d e) = e ≡ headEnd x
 
 -- ---------------------------------------------------------------- turns
 

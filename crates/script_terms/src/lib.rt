@@ -1,4 +1,4 @@
-// The sort of the term at a place of a script: pass 1. A term is read by its head, and then operand by operand; what it still waits for is
+// The sort of the term at a place of a script. A term is read by its head, and then operand by operand; what it still waits for is
 // four numbers, its state. One function calls itself, and all that it keeps over that call is the state.
 // Under "Ruled out" stand wrong programs that a public function's contract refuses.
 ghost use mathlib.Core.Path.{_≡_};
@@ -8,8 +8,9 @@ ghost use lib.ListN.{length, drop, getD};
 ghost use Rattle.reading.specs.Trees.{Declarations};
 ghost use Rattle.echo_spec.specs.TreeSorts.{bool, bits};
 ghost use Rattle.script_entries.specs.Entries.{Known};
+ghost use Rattle.script_heads.specs.Heads.{HeadAt};
 ghost use Rattle.script_terms.specs.States.{State, sortFrom, after, Held, Usable, Going, SortedBy, SortAt};
-ghost use Rattle.script_terms.specs.Turns.{Ends, numeralCount, CodeIs, JoinedIs, AfterIs, ClosedIs, NextIs, NextTo, OpenedIs, TurnTo, BeforeIs};
+ghost use Rattle.script_terms.specs.Turns.{Ends, numeralCount, CodeIs, JoinedIs, AfterIs, ClosedIs, NextIs, StandsAt, NextTo, MovedTo, OpenedIs, BeginsAt, TurnTo, BeforeIs};
 use blast_kernel::shape;
 use script_entries::next_argument;
 use script_heads::Head;
@@ -108,7 +109,7 @@ enum Next {
 }
 
 // The state of a term after its head, and the place after the head; or that it has no sort.
-enum Opened {
+pub enum Opened {
     No,
     At(u64, u64, u64, u64, usize),
 }
@@ -299,8 +300,8 @@ fn put(w: &mut [u64; 4], r: Coded)
     w[3] = r.z;
 }
 
-// An operand of the sort n came.
-fn step(s: &[u8], w: &mut [u64; 4], n: u64)
+// An operand of the sort n came. Ruled out: the numbers left as they are; the state after a bit-vector where a Bool came.
+pub fn step(s: &[u8], w: &mut [u64; 4], n: u64)
     requires { ⌜ ((q : State) × Held (now s) (now w) q) ⌝ }
     ensures { λ _. ⌜ ((q : State) → Held (now (s .entry)) (now (w .entry)) q → Held (now (s .entry)) (now (w .exit)) (after q (sortFrom n))) ⌝ }
 {
@@ -355,7 +356,7 @@ fn close(s: &[u8], c: u64, x: u64, y: u64, z: u64) -> Closed
 // What stands at place p, for a term in this state.
 fn next_at(s: &[u8], p: usize, c: u64, x: u64, y: u64, z: u64) -> Next
     requires { ⌜ (p ≤ length (now s)) × (c ≡ 17 → x ≤ length (now s)) ⌝ }
-    ensures { λ r. ⌜ NextIs (now (s .entry)) p c x y z r ⌝ }
+    ensures { λ r. ⌜ NextIs (now (s .entry)) p c x y z r × StandsAt (now (s .entry)) p r ⌝ }
 {
     if c == DONE {
         return Next::Done(x, p);
@@ -383,10 +384,10 @@ fn next_at(s: &[u8], p: usize, c: u64, x: u64, y: u64, z: u64) -> Next
 }
 
 // Does an operand follow? Then the place is where it begins. Else the whole term was read and its sort is the second number; or the place is
-// 0, and it has none.
-fn more(s: &[u8], at: &mut usize, w: &mut [u64; 4]) -> bool
+// 0, and it has none. Ruled out: an operand that begins at its blank; a store's bracket that is not stepped over.
+pub fn more(s: &[u8], at: &mut usize, w: &mut [u64; 4]) -> bool
     requires { ⌜ (now at ≤ length (now s)) × Usable (now s) (now w) ⌝ }
-    ensures { λ r. ⌜ NextTo (now (s .entry)) (now (at .entry)) (now (w .entry)) (now (at .exit)) (now (w .exit)) r ⌝ }
+    ensures { λ r. ⌜ NextTo (now (s .entry)) (now (at .entry)) (now (w .entry)) (now (at .exit)) (now (w .exit)) r × MovedTo (now (s .entry)) (now (at .entry)) (now (at .exit)) r ⌝ }
 {
     let p = *at;
     match next_at(s, p, w[0], w[1], w[2], w[3]) {
@@ -438,12 +439,13 @@ fn code_of(k: u8, m: u64) -> u64
     c as u64
 }
 
-// The state of the term at a place after its head.
-fn open_at(s: &[u8], t: &[u64; TABLE], h: &[u64; 4], at: usize) -> Opened
-    requires { ⌜ ((D : Declarations) × Known (now s) (now t) (now h) D) ⌝ }
-    ensures { λ r. ⌜ ((D : Declarations) → Known (now (s .entry)) (now (t .entry)) (now (h .entry)) D → OpenedIs (now (s .entry)) D at r) ⌝ }
+// The state of a term after its head. Ruled out: the first number of an operator for the second; a call whose arguments are taken from another
+// place.
+pub fn head_state(x: Head, at: usize) -> Opened
+    requires { ⌜ ((s : List ℕ) × (D : Declarations) × HeadAt s D at x) ⌝ }
+    ensures { λ r. ⌜ ((s : List ℕ) (D : Declarations) → HeadAt s D at x → OpenedIs s D at r) × BeginsAt x r ⌝ }
 {
-    match head_at(s, t, h, at) {
+    match x {
         Head::No => Opened::No,
         Head::Constant(e) => Opened::At(DONE, (e - (at + 2)) as u64, 0, 0, e),
         Head::Variable(k, w, e) => Opened::At(DONE, w, 0, 0, e),
@@ -452,6 +454,14 @@ fn open_at(s: &[u8], t: &[u64; TABLE], h: &[u64; 4], at: usize) -> Opened
         Head::Call(g, p, w, e) => Opened::At(ARGUMENTS, p as u64, w, 0, e),
         Head::Select(a, i, v, n, e) => Opened::At(INDEX, n as u64, i, v, e),
     }
+}
+
+// The state of the term at a place after its head.
+fn open_at(s: &[u8], t: &[u64; TABLE], h: &[u64; 4], at: usize) -> Opened
+    requires { ⌜ ((D : Declarations) × Known (now s) (now t) (now h) D) ⌝ }
+    ensures { λ r. ⌜ ((D : Declarations) → Known (now (s .entry)) (now (t .entry)) (now (h .entry)) D → OpenedIs (now (s .entry)) D at r) ⌝ }
+{
+    head_state(head_at(s, t, h, at), at)
 }
 
 // A term is begun: its first state is written, and the place moved past its head.

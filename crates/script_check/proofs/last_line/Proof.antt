@@ -24,15 +24,15 @@ enum-told c = search needs
 
 returns : tie.Need-returns
 unfolding bytes
-returns c = λ D g e. going-none g e (reached-none (c .before .before .before .before .before .args .s .now) (expect lastLine (drop (c .before .before .before .before .before .args .p) (c .before .before .before .before .before .args .s .now))) (c .before .before .literal .ensures) (c .enum-told .given .1))
+returns c = λ D from n l g e. going-none g e (reached-none (c .before .before .before .before .before .args .s .now) (expect lastLine (drop (c .before .before .before .before .before .args .p) (c .before .before .before .before .before .args .s .now))) (c .before .before .literal .ensures) (c .enum-told .given .1))
 
 returns-2 : tie.Need-returns-2
 unfolding bytes
-returns-2 c = λ D g e. going-past g e (c .before .before .z .given .0 .0) (reached-to (c .before .before .before .before .before .before .before .args .s .now) (expect lastLine (drop (c .before .before .before .before .before .before .before .args .p) (c .before .before .before .before .before .before .before .args .s .now))) (c .before .before .before .before .literal .ensures) (c .before .before .z .given .1) .1) (c .if1 .taken)
+returns-2 c = λ D from n l g e. going-past g e (c .before .before .z .given .0 .0) (reached-to (c .before .before .before .before .before .before .before .args .s .now) (expect lastLine (drop (c .before .before .before .before .before .before .before .args .p) (c .before .before .before .before .before .before .before .args .s .now))) (c .before .before .before .before .literal .ensures) (c .before .before .z .given .1) .1) (c .if1 .taken)
 
 returns-3 : tie.Need-returns-3
 unfolding bytes
-returns-3 c = λ D g e. turn-last g (c .before .before .before .before .before .before .before .pre .0) e (c .before .before .z .given .0 .0) (reached-to (c .before .before .before .before .before .before .before .args .s .now) (expect lastLine (drop (c .before .before .before .before .before .before .before .args .p) (c .before .before .before .before .before .before .before .args .s .now))) (c .before .before .before .before .literal .ensures) (c .before .before .z .given .1) .1) (c .if1 .left)
+returns-3 c = λ D from n l g e. turn-last g l e (c .before .before .z .given .0 .0) (reached-to (c .before .before .before .before .before .before .before .args .s .now) (expect lastLine (drop (c .before .before .before .before .before .before .before .args .p) (c .before .before .before .before .before .before .before .args .s .now))) (c .before .before .before .before .literal .ensures) (c .before .before .z .given .1) .1) (c .if1 .left)
 
 pub last-line-spec : {M : Type 1} → statement M
 last-line-spec =

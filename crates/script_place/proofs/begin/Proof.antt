@@ -3,6 +3,7 @@ use mathlib.Core.Path.{refl, subst}
 use native.Mathlib.Omega.{arith}
 use Rattle.script_heads.specs.declared.Head.{Head}
 use Rattle.script_heads.specs.Heads.{HeadAt}
+use Rattle.script_place.specs.Terms.{Begins}
 use borrow.Author.Needs.{needs}
 use Rattle.script_place.proofs.begin.Statement.{statement}
 use Rattle.script_place.proofs.begin.Tie as tie
@@ -31,20 +32,20 @@ enum-known-x-3 c = search needs
 enum-known-x-4 : tie.Need-enum-known-x-4
 enum-known-x-4 c = search needs
 
-opened-requires : tie.Need-opened-requires
-opened-requires c κs = search needs
+opening-requires : tie.Need-opening-requires
+opening-requires c κs = subst (λ (y : Head). Begins (c .before .before .before .args .heap .now) y (c .before .before .before .args .at) (c .before .before .before .args .levels)) (c .before .x4 .given .1) (c .before .before .before .pre)
 
 enum-known-x-5 : tie.Need-enum-known-x-5
 enum-known-x-5 c = search needs
 
-opened-requires-2 : tie.Need-opened-requires-2
-opened-requires-2 c κs = search needs
+opening-requires-2 : tie.Need-opening-requires-2
+opening-requires-2 c κs = subst (λ (y : Head). Begins (c .before .before .before .args .heap .now) y (c .before .before .before .args .at) (c .before .before .before .args .levels)) (c .before .x5 .given .1) (c .before .before .before .pre)
 
 enum-known-x-6 : tie.Need-enum-known-x-6
 enum-known-x-6 c = search needs
 
-opened-requires-3 : tie.Need-opened-requires-3
-opened-requires-3 c κs = search needs
+opening-requires-3 : tie.Need-opening-requires-3
+opening-requires-3 c κs = subst (λ (y : Head). Begins (c .before .before .before .args .heap .now) y (c .before .before .before .args .at) (c .before .before .before .args .levels)) (c .before .x6 .given .1) (c .before .before .before .pre)
 
 returns : tie.Need-returns
 returns c = rw (c .enum-told .given .1) refl
@@ -59,13 +60,13 @@ returns-4 : tie.Need-returns-4
 returns-4 c = rw (c .before .x3 .given .1) refl
 
 returns-5 : tie.Need-returns-5
-returns-5 c = rw (c .before .before .x4 .given .1) (c .opened .ensures)
+returns-5 c = rw (c .before .before .x4 .given .1) (c .opening .ensures)
 
 returns-6 : tie.Need-returns-6
-returns-6 c = rw (c .before .before .x5 .given .1) (c .opened2 .ensures)
+returns-6 c = rw (c .before .before .x5 .given .1) (c .opening2 .ensures)
 
 returns-7 : tie.Need-returns-7
-returns-7 c = rw (c .before .before .x6 .given .1) (c .opened3 .ensures)
+returns-7 c = rw (c .before .before .x6 .given .1) (c .opening3 .ensures)
 
 pub begin-spec : {M : Type 1} → statement M
 begin-spec =
@@ -79,11 +80,11 @@ begin-spec =
     enum-known-x-2
     enum-known-x-3
     enum-known-x-4
-    opened-requires
+    opening-requires
     enum-known-x-5
-    opened-requires-2
+    opening-requires-2
     enum-known-x-6
-    opened-requires-3
+    opening-requires-3
     returns
     returns-2
     returns-3

@@ -13,6 +13,9 @@ use Rattle.script_place.proofs.pushed.Tie as tie
 enum-told : tie.Need-enum-told
 enum-told c = search needs
 
+enum-told-2 : tie.Need-enum-told-2
+enum-told-2 c = search needs
+
 enum-known-z : tie.Need-enum-known-z
 enum-known-z c = search needs
 
@@ -35,16 +38,20 @@ returns-3 : tie.Need-returns-3
 returns-3 c = rw (c .enum-told .given .1) refl
 
 returns-4 : tie.Need-returns-4
-returns-4 c = rw (c .before .before .before .before .z .given .1) (λ nodes bits t refs h k. subst (λ (b : Bool). Pushed (c .before .before .before .before .before .before .before .args .s .now) (c .before .push-node .last .0) refs (here (c .before .before .before .before .z .given .0 .0)) b) (c .if1 .left) (c .before .push-node .ensures .1 nodes bits t (c .before .before .before .before .before .before .before .args .s .now) refs h k))
+returns-4 c = rw (c .enum-told2 .given .1) refl
 
 returns-5 : tie.Need-returns-5
-returns-5 c = rw (c .before .before .before .before .z2 .given .1) (λ nodes bits t refs h k. subst (λ (b : Bool). Pushed (c .before .before .before .before .before .before .before .args .s .now) (c .before .push-constant .last .1 .0) refs (pending (bitsAt (c .before .before .before .before .before .before .before .args .s .now) (c .before .before .before .before .z2 .given .0 .0))) b) (c .if2 .left) (c .before .push-constant .ensures .1 nodes bits t refs h k))
+returns-5 c = rw (c .before .before .before .before .z .given .1) (λ nodes bits t refs h k. subst (λ (b : Bool). Pushed (c .before .before .before .before .before .before .before .args .s .now) (c .before .push-node .last .0) refs (here (c .before .before .before .before .z .given .0 .0)) b) (c .if1 .left) (c .before .push-node .ensures .1 nodes bits t (c .before .before .before .before .before .before .before .args .s .now) refs h k))
+
+returns-6 : tie.Need-returns-6
+returns-6 c = rw (c .before .before .before .before .z2 .given .1) (λ nodes bits t refs h k. subst (λ (b : Bool). Pushed (c .before .before .before .before .before .before .before .args .s .now) (c .before .push-constant .last .1 .0) refs (pending (bitsAt (c .before .before .before .before .before .before .before .args .s .now) (c .before .before .before .before .z2 .given .0 .0))) b) (c .if2 .left) (c .before .push-constant .ensures .1 nodes bits t refs h k))
 
 pub pushed-spec : {M : Type 1} → statement M
 pushed-spec =
     tie.close
     (tie.spec
     enum-told
+    enum-told-2
     enum-known-z
     push-node-requires
     returns
@@ -53,4 +60,5 @@ pushed-spec =
     returns-2
     returns-3
     returns-4
-    returns-5)
+    returns-5
+    returns-6)

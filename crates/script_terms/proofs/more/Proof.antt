@@ -1,4 +1,7 @@
 -- `more` meets its contract: the numbers after what stands at the place.
+use mathlib.Core.Path.{subst}
+use native.Mathlib.Omega.{arith}
+use Rattle.script_terms.specs.Turns.{StandsAt}
 use Rattle.script_terms.specs.TurnLaws.{more-none, more-done, more-operand}
 use borrow.Author.Needs.{needs}
 use Rattle.script_terms.proofs.more.Statement.{statement}
@@ -35,13 +38,13 @@ element-write-w-2 : tie.Need-element-write-w-2
 element-write-w-2 c = search needs
 
 returns : tie.Need-returns
-returns c = λ D a x. more-none (c .before .before .before .before .before .before .before .before .before .args .s .now) (c .before .before .before .before .before .before .before .before .before .args .w .now) (c .before .before .before .before .before .before .before .before .before .args .at .now) D a x (c .before .before .next-at .result) (c .before .before .next-at .ensures) (c .enum-told .given .1)
+returns c = (λ D a x. more-none (c .before .before .before .before .before .before .before .before .before .args .s .now) (c .before .before .before .before .before .before .before .before .before .args .w .now) (c .before .before .before .before .before .before .before .before .before .args .at .now) D a x (c .before .before .next-at .result) (c .before .before .next-at .ensures .0) (c .enum-told .given .1), λ l. absurd (omega arith))
 
 returns-2 : tie.Need-returns-2
-returns-2 c = λ D a x. more-done (c .before .before .before .before .before .before .before .before .before .before .args .s .now) (c .before .before .before .before .before .before .before .before .before .before .args .w .now) (c .before .before .before .before .before .before .before .before .before .before .args .at .now) D a x (c .before .before .before .next-at .result) (c .before .before .before .next-at .ensures) (c .before .n .given .1)
+returns-2 c = (λ D a x. more-done (c .before .before .before .before .before .before .before .before .before .before .args .s .now) (c .before .before .before .before .before .before .before .before .before .before .args .w .now) (c .before .before .before .before .before .before .before .before .before .before .args .at .now) D a x (c .before .before .before .next-at .result) (c .before .before .before .next-at .ensures .0) (c .before .n .given .1), λ _. subst (StandsAt (c .before .before .before .before .before .before .before .before .before .before .args .s .now) (c .before .before .before .before .before .before .before .before .before .before .args .at .now)) (c .before .n .given .1) (c .before .before .before .next-at .ensures .1))
 
 returns-3 : tie.Need-returns-3
-returns-3 c = λ D a x. more-operand (c .before .before .before .before .before .before .before .before .before .before .args .s .now) (c .before .before .before .before .before .before .before .before .before .before .args .w .now) (c .before .before .before .before .before .before .before .before .before .before .args .at .now) D a x (c .before .before .before .next-at .result) (c .before .before .before .next-at .ensures) (c .before .d .given .1)
+returns-3 c = (λ D a x. more-operand (c .before .before .before .before .before .before .before .before .before .before .args .s .now) (c .before .before .before .before .before .before .before .before .before .before .args .w .now) (c .before .before .before .before .before .before .before .before .before .before .args .at .now) D a x (c .before .before .before .next-at .result) (c .before .before .before .next-at .ensures .0) (c .before .d .given .1), subst (StandsAt (c .before .before .before .before .before .before .before .before .before .before .args .s .now) (c .before .before .before .before .before .before .before .before .before .before .args .at .now)) (c .before .d .given .1) (c .before .before .before .next-at .ensures .1))
 
 pub more-spec : {M : Type 1} → statement M
 more-spec =
