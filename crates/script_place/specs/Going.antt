@@ -33,7 +33,7 @@ use Rattle.script_place.specs.declared.Begun.{Begun}
 use Rattle.script_place.specs.declared.Begun.the-variants.{Done, Nullary as Alone, Open}
 use Rattle.script_heap.specs.declared.Settled.{Settled}
 use Rattle.script_heap.specs.declared.Settled.the-variants.{Over as OverLimit, At}
-use Rattle.script_place.specs.Terms.{Term, State, SortIs, PlacedAs, PlacedAt, OpenedTo, BegunTo, Finished, Opening}
+use Rattle.script_place.specs.Terms.{Term, State, SortIs, PlacedAs, PlacedAt, BegunTo, Finished, Opening}
 use Rattle.script_place.specs.Forms.{leaf-form, no-head, operator-form, call-form, select-form, constant-digits}
 use Rattle.script_place.specs.Closing.{operands-of-apply, operands-of-call, operands-of-select}
 
@@ -64,49 +64,43 @@ leaf-sort : {s : List ℕ} {D : Declarations} {a w e : ℕ} → Reads s D a (1 �
 unfolding stateOf rest
 leaf-sort {s} {D} {a} {w} {e} x = (x .moved refl, x .high, λ f l. let (g, m, k) = x .reads f l in k ∙ ap (λ o. rest g D o (drop e s)) (x .held .is))
 
-module _ (s heap : List ℕ) (D : Declarations) (at levels : ℕ) where
+module _ (s : List ℕ) (D : Declarations) (at : ℕ) where
   done-is : (a b : Placed) → SortIs s D at b → _≡_ {A = Begun} (Done a) (Done b) → SortIs s D at a
   done-is a b k e = let f : a ≡ b = cc in subst (SortIs s D at) (sym f) k
 
-  open-is : (x : Head) → HeadAt s D at x → (p : Placed) → OpenedTo (countIn heap) x at levels (Done p) → SortIs s D at p
-  open-is x k NotPlaced e = e s D k
-  open-is x k Over e = tt
-  open-is x k (Node i w f) e = absurd e
-  open-is x k (Digits i w f) e = absurd e
-
   -- ITS SORT, where its head places it.
-  pub done-sorts : (x : Head) → HeadAt s D at x → (p : Placed) → BegunTo heap x at levels (Done p) → SortIs s D at p
+  pub done-sorts : (x : Head) → HeadAt s D at x → (p : Placed) → BegunTo x at (Done p) → SortIs s D at p
   done-sorts No k p e = done-is p NotPlaced (nothing-open k) e
   done-sorts (Constant f) k p e = done-is p (Digits (at + 2) (f - (at + 2)) f) (leaf-sort (constant-going k)) e
   done-sorts (Variable i w f) k p e = done-is p (Node i w f) (leaf-sort (variable-going k)) e
   done-sorts (Nullary f w z) k p e = absurd (let y : _≡_ {A = ℕ} 0 1 = cc in omega arith)
-  done-sorts (Operator i m a b f) k p e = open-is (Operator i m a b f) k p e
-  done-sorts (Call f i w z) k p e = open-is (Call f i w z) k p e
-  done-sorts (Select a i v n f) k p e = open-is (Select a i v n f) k p e
+  done-sorts (Operator i m a b f) k p e = absurd (let y : _≡_ {A = ℕ} 0 1 = cc in omega arith)
+  done-sorts (Call f i w z) k p e = absurd (let y : _≡_ {A = ℕ} 0 1 = cc in omega arith)
+  done-sorts (Select a i v n f) k p e = absurd (let y : _≡_ {A = ℕ} 0 1 = cc in omega arith)
 
 pub alone-sorts : {s : List ℕ} {D : Declarations} {at g w e : ℕ} → HeadAt s D at (Nullary g w e) → (r : Settled) (p : Placed) → Finished r w e p → SortIs s D at p
 alone-sorts {s} {D} {at} k OverLimit p f = subst (SortIs s D at) (sym f) tt
 alone-sorts {s} {D} {at} k (At i) p f = subst (SortIs s D at) (sym f) (leaf-sort (nullary-going k))
 
 -- a call without arguments
-pub alone-head : (heap : List ℕ) (at levels : ℕ) (x : Head) (f w e : ℕ) → BegunTo heap x at levels (Alone f w e) → x ≡ Nullary f w e
-alone-head heap at levels No f w e k = absurd (let y : _≡_ {A = ℕ} 0 1 = cc in omega arith)
-alone-head heap at levels (Constant z) f w e k = absurd (let y : _≡_ {A = ℕ} 0 1 = cc in omega arith)
-alone-head heap at levels (Variable i v z) f w e k = absurd (let y : _≡_ {A = ℕ} 0 1 = cc in omega arith)
-alone-head heap at levels (Nullary i v z) f w e k = cc
-alone-head heap at levels (Operator i m a b z) f w e k = absurd k
-alone-head heap at levels (Call i p v z) f w e k = absurd k
-alone-head heap at levels (Select a i v n z) f w e k = absurd k
+pub alone-head : (at : ℕ) (x : Head) (f w e : ℕ) → BegunTo x at (Alone f w e) → x ≡ Nullary f w e
+alone-head at No f w e k = absurd (let y : _≡_ {A = ℕ} 0 1 = cc in omega arith)
+alone-head at (Constant z) f w e k = absurd (let y : _≡_ {A = ℕ} 0 1 = cc in omega arith)
+alone-head at (Variable i v z) f w e k = absurd (let y : _≡_ {A = ℕ} 0 1 = cc in omega arith)
+alone-head at (Nullary i v z) f w e k = cc
+alone-head at (Operator i m a b z) f w e k = absurd (let y : _≡_ {A = ℕ} 0 1 = cc in omega arith)
+alone-head at (Call i p v z) f w e k = absurd (let y : _≡_ {A = ℕ} 0 1 = cc in omega arith)
+alone-head at (Select a i v n z) f w e k = absurd (let y : _≡_ {A = ℕ} 0 1 = cc in omega arith)
 
--- the state of a term with operands
-pub open-state : (heap : List ℕ) (at levels : ℕ) (x : Head) (c a b d f : ℕ) → BegunTo heap x at levels (Open c a b d f) → OpenedTo (countIn heap) x at levels (Open c a b d f) × Opening x
-open-state heap at levels No c a b d f e = absurd (let y : _≡_ {A = ℕ} 0 1 = cc in omega arith)
-open-state heap at levels (Constant z) c a b d f e = absurd (let y : _≡_ {A = ℕ} 0 1 = cc in omega arith)
-open-state heap at levels (Variable i v z) c a b d f e = absurd (let y : _≡_ {A = ℕ} 0 1 = cc in omega arith)
-open-state heap at levels (Nullary i v z) c a b d f e = absurd (let y : _≡_ {A = ℕ} 0 1 = cc in omega arith)
-open-state heap at levels (Operator i m j k z) c a b d f e = (e, tt)
-open-state heap at levels (Call i p v z) c a b d f e = (e, tt)
-open-state heap at levels (Select j i v n z) c a b d f e = (e, tt)
+-- a term with operands
+pub open-opens : (at : ℕ) (x : Head) → BegunTo x at Open → Opening x
+open-opens at No k = absurd (let y : _≡_ {A = ℕ} 0 1 = cc in omega arith)
+open-opens at (Constant z) k = absurd (let y : _≡_ {A = ℕ} 0 1 = cc in omega arith)
+open-opens at (Variable i v z) k = absurd (let y : _≡_ {A = ℕ} 0 1 = cc in omega arith)
+open-opens at (Nullary i v z) k = absurd (let y : _≡_ {A = ℕ} 0 1 = cc in omega arith)
+open-opens at (Operator i m a b z) k = tt
+open-opens at (Call i p v z) k = tt
+open-opens at (Select a i v n z) k = tt
 
 -- a term whose operands begin at place e, with n stores to close
 pub record Opened {s t h : List ℕ} {at : ℕ} (q : Term s t h at) (x : Head) (e n : ℕ) : Type 0 where
@@ -160,12 +154,6 @@ module _ {s t h heap nodes bits : List ℕ} {at levels : ℕ} (q : Term s t h at
       let c = g .held .count in
       omega arith
 
-  done-open : (x : Head) → HeadAt s D at x → (e n : ℕ) → Opened q x e n → (p : Placed) → OpenedTo (countIn heap) x at levels (Done p) → PlacedAs q g heap nodes bits p
-  done-open x k e n o NotPlaced l = unsorted q (l s D k)
-  done-open x k e n o Over l = too-deep (o .leaf) l
-  done-open x k e n o (Node i w f) l = absurd l
-  done-open x k e n o (Digits d w f) l = absurd l
-
   constant-placed : (e : ℕ) → ConstantAt s D at e → PlacedAs q g heap nodes bits (Digits (at + 2) (e - (at + 2)) e)
   unfolding put
   constant-placed e x =
@@ -213,14 +201,14 @@ module _ {s t h heap nodes bits : List ℕ} {at levels : ℕ} (q : Term s t h at
   done-as a b k e = let f : a ≡ b = cc in subst (PlacedAs q g heap nodes bits) (sym f) k
 
   -- A TERM THAT ITS HEAD PLACES.
-  pub done-placed : (x : Head) → HeadAt s D at x → (p : Placed) → BegunTo heap x at levels (Done p) → PlacedAs q g heap nodes bits p
+  pub done-placed : (x : Head) → HeadAt s D at x → (p : Placed) → BegunTo x at (Done p) → PlacedAs q g heap nodes bits p
   done-placed No k p e = no-head s D at (q .steps) (q .tree) (q .rest) (q .read) (q .sort) (q .sorted) k
   done-placed (Constant f) k p e = done-as p (Digits (at + 2) (f - (at + 2)) f) (constant-placed f k) e
   done-placed (Variable i w f) k p e = done-as p (Node i w f) (variable-placed i w f k) e
   done-placed (Nullary f w z) k p e = absurd (let y : _≡_ {A = ℕ} 0 1 = cc in omega arith)
-  done-placed (Operator i m a b f) k p e = done-open (Operator i m a b f) k f 0 (operator-opened k) p e
-  done-placed (Call f i w z) k p e = done-open (Call f i w z) k z 0 (call-opened k) p e
-  done-placed (Select a i v n f) k p e = done-open (Select a i v n f) k f n (select-opened k) p e
+  done-placed (Operator i m a b f) k p e = absurd (let y : _≡_ {A = ℕ} 0 1 = cc in omega arith)
+  done-placed (Call f i w z) k p e = absurd (let y : _≡_ {A = ℕ} 0 1 = cc in omega arith)
+  done-placed (Select a i v n f) k p e = absurd (let y : _≡_ {A = ℕ} 0 1 = cc in omega arith)
 
   opened-same : (x : Head) (e n f : ℕ) → Opened q x e n → f ≡ e → Opened q x f n
   opened-same x e n f o a = subst (λ (y : ℕ). Opened q x y n) (sym a) o
@@ -236,9 +224,14 @@ module _ {s t h heap nodes bits : List ℕ} {at levels : ℕ} (q : Term s t h at
   open-head (Select a i v n z) k o f e = (n, opened-same _ z n f (select-opened k) e)
 
 -- a term that its head places, told
-pub done-at : {s t h heap nodes bits : List ℕ} {at levels : ℕ} (x : Head) → ((D : Declarations) → Known s t h D → HeadAt s D at x) → (p : Placed) → BegunTo heap x at levels (Done p)
+pub done-at : {s t h heap nodes bits : List ℕ} {at levels : ℕ} (x : Head) → ((D : Declarations) → Known s t h D → HeadAt s D at x) → (p : Placed) → BegunTo x at (Done p)
     → PlacedAt s t h heap nodes bits at levels heap nodes bits p
 done-at {s} {t} {h} {heap} {nodes} {bits} {at} {levels} x k p b = record {
-  sorted = λ D κ. done-sorts s heap D at levels x (k D κ) p b;
+  sorted = λ D κ. done-sorts s D at x (k D κ) p b;
   placed = λ q g. done-placed q g x (k (q .declarations) (q .known)) p b;
 }
+
+-- no node more fits, told
+pub deep-at : {s t h heap nodes bits : List ℕ} {at levels : ℕ} (x : Head) → ((D : Declarations) → Known s t h D → HeadAt s D at x) → Opening x → 2048 ≤ countIn heap + levels
+    → PlacedAt s t h heap nodes bits at levels heap nodes bits Over
+deep-at x k o l = record { sorted = λ D κ. tt; placed = λ q g. too-deep q g (open-head q g x (k (q .declarations) (q .known)) o (headEnd x) refl .1 .leaf) l }

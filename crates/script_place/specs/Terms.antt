@@ -27,6 +27,8 @@ use Rattle.script_place.specs.declared.Placed.{Placed}
 use Rattle.script_place.specs.declared.Placed.the-variants.{No as NotPlaced, Over, Node, Constant as Digits}
 use Rattle.script_place.specs.declared.Begun.{Begun}
 use Rattle.script_place.specs.declared.Begun.the-variants.{Done, Nullary as Alone, Open}
+use Rattle.script_place.specs.declared.Waits.{Waits}
+use Rattle.script_place.specs.declared.Waits.the-variants.{No as NoWait, Over as Full, At as Waiting}
 use Rattle.script_place.specs.declared.More.{More}
 use Rattle.script_place.specs.declared.More.the-variants.{No as NoneMore, Over as NoMore, To}
 
@@ -93,13 +95,10 @@ pub record PlacedAt (s t h heap nodes bits : List ℕ) (at levels : ℕ) (heap�
 -- ---------------------------------------------------------------- heads
 
 -- there is no room for one node more under the others; the term has no sort; or its operands begin at place e, in this state
-abbrev pub OpenedTo : ℕ → Head → ℕ → ℕ → Begun → Type 0
-OpenedTo count x at levels (Done NotPlaced) = (s : List ℕ) (D : Declarations) → HeadAt s D at x → SortAt s D at NoSort
-OpenedTo count x at levels (Done Over) = 2048 ≤ count + levels
-OpenedTo count x at levels (Done (Node i w f)) = ⊥
-OpenedTo count x at levels (Done (Digits q w f)) = ⊥
-OpenedTo count x at levels (Alone g w f) = ⊥
-OpenedTo count x at levels (Open c a b d e) =
+abbrev pub OpenedTo : ℕ → Head → ℕ → ℕ → Waits → Type 0
+OpenedTo count x at levels NoWait = (s : List ℕ) (D : Declarations) → HeadAt s D at x → SortAt s D at NoSort
+OpenedTo count x at levels Full = 2048 ≤ count + levels
+OpenedTo count x at levels (Waiting c a b d e) =
     (count + levels < 2048) × (e ≡ headEnd x) × ((s : List ℕ) (D : Declarations) → HeadAt s D at x → Reads s D at (c ∷ a ∷ b ∷ d ∷ []) e)
 
 -- where the head says that the term goes on
@@ -110,14 +109,14 @@ pub record Begins (heap : List ℕ) (x : Head) (at levels : ℕ) : Type 0 where
   pub few : levels ≤ 2048
   pub count : countIn heap ≤ 2048
 
-abbrev pub BegunTo : List ℕ → Head → ℕ → ℕ → Begun → Type 0
-BegunTo heap No at levels r = r ≡ Done NotPlaced
-BegunTo heap (Constant e) at levels r = r ≡ Done (Digits (at + 2) (e - (at + 2)) e)
-BegunTo heap (Variable k w e) at levels r = r ≡ Done (Node k w e)
-BegunTo heap (Nullary g w e) at levels r = r ≡ Alone g w e
-BegunTo heap (Operator k m i j e) at levels r = OpenedTo (countIn heap) (Operator k m i j e) at levels r
-BegunTo heap (Call g p w e) at levels r = OpenedTo (countIn heap) (Call g p w e) at levels r
-BegunTo heap (Select a i v n e) at levels r = OpenedTo (countIn heap) (Select a i v n e) at levels r
+abbrev pub BegunTo : Head → ℕ → Begun → Type 0
+BegunTo No at r = r ≡ Done NotPlaced
+BegunTo (Constant e) at r = r ≡ Done (Digits (at + 2) (e - (at + 2)) e)
+BegunTo (Variable k w e) at r = r ≡ Done (Node k w e)
+BegunTo (Nullary g w e) at r = r ≡ Alone g w e
+BegunTo (Operator k m i j e) at r = r ≡ Open
+BegunTo (Call g p w e) at r = r ≡ Open
+BegunTo (Select a i v n e) at r = r ≡ Open
 
 -- ---------------------------------------------------------------- operands
 

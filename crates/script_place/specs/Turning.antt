@@ -15,7 +15,7 @@ use Rattle.readback.specs.Rebuild.{Item, aCall, Ref, here, pending, Put, ended 
 use Rattle.readback.specs.Reader.{Took, took, andThen}
 use Rattle.reader_laws.specs.TermsStrict.{and-then, term-strict}
 use Rattle.sort_reader.specs.Sorted.{sorted}
-use Rattle.heap_laws.specs.Heap.{topIn, pendingIn, bitsAt, Held, Stacked}
+use Rattle.heap_laws.specs.Heap.{topIn, countIn, pendingIn, bitsAt, Held, Stacked}
 use Rattle.place_laws.specs.Ahead.{Ahead, ends, closes, next, at-close, at-end}
 use Rattle.place_laws.specs.Room.{put-grows}
 use Rattle.script_entries.specs.Entries.{Known}
@@ -23,7 +23,7 @@ use Rattle.script_heads.specs.declared.Head.{Head}
 use Rattle.script_heads.specs.declared.Head.the-variants.{Nullary}
 use Rattle.script_heads.specs.Heads.{HeadAt}
 use Rattle.script_terms.specs.declared.Sort.the-variants.{No as NoSort, Is}
-use Rattle.script_terms.specs.States.{sortFrom, State as Waiting, rest, after, Held as HeldIn, enough, Going as Reads, Asking, SortedTo, SortAt}
+use Rattle.script_terms.specs.States.{sortFrom, State as Standing, rest, after, Held as HeldIn, enough, Going as Reads, Asking, SortedTo, SortAt}
 use Rattle.script_terms.specs.SortLaws.{sorted-term}
 use Rattle.script_terms.specs.Turns.{Begun, Ended, MovedTo, NextTo}
 use Rattle.script_terms.specs.TurnLaws.{came, went, asking-of, sorted-of}
@@ -35,11 +35,12 @@ use Rattle.script_ends.specs.Ends.{EndedAs, Ending}
 use Rattle.script_ends.specs.Parts.{SeenOf, OneMore}
 use Rattle.script_place.specs.declared.Placed.{Placed}
 use Rattle.script_place.specs.declared.Placed.the-variants.{No as NotPlaced, Over, Node, Constant as Digits}
-use Rattle.script_place.specs.declared.Begun.the-variants.{Nullary as Alone, Open}
+use Rattle.script_place.specs.declared.Begun.the-variants.{Nullary as Alone}
+use Rattle.script_place.specs.declared.Waits.the-variants.{At as Waiting}
 use Rattle.script_place.specs.declared.More.{More}
 use Rattle.script_place.specs.declared.More.the-variants.{No as NoneMore, Over as NoMore, To}
-use Rattle.script_place.specs.Terms.{Term, State, After, SortIs, PlacedTo, PlacedAs, PlacedAt, BegunTo, Pushable, MoreTo, Finished, Opening, Closing, Closes, ClosedTo}
-use Rattle.script_place.specs.Going.{sorted-at, unsorted, sorts-as, alone-sorts, alone-head, open-state, open-head}
+use Rattle.script_place.specs.Terms.{Term, State, After, SortIs, PlacedTo, PlacedAs, PlacedAt, OpenedTo, BegunTo, Pushable, MoreTo, Finished, Opening, Closing, Closes, ClosedTo}
+use Rattle.script_place.specs.Going.{sorted-at, unsorted, sorts-as, alone-sorts, alone-head, open-head}
 use Rattle.script_place.specs.Closing.{alone-placed}
 use Rattle.script_place.specs.Loop.{Going, going-start, alone-ending, bracket-here, operand-term, operand-state, step-over, step-going, close-going, going-closing}
 
@@ -168,16 +169,16 @@ after-sorts {s} {heap} {nodes} {bits} D {at} n p {w} {e} a k =
     let i : n ≡ w = sym (a .wide ∙ width-of n) in
     (a .low, a .high, λ f l. k .2 f l ∙ (λ j. took (sortFrom (i j)) (a .ends j)))
 
-none-placed : {s t h heap nodes bits : List ℕ} {at levels : ℕ} {heap′ nodes′ bits′ : List ℕ} → ((D : Declarations) → Known s t h D → SortAt s D at NoSort) → PlacedAt s t h heap nodes bits at levels heap′ nodes′ bits′ NotPlaced
+pub none-placed : {s t h heap nodes bits : List ℕ} {at levels : ℕ} {heap′ nodes′ bits′ : List ℕ} → ((D : Declarations) → Known s t h D → SortAt s D at NoSort) → PlacedAt s t h heap nodes bits at levels heap′ nodes′ bits′ NotPlaced
 none-placed k = record { sorted = k; placed = λ q g. unsorted q (k (q .declarations) (q .known)) }
 
 -- A CALL WITHOUT ARGUMENTS.
-pub alone-at : {s t h heap nodes bits : List ℕ} {at levels : ℕ} {heap′ nodes′ bits′ : List ℕ} (x : Head) (f w e : ℕ) → ((D : Declarations) → Known s t h D → HeadAt s D at x) → BegunTo heap x at levels (Alone f w e)
+pub alone-at : {s t h heap nodes bits : List ℕ} {at levels : ℕ} {heap′ nodes′ bits′ : List ℕ} (x : Head) (f w e : ℕ) → ((D : Declarations) → Known s t h D → HeadAt s D at x) → BegunTo x at (Alone f w e)
     → (r : Settled) (p : Placed)
     → ((i : List Item) (refs rs : List Ref) → Ending s heap nodes bits (topIn heap) i refs rs → EndedAs s heap′ nodes′ bits′ refs (endedWith (pendingIn rs) (λ node. aCall f w (map node rs)) i) r) → Finished r w e p
     → PlacedAt s t h heap nodes bits at levels heap′ nodes′ bits′ p
 alone-at {s} {t} {h} {heap} {nodes} {bits} {at} {levels} {heap′} {nodes′} {bits′} x f w e k b r p i j =
-    let known-head : (D : Declarations) → Known s t h D → HeadAt s D at (Nullary f w e) = λ D κ. subst (HeadAt s D at) (alone-head heap at levels x f w e b) (k D κ) in
+    let known-head : (D : Declarations) → Known s t h D → HeadAt s D at (Nullary f w e) = λ D κ. subst (HeadAt s D at) (alone-head at x f w e b) (k D κ) in
     record {
       sorted = λ D κ. alone-sorts (known-head D κ) r p j;
       placed = λ q g.
@@ -196,10 +197,9 @@ pub record Turning (s t h heap₀ nodes₀ bits₀ : List ℕ) (at levels : ℕ)
 
 -- BEFORE THE FIRST OPERAND.
 pub turning-start : {s t h heap nodes bits : List ℕ} {at levels : ℕ} {D : Declarations} → Known s t h D → State D s heap nodes bits levels → (x : Head) → ((D : Declarations) → Known s t h D → HeadAt s D at x)
-    → {c a b d e : ℕ} → BegunTo heap x at levels (Open c a b d e)
+    → Opening x → {c a b d e : ℕ} → OpenedTo (countIn heap) x at levels (Waiting c a b d e)
     → Turning s t h heap nodes bits at levels x heap nodes bits (topIn heap) (c ∷ a ∷ b ∷ d ∷ []) e (record { count = 0; first = 0; second = 0 })
-turning-start {s} {t} {h} {heap} {nodes} {bits} {at} {levels} {D} known g x k {c} {a} {b} {d} {e} m =
-    let ((l, i, j), o) = open-state heap at levels x c a b d e m in
+turning-start {s} {t} {h} {heap} {nodes} {bits} {at} {levels} {D} known g x k o {c} {a} {b} {d} {e} (l, i, j) =
     let u = g .waiting in
     record {
       opens = o;
@@ -275,7 +275,7 @@ module _ {s t h heap₀ nodes₀ bits₀ : List ℕ} {at levels : ℕ} {x₀ : H
           by-placed D κ (Digits i u f) k o = absurd o
 
       -- IT WAITS, and the term goes on.
-      pub turn-next : {w″ : List ℕ} {a : More} {n f : ℕ} {v′ : Seen} → MoreTo s heap₁ heap₂ z a → a ≡ To n f → OneMore v n v′ → ((u : Waiting) → HeldIn s w′ u → HeldIn s w″ (after u (sortFrom n)))
+      pub turn-next : {w″ : List ℕ} {a : More} {n f : ℕ} {v′ : Seen} → MoreTo s heap₁ heap₂ z a → a ≡ To n f → OneMore v n v′ → ((u : Standing) → HeldIn s w′ u → HeldIn s w″ (after u (sortFrom n)))
           → Turning s t h heap₀ nodes₀ bits₀ at levels x₀ heap₂ nodes₁ bits₁ base w″ f v′ × (e < f) × (f ≤ length s)
       turn-next {w″} {a} {n} {f} {v′} l q i j =
           let o : MoreTo s heap₁ heap₂ z (To n f) = subst (MoreTo s heap₁ heap₂ z) q l in

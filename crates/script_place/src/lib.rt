@@ -1,10 +1,12 @@
 // The nodes of a term, placed as its text is checked: each operand first, then the constants among them, then the term's own node.
 // Under "Ruled out" stand wrong programs that a public function's contract refuses.
 ghost use mathlib.Core.Path.{_≡_};
-ghost use Prim.Native.Nat.{_+_, _≤_, _<_};
+ghost use mathlib.Core.List.{List};
+ghost use Prim.Native.Nat.{ℕ, _+_, _≤_, _<_};
 ghost use Rattle.reading.specs.Trees.{Declarations};
 ghost use Rattle.heap_laws.specs.Heap.{countIn};
 ghost use Rattle.script_entries.specs.Entries.{Known};
+ghost use Rattle.script_heads.specs.Heads.{HeadAt};
 ghost use Rattle.script_place.specs.Terms.{State, PlacedAt, OpenedTo, Begins, BegunTo, Pushable, MoreTo, Finished, Closes, ClosedTo};
 use script_ends::Seen;
 use script_ends::end_call;
@@ -37,11 +39,18 @@ pub enum Placed {
     Constant(usize, u64, usize),
 }
 
-// A term by its head: it is placed; it is a call without arguments; or its state, and the place where its operands begin.
+// A term by its head: it is placed; it is a call without arguments; or its operands begin.
 enum Begun {
     Done(Placed),
     Nullary(u64, u64, usize),
-    Open(u64, u64, u64, u64, usize),
+    Open,
+}
+
+// A term with operands: its state, and the place where they begin; or that it has no sort; or that there is no room for it.
+enum Waits {
+    No,
+    Over,
+    At(u64, u64, u64, u64, usize),
 }
 
 // An operand that waits now: its width and the place after it.
@@ -54,33 +63,33 @@ enum More {
 // ---------------------------------------------------------------- heads
 
 // A term that is to become a node, if there is room for it and those around it.
-fn opening(heap: &[u64; HEAP], x: Head, at: usize, levels: u64) -> Begun
+fn opening(heap: &[u64; HEAP], x: Head, at: usize, levels: u64) -> Waits
     requires { ⌜ Begins (now heap) x at levels ⌝ }
     ensures { λ r. ⌜ OpenedTo (countIn (now (heap .entry))) x at levels r ⌝ }
 {
     let count = heap[COUNT];
     if count + levels >= 2048 {
-        return Begun::Done(Placed::Over);
+        return Waits::Over;
     }
     match head_state(x, at) {
-        Opened::No => Begun::Done(Placed::No),
-        Opened::At(c, a, b, d, e) => Begun::Open(c, a, b, d, e),
+        Opened::No => Waits::No,
+        Opened::At(c, a, b, d, e) => Waits::At(c, a, b, d, e),
     }
 }
 
 // What a term begins with.
-fn begin(heap: &[u64; HEAP], x: Head, at: usize, levels: u64) -> Begun
-    requires { ⌜ Begins (now heap) x at levels ⌝ }
-    ensures { λ r. ⌜ BegunTo (now (heap .entry)) x at levels r ⌝ }
+fn begin(x: Head, at: usize) -> Begun
+    requires { ⌜ ((s : List ℕ) × (D : Declarations) × HeadAt s D at x) ⌝ }
+    ensures { λ r. ⌜ BegunTo x at r ⌝ }
 {
     match x {
         Head::No => Begun::Done(Placed::No),
         Head::Constant(e) => Begun::Done(Placed::Constant(at + 2, (e - (at + 2)) as u64, e)),
         Head::Variable(k, w, e) => Begun::Done(Placed::Node(k as u64, w, e)),
         Head::Nullary(g, w, e) => Begun::Nullary(g as u64, w, e),
-        Head::Operator(k, m, i, j, e) => opening(heap, x, at, levels),
-        Head::Call(g, p, w, e) => opening(heap, x, at, levels),
-        Head::Select(a, i, v, n, e) => opening(heap, x, at, levels),
+        Head::Operator(k, m, i, j, e) => Begun::Open,
+        Head::Call(g, p, w, e) => Begun::Open,
+        Head::Select(a, i, v, n, e) => Begun::Open,
     }
 }
 
@@ -181,7 +190,7 @@ pub fn place(
     ensures { λ r. ⌜ PlacedAt (now (s .entry)) (now (t .entry)) (now (h .entry)) (now (heap .entry)) (now (nodes .entry)) (now (bits .entry)) at levels (now (heap .exit)) (now (nodes .exit)) (now (bits .exit)) r ⌝ }
 {
     let x = head_at(s, t, h, at);
-    let y = begin(heap, x, at, levels);
+    let y = begin(x, at);
     match y {
         Begun::Done(p) => p,
         Begun::Nullary(g, w, e) => {
@@ -189,32 +198,39 @@ pub fn place(
             let r = end_call(s, heap, nodes, bits, top, g, w);
             finished(r, w, e)
         }
-        Begun::Open(c, a, b, d, from) => {
-            let base = heap[TOP] as usize;
-            let mut w = [c, a, b, d];
-            let mut e = from;
-            let mut v = Seen {
-                count: 0,
-                first: 0,
-                second: 0,
-            };
-            while more(s, &mut e, &mut w) {
-                let z = place(s, t, h, heap, nodes, bits, e, levels + 1);
-                let m = pushed(s, heap, z);
-                match m {
-                    More::No => return Placed::No,
-                    More::Over => return Placed::Over,
-                    More::To(n, f) => {
-                        v = one_more(v, n);
-                        e = f;
-                        step(s, &mut w, n);
+        Begun::Open => {
+            let o = opening(heap, x, at, levels);
+            match o {
+                Waits::No => Placed::No,
+                Waits::Over => Placed::Over,
+                Waits::At(c, a, b, d, from) => {
+                    let base = heap[TOP] as usize;
+                    let mut w = [c, a, b, d];
+                    let mut e = from;
+                    let mut v = Seen {
+                        count: 0,
+                        first: 0,
+                        second: 0,
+                    };
+                    while more(s, &mut e, &mut w) {
+                        let z = place(s, t, h, heap, nodes, bits, e, levels + 1);
+                        let m = pushed(s, heap, z);
+                        match m {
+                            More::No => return Placed::No,
+                            More::Over => return Placed::Over,
+                            More::To(n, f) => {
+                                v = one_more(v, n);
+                                e = f;
+                                step(s, &mut w, n);
+                            }
+                        }
                     }
+                    if e == 0 {
+                        return Placed::No;
+                    }
+                    closed(s, heap, nodes, bits, x, base, v, e - 1)
                 }
             }
-            if e == 0 {
-                return Placed::No;
-            }
-            closed(s, heap, nodes, bits, x, base, v, e - 1)
         }
     }
 }
