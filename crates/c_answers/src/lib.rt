@@ -16,7 +16,7 @@ use sliver_kernel::Outcome;
 
 // What the printer answers. Number 0: the script is written, and length is its length. Any other number: a refusal, and length is 0.
 #[repr(C)]
-#[derive(Drop)]
+#[derive(Clone, Copy)]
 pub struct EchoAnswer {
     pub number: u64,
     pub length: u64,
@@ -25,7 +25,7 @@ pub struct EchoAnswer {
 // What the width pass answers. Number 0: the widths are written, and count is how many. Number 1: count is the node refused, or
 // the node count where the two columns of the array table differ in length. Any other number: count is 0.
 #[repr(C)]
-#[derive(Drop)]
+#[derive(Clone, Copy)]
 pub struct WidthAnswer {
     pub number: u64,
     pub count: u64,
@@ -82,7 +82,7 @@ pub fn width_answer(r: Outcome) -> WidthAnswer
 // What is told of a script. Number 0: length is the script's length, and terms is how many terms the walk enters. Any other number: a
 // refusal, and both are 0.
 #[repr(C)]
-#[derive(Drop)]
+#[derive(Clone, Copy)]
 pub struct SizeAnswer {
     pub number: u64,
     pub length: u64,
@@ -110,7 +110,7 @@ pub fn size_answer(r: Size) -> SizeAnswer
 // The fewest roots that still refuse. Number is the printer's with endless room, count is how many positions there are (0, 1 or 2), and
 // first and second are the positions; one that is not there is 0.
 #[repr(C)]
-#[derive(Drop)]
+#[derive(Clone, Copy)]
 pub struct FewestAnswer {
     pub number: u64,
     pub count: u64,

@@ -13,7 +13,7 @@ ghost use Rattle.echo_bytes.specs.Page.{page, start, saturated, written};
 ghost use Rattle.echo_bytes.specs.Numerals.{padded, DigitCount, Share};
 
 // Where the next byte goes, and how long all pieces so far are, whether they fitted or not.
-#[derive(Drop)]
+#[derive(Clone, Copy)]
 pub struct Place {
     pub at: usize,
     pub need: usize,

@@ -21,7 +21,7 @@ use echo_walk::{TABLES, is_leaf, node_here, shape_at};
 use lent::{BYTES, NODES, NUMBERS, SIDE, get};
 
 // What is told of a node: its kind, its level, its operands and how many they are.
-#[derive(Drop)]
+#[derive(Clone, Copy)]
 pub struct Told {
     pub kind: u8,
     pub level: u64,

@@ -13,7 +13,7 @@ use lent::{BYTES, NUMBERS, clear_bytes};
 use refusals::EchoError;
 
 // What the printer answers: its number and length are `answered`'s.
-#[derive(Drop)]
+#[derive(Clone, Copy)]
 pub enum Echo {
     // The length of the script, which is written.
     Printed(usize),

@@ -102,7 +102,7 @@ const CLOSE: u64 = 3;
 const CLOSE_COMMA: u64 = 4;
 
 // An operand: its node, the level that may stand there without brackets, and what is written behind it.
-#[derive(Drop)]
+#[derive(Clone, Copy)]
 pub struct Piece {
     pub node: u64,
     pub level: u64,

@@ -47,7 +47,7 @@ pub fn print<'a>(
 // ---------------------------------------------------------------- the checks
 
 // What was written, or the number of a refusal.
-#[derive(Drop)]
+#[derive(Clone, Copy)]
 pub enum Out {
     Done(Place),
     Refused(u64),

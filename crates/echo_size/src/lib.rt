@@ -18,7 +18,7 @@ use lent::{BYTES, NODES, NUMBERS, ROOTS, SIDE, node_count};
 use refusals::{EchoError, MAX_ENTRIES, MAX_NODES};
 
 // What is told of a problem: its number, length and count are `answered`'s.
-#[derive(Drop)]
+#[derive(Clone, Copy)]
 pub enum Size {
     // The length of the script, and how many terms the walk enters.
     Script(usize, u64),

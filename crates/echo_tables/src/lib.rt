@@ -39,7 +39,7 @@ const KIND_CALL: u8 = 38;
 // ---------------------------------------------------------------- lookups
 
 // The place that a search found.
-#[derive(Drop)]
+#[derive(Clone, Copy)]
 pub enum Found {
     At(usize),
     Nothing,
@@ -174,7 +174,7 @@ pub fn rot_amount(bits: &[u8], w: u64) -> u64
 // ---------------------------------------------------------------- what operands a node has
 
 // What operands follow the head of a term.
-#[derive(Drop)]
+#[derive(Clone, Copy)]
 pub enum Form {
     // none
     Leaf,

@@ -14,7 +14,7 @@ use refusals::{MAX_ENTRIES, MAX_NODES, NAME, SHARED};
 
 // What is told of a problem: the printer's number with endless room, 0 too, and the positions of the roots that still give it. The number
 // and the list are `answered`'s.
-#[derive(Drop)]
+#[derive(Clone, Copy)]
 pub enum Fewest {
     NoRoot(u64),
     OneRoot(u64, usize),

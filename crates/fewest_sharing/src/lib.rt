@@ -11,7 +11,7 @@ use lent::node_count;
 use refusals::MAX_NODES;
 
 // Which roots share an operator, by their positions.
-#[derive(Drop)]
+#[derive(Clone, Copy)]
 pub enum Sharing {
     // No operator is shared, with all roots.
     Unshared,

@@ -114,7 +114,7 @@ pub fn taken<'a>(counts: &[usize; INPUTS], k: usize, column: &'a [u64]) -> &'a [
 // ---------------------------------------------------------------- all inputs
 
 // What is asked of a problem: its script, the script's size, or the script with its constants hidden.
-#[derive(Drop)]
+#[derive(Clone, Copy)]
 enum Asked {
     Print,
     Measure,
@@ -128,7 +128,7 @@ enum Asked {
 }
 
 // What is told of it; what was not asked for is some answer.
-#[derive(Drop)]
+#[derive(Clone, Copy)]
 struct Told {
     echo: Echo,
     size: Size,

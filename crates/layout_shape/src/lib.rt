@@ -45,7 +45,7 @@ pub fn limit(k: usize) -> u64
 // ---------------------------------------------------------------- reading
 
 // What the bytes are. With the first fault goes the number of its input, from 0.
-#[derive(Drop)]
+#[derive(Clone, Copy)]
 pub enum Shape {
     Early(usize),
     TooLarge(usize),

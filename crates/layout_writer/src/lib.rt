@@ -87,7 +87,7 @@ fn put_problem(
 // ---------------------------------------------------------------- reading
 
 // What became of the script.
-#[derive(Drop)]
+#[derive(Clone, Copy)]
 pub enum Said {
     // The problem is written, and this is how many bytes it has.
     Written(usize),
@@ -337,7 +337,7 @@ fn tell(said: Said, out: &mut [u8]) -> usize
 }
 
 // What is said, and how many bytes at the front of the buffer show it.
-#[derive(Drop)]
+#[derive(Clone, Copy)]
 pub struct Told {
     pub said: Said,
     pub length: usize,

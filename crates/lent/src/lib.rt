@@ -96,7 +96,7 @@ pub fn size(s: &[u8]) -> usize
 // ---------------------------------------------------------------- node records
 
 // A record: its kind and its four operands, as wide as the widths and side entries that they are compared with.
-#[derive(Drop)]
+#[derive(Clone, Copy)]
 pub struct Node {
     pub kind: u8,
     pub a: u64,

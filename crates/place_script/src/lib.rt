@@ -22,7 +22,7 @@ use script_place::{Placed, place};
 use script_tokens::{Number, Step, literal};
 
 // How many roots a script has, all nodes of which are placed; or that the bytes are no script; or that they are over a limit.
-#[derive(Drop)]
+#[derive(Clone, Copy)]
 pub enum Roots {
     No,
     Over,

@@ -17,7 +17,7 @@ use refusals::EchoError;
 // ---------------------------------------------------------------- what is said
 
 // What became of the input. With a fault goes the number of its input, from 0.
-#[derive(Drop)]
+#[derive(Clone, Copy)]
 pub enum Said {
     // The script is written, and this is its length.
     Script(usize),
@@ -185,7 +185,7 @@ fn tell(said: Said, out: &mut [u8]) -> usize
 }
 
 // What is said, and how many bytes at the front of the buffer show it.
-#[derive(Drop)]
+#[derive(Clone, Copy)]
 pub struct Told {
     pub said: Said,
     pub length: usize,

@@ -9,7 +9,7 @@ use script_reader::{Outcome, ReadError};
 // Number 0: the script is read, and so many elements of each output are used, the columns of a table told once. Any other number: a refusal,
 // and all others are 0.
 #[repr(C)]
-#[derive(Drop)]
+#[derive(Clone, Copy)]
 pub struct ReadAnswer {
     pub number: u64,
     pub nodes: u64,

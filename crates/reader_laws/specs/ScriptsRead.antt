@@ -125,8 +125,9 @@ AllOk ok (x ∷ xs) = ok x × AllOk ok xs
 read-many : {A : Type 0} (p : List ℕ → Option (Took A)) (text : A → List ℕ) (ok : A → Type 0) → ((x : A) → ok x → (r : List ℕ) → p (text x ++ r) ≡ took x r)
     → (xs : List A) → AllOk ok xs → (f : ℕ) (r : List ℕ) → length xs < f → p r ≡ none → many p f (texts text xs ++ r) ≡ took xs r
 unfolding many texts and_then
-read-many p text ok h xs k zero r l e = absurd (omega arith)
+read-many p text ok h [] k zero r l e = absurd (omega arith)
 read-many p text ok h [] k (suc f) r l e = rw (e, many)
+read-many p text ok h (x ∷ xs) (k, ks) zero r l e = absurd (omega arith)
 read-many {A} p text ok h (x ∷ xs) (k, ks) (suc f) r l e =
     let q : (text x ++ texts text xs) ++ r ≡ text x ++ (texts text xs ++ r) = append_assoc (text x) (texts text xs) r in
     let a = h x k (texts text xs ++ r) in

@@ -8,7 +8,7 @@ ghost use Rattle.refusals.specs.Numbers.{error_number, Numbered};
 // ---------------------------------------------------------------- refusals
 
 // Why a problem is refused: the Rust's seven, and five more; and why shorter records are.
-#[derive(Drop)]
+#[derive(Clone, Copy)]
 pub enum EchoError {
     // A node is not well formed, columns of a table differ in length, a root is not a node, or a select or call is of none in the tables.
     Malformed,

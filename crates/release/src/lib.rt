@@ -19,7 +19,7 @@ use script_names::TABLE;
 use script_rebuild::{Rebuilt, rebuild_script};
 
 // Each name has one meaning; or a number, and the script that it is told of, from 0.
-#[derive(Drop)]
+#[derive(Clone, Copy)]
 pub enum Outcome {
     OneMeaning,
     Refused(u64, u64),

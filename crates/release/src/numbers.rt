@@ -7,7 +7,7 @@ use crate::Outcome;
 
 // Number 0: each name has one meaning, and script is 0. Any other number: a refusal, told of this script, from 0.
 #[repr(C)]
-#[derive(Drop)]
+#[derive(Clone, Copy)]
 pub struct ReleaseAnswer {
     pub number: u64,
     pub script: u64,

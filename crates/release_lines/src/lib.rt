@@ -10,7 +10,7 @@ ghost use Rattle.release_lines.specs.Lines.{ends_line, DeclaredAt, NextLine};
 use script_tokens::{Step, bar_at, name_end};
 
 // Where a declaration's name begins, the place after its last bar, the place after its line; or that there is no declaration.
-#[derive(Drop)]
+#[derive(Clone, Copy)]
 pub enum Line {
     End,
     Is(usize, usize, usize),

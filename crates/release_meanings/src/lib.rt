@@ -12,7 +12,7 @@ use release_names::{ENTRIES, Entered, HEADS, enter_script};
 use script_lines::{Found, next_script};
 
 // The earliest script that disagrees with one before it, or that there is none.
-#[derive(Drop)]
+#[derive(Clone, Copy)]
 pub enum Meanings {
     One,
     Two(u64),

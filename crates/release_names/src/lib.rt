@@ -24,14 +24,14 @@ pub const HEADS: usize = 4096;
 const LINKS: usize = 131072;
 
 // Where the name of an entry begins, or that no entry has the name.
-#[derive(Drop)]
+#[derive(Clone, Copy)]
 pub enum Found {
     Nothing,
     At(usize),
 }
 
 // How many entries there are now, or that a declaration differs from one of the same name.
-#[derive(Drop)]
+#[derive(Clone, Copy)]
 pub enum Entered {
     Clash,
     Count(usize),

@@ -8,7 +8,7 @@ use short_records::Converted;
 
 // What a problem came to: the number that was answered, where all is as recorded; what was answered where it is not; or a damaged
 // list.
-#[derive(Drop)]
+#[derive(Clone, Copy)]
 enum Verdict {
     Same(u64),
     Other(u64, u64),
@@ -150,7 +150,7 @@ fn next(fd: i32) -> Verdict {
 // ---------------------------------------------------------------- the tally
 
 // How many problems there were and how many had another answer, and how many had each number.
-#[derive(Drop)]
+#[derive(Clone, Copy)]
 struct Tally {
     problems: u64,
     differences: u64,

@@ -7,7 +7,7 @@ use release::Outcome;
 use replay::{Unpacked, agree8, line};
 
 // What a file came to: the number that was answered, where all is as recorded; what was answered where it is not; or a damaged list.
-#[derive(Drop)]
+#[derive(Clone, Copy)]
 enum Verdict {
     Same(u64),
     Other(u64, u64),
@@ -101,7 +101,7 @@ fn next(fd: i32) -> Verdict {
 // ---------------------------------------------------------------- the tally
 
 // How many files there were and how many had another answer, and how many had each number.
-#[derive(Drop)]
+#[derive(Clone, Copy)]
 struct Tally {
     files: u64,
     differences: u64,

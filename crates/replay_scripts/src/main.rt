@@ -11,7 +11,7 @@ const LONGEST: usize = 20480;
 const MOST: usize = 1024;
 
 // What a file came to: as recorded, with so many scripts; the first script, from 0, that was answered otherwise; or a damaged list.
-#[derive(Drop)]
+#[derive(Clone, Copy)]
 enum Verdict {
     Same(u64),
     Other(u64),
@@ -87,7 +87,7 @@ fn sum(a: u64, b: u64) -> u64 {
     std::num::wrapping_add_u64(a, b)
 }
 
-#[derive(Drop)]
+#[derive(Clone, Copy)]
 struct Tally {
     files: u64,
     scripts: u64,

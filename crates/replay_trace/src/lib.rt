@@ -23,7 +23,7 @@ pub const VALUES: u64 = 15;
 const MAX_MASK: u64 = 64;
 
 // What the replay answers: its number and rows are `answered`'s.
-#[derive(Drop)]
+#[derive(Clone, Copy)]
 pub enum Trace {
     // How many rows there are; their masks and counts are written.
     Rows(usize),

@@ -19,7 +19,7 @@ use script_terms::{Sort, sort_at};
 use script_tokens::{Step, literal};
 
 // Where the assertions begin and how many there are, or that the script has no reading.
-#[derive(Drop)]
+#[derive(Clone, Copy)]
 pub enum Check {
     No,
     Yes(usize, usize),

@@ -16,14 +16,14 @@ use script_names::{Found, TABLE, enter, find_line};
 use script_tokens::{Number, Step, literal, name_end, numeral};
 
 // A line: where its name begins, the place after the name's last bar, and the place after the line.
-#[derive(Drop)]
+#[derive(Clone, Copy)]
 pub enum Line {
     No,
     Is(usize, usize, usize),
 }
 
 // Lines of one kind: how many names are declared now, and the place after them; or that a name may not be declared.
-#[derive(Drop)]
+#[derive(Clone, Copy)]
 pub enum Lines {
     No,
     To(usize, usize),

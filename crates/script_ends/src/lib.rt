@@ -20,7 +20,7 @@ use script_heap::{
 };
 
 // How many operands there were, and the widths of the first two; a Bool has width 0.
-#[derive(Drop)]
+#[derive(Clone, Copy)]
 pub struct Seen {
     pub count: u64,
     pub first: u64,

@@ -22,7 +22,7 @@ const SECOND: usize = 8704;
 
 // What a name is: nothing that is declared; a variable's number and width; an array's number, index width and value width; a function's
 // number, the place where the sorts of its arguments begin, and its width.
-#[derive(Drop)]
+#[derive(Clone, Copy)]
 pub enum Entry {
     Nothing,
     Variable(usize, u64),
@@ -31,14 +31,14 @@ pub enum Entry {
 }
 
 // The widths of an array.
-#[derive(Drop)]
+#[derive(Clone, Copy)]
 pub struct Widths {
     pub index: u64,
     pub value: u64,
 }
 
 // Where the sorts of a function's arguments begin, and its width.
-#[derive(Drop)]
+#[derive(Clone, Copy)]
 pub struct Signature {
     pub arguments: usize,
     pub width: u64,
@@ -46,7 +46,7 @@ pub struct Signature {
 
 // What a line declares, as two numbers: a variable's width, and 0; an array's index width and value width; where the sorts of a function's
 // arguments begin, and its width.
-#[derive(Drop)]
+#[derive(Clone, Copy)]
 struct Measure {
     first: u64,
     second: u64,

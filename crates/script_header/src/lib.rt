@@ -13,7 +13,7 @@ use script_names::TABLE;
 use script_tokens::{Step, literal};
 
 // Where the declarations begin; how many variables there are, how many variables and arrays, how many names in all; where they end.
-#[derive(Drop)]
+#[derive(Clone, Copy)]
 pub enum Header {
     No,
     Read(usize, usize, usize, usize, usize),

@@ -19,7 +19,7 @@ use script_symbols::kind_of;
 use script_tokens::{Number, Step, byte_at, digits_end, literal, name_end, numeral, word_end};
 
 // The head of a term, and where what follows it begins.
-#[derive(Drop)]
+#[derive(Clone, Copy)]
 pub enum Head {
     // no term that has a sort begins here
     No,

@@ -85,7 +85,7 @@ const SELECT: u8 = 37;
 const CALL: u8 = 38;
 
 // What an addition answers: that the nodes would be over a limit, or the number of the node.
-#[derive(Drop)]
+#[derive(Clone, Copy)]
 pub enum Settled {
     Over,
     At(u64),

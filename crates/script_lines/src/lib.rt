@@ -9,7 +9,7 @@ ghost use Rattle.script_lines.specs.Lines.{check_sat_line, begins, following_scr
 ghost use Rattle.script_lines.specs.Scanning.{found_of, fresh_at, starts_at, ahead, scanned, Without};
 
 // What a search for the first script found: its length, or that there is no check-sat line.
-#[derive(Drop)]
+#[derive(Clone, Copy)]
 pub enum Found {
     Script(usize),
     Nothing,

@@ -8,7 +8,7 @@ use crate::Found;
 // What a search for the first script of a file answers. Found 1: length is the first script's. Found 0: there is no check-sat line, and length
 // is 0.
 #[repr(C)]
-#[derive(Drop)]
+#[derive(Clone, Copy)]
 pub struct ScriptAnswer {
     pub found: u64,
     pub length: u64,

@@ -22,7 +22,7 @@ const NEXT: usize = 1536;
 const HEADS: usize = 3072;
 
 // The number of the line that declares a name, and the place where the name begins there; or that no line does.
-#[derive(Drop)]
+#[derive(Clone, Copy)]
 pub enum Found {
     Nothing,
     At(usize, usize),

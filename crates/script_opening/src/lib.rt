@@ -9,14 +9,14 @@ ghost use Rattle.script_opening.specs.Openings.{opening_at};
 use script_tokens::{Step, literal};
 
 // The bytes of a script, and how far they are read.
-#[derive(Drop)]
+#[derive(Clone, Copy)]
 pub struct Reader<'a> {
     pub src: &'a [u8],
     pub at: usize,
 }
 
 // The place of the logic's name, or that no script begins here.
-#[derive(Drop)]
+#[derive(Clone, Copy)]
 pub enum Begins {
     At(usize),
     Nowhere,

@@ -17,7 +17,7 @@ use script_terms::{Opened, head_state, more, step};
 
 // A term that is placed: its node, or the place of its digits if it is a constant; its width, 0 of a Bool; and the place after it. Or that no
 // term with a sort stands there; or that there is no room for it.
-#[derive(Drop)]
+#[derive(Clone, Copy)]
 pub enum Placed {
     No,
     Over,
@@ -26,7 +26,7 @@ pub enum Placed {
 }
 
 // A term by its head: it is placed; it is a call without arguments; or its operands begin.
-#[derive(Drop)]
+#[derive(Clone, Copy)]
 enum Begun {
     Done(Placed),
     Nullary(u64, u64, usize),
@@ -34,7 +34,7 @@ enum Begun {
 }
 
 // A term with operands: its state, and the place where they begin; or that it has no sort; or that there is no room for it.
-#[derive(Drop)]
+#[derive(Clone, Copy)]
 enum Waits {
     No,
     Over,
@@ -42,7 +42,7 @@ enum Waits {
 }
 
 // An operand that waits now: its width and the place after it.
-#[derive(Drop)]
+#[derive(Clone, Copy)]
 enum More {
     No,
     Over,

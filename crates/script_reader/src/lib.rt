@@ -17,7 +17,7 @@ use script_rebuild::decide;
 // ---------------------------------------------------------------- what is answered
 
 // How many elements are used of each output, the columns of a table, which are of one length, told once.
-#[derive(Drop)]
+#[derive(Clone, Copy)]
 pub struct Sizes {
     pub nodes: usize,
     pub bits: usize,
@@ -32,7 +32,7 @@ pub struct Sizes {
 }
 
 // Why a script is not read.
-#[derive(Drop)]
+#[derive(Clone, Copy)]
 pub enum ReadError {
     // The bytes are no problem's script.
     NoScript,
@@ -42,7 +42,7 @@ pub enum ReadError {
     Room,
 }
 
-#[derive(Drop)]
+#[derive(Clone, Copy)]
 pub enum Outcome {
     Read(Sizes),
     Refused(ReadError),

@@ -28,7 +28,7 @@ use script_opening::{Begins, opening};
 use script_tokens::Step;
 
 // How many bytes the names of each table have.
-#[derive(Drop)]
+#[derive(Clone, Copy)]
 pub struct Arenas {
     pub names: usize,
     pub anames: usize,
@@ -54,7 +54,7 @@ fn arena_lengths(s: &[u8], t: &[u64; TABLE], h: &[u64; 4]) -> Arenas
 }
 
 // What became of a script: the bytes are none; its problem is over a limit; or how many roots its problem has.
-#[derive(Drop)]
+#[derive(Clone, Copy)]
 pub enum Rebuilt {
     NoScript,
     Limit,
@@ -62,7 +62,7 @@ pub enum Rebuilt {
 }
 
 // How many elements each output needs.
-#[derive(Drop)]
+#[derive(Clone, Copy)]
 pub struct Needs {
     pub lengths: [u64; 18],
 }

@@ -79,7 +79,7 @@ const OWN: u64 = 21;
 const FRESH: u64 = 22;
 
 // A state: its code and the numbers that go with it.
-#[derive(Drop)]
+#[derive(Clone, Copy)]
 struct Coded {
     code: u64,
     x: u64,
@@ -88,14 +88,14 @@ struct Coded {
 }
 
 // The sort of a term as a number, 0 for Bool and else the width of a bit-vector, and the place after the term; or that it has none.
-#[derive(Drop)]
+#[derive(Clone, Copy)]
 pub enum Sort {
     No,
     Is(u64, usize),
 }
 
 // What a bracket makes of a term: its sort, or nothing.
-#[derive(Drop)]
+#[derive(Clone, Copy)]
 enum Closed {
     No,
     Is(u64),
@@ -103,7 +103,7 @@ enum Closed {
 
 // What stands at a place, for a term in some state: nothing that has a sort; the end, with the sort and the place after it; an operand, with
 // the code of the state that waits for it and the place where it begins.
-#[derive(Drop)]
+#[derive(Clone, Copy)]
 enum Next {
     No,
     Done(u64, usize),
@@ -111,7 +111,7 @@ enum Next {
 }
 
 // The state of a term after its head, and the place after the head; or that it has no sort.
-#[derive(Drop)]
+#[derive(Clone, Copy)]
 pub enum Opened {
     No,
     At(u64, u64, u64, u64, usize),

@@ -12,14 +12,14 @@ ghost use Rattle.script_tokens.specs.Stretches.{Runs, Within};
 ghost use Rattle.script_tokens.specs.Numerals.{Digits};
 
 // The place after what was read, or that something else stands there.
-#[derive(Drop)]
+#[derive(Clone, Copy)]
 pub enum Step {
     No,
     To(usize),
 }
 
 // A number and the place after it, or that no numeral of 64 bits stands there.
-#[derive(Drop)]
+#[derive(Clone, Copy)]
 pub enum Number {
     No,
     Is(u64, usize),

@@ -15,7 +15,7 @@ use lent::clear_bytes;
 use refusals::{EchoError, MAX_NODE_BYTES, MAX_NODES, RECORD};
 
 // What a conversion answers: its number and length are `answered`'s.
-#[derive(Drop)]
+#[derive(Clone, Copy)]
 pub enum Converted {
     // The length of the result, which is written.
     Done(usize),
@@ -90,7 +90,7 @@ pub fn shorten(old: &[u8], out: &mut [u8]) -> Converted
 // ---------------------------------------------------------------- new to old
 
 // What new bytes are: so many whole records, or refused.
-#[derive(Drop)]
+#[derive(Clone, Copy)]
 pub enum Counted {
     Whole(usize),
     Refused(EchoError),

@@ -6,7 +6,7 @@ use crate::Converted;
 
 // Number 0: the result is written, and length is its length. Any other number: a refusal, and length is 0.
 #[repr(C)]
-#[derive(Drop)]
+#[derive(Clone, Copy)]
 pub struct RecordAnswer {
     pub number: u64,
     pub length: u64,

@@ -254,7 +254,7 @@ fn copy(ws: &[u64], out: &mut [u64])
 }
 
 // What the width pass answers: its number and count are `answered`'s.
-#[derive(Drop)]
+#[derive(Clone, Copy)]
 pub enum Outcome {
     // The node count: the widths are written.
     Accepted(usize),

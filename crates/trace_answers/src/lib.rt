@@ -8,7 +8,7 @@ use replay_trace::{Trace, VALUES, WIDE};
 
 // Number 0: the masks and counts of so many rows are written. Any other number: a refusal, and rows is 0.
 #[repr(C)]
-#[derive(Drop)]
+#[derive(Clone, Copy)]
 pub struct TraceAnswer {
     pub number: u64,
     pub rows: u64,

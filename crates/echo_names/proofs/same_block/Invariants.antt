@@ -1,0 +1,10 @@
+-- `same_block` meets its contract: what was compared so far is known at each turn.
+use Prim.Native.Nat.{◌+◌, ◌-◌, ◌≤◌}
+use Rattle.echo_names.specs.Compared.{Compared}
+use Rattle.echo_names.proofs.same_block.Given as goal
+
+abbrev pub invariant-loop-k : goal.invariant-loop-k
+invariant-loop-k l = (l.k ≤ 16) × Compared l.a l.b l.i (l.i + l.k) l.ok
+
+abbrev pub decreases-loop-k : goal.decreases-loop-k
+decreases-loop-k l = 16 - l.k

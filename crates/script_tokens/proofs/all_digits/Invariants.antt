@@ -1,0 +1,13 @@
+-- `all_digits` meets its contract: at each turn nothing so far ends the stretch, or it is told.
+use Prim.Native.Nat.{◌+◌, ◌-◌, ◌≤◌}
+use mathlib.Core.Path.{◌≡◌}
+use mathlib.Core.Bool.{true}
+use Rattle.script_tokens.specs.Reached.{ends_digits}
+use Rattle.script_tokens.specs.Stretches.{Runs}
+use Rattle.script_tokens.proofs.all_digits.Given as goal
+
+abbrev pub invariant-loop-k : goal.invariant-loop-k
+invariant-loop-k l = (l.k ≤ 16) × (l.ok ≡ true → Runs ends_digits l.s l.e (l.e + l.k))
+
+abbrev pub decreases-loop-k : goal.decreases-loop-k
+decreases-loop-k l = 16 - l.k
