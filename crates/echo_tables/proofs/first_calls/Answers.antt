@@ -1,7 +1,6 @@
 -- `echo_tables::first_calls` meets its contract. The loop keeps: the table has what a search from node `left` on finds. Assumes nothing.
 use Prim.Native.Nat.{◌-◌}
 use mathlib.Core.Path.{◌≡◌, ap, sym, ◌∙◌}
-use mathlib.Core.Logic.{⊎_elim}
 use native.Mathlib.Omega.{arith}
 use lib.ListN.{length, get_or, length-set}
 use borrow.Author.Tests.{ltb-true, ltb-false}
@@ -11,13 +10,14 @@ use Rattle.lent.specs.Records.{node_of, nodes-length, nodes-at}
 use Rattle.lent.specs.Clearing.{zero-at}
 use Rattle.echo_tables.specs.Found.{filled-end, filled_put, filled-skip, calls-own, calls-none, calls-past, calls-whole}
 use Rattle.echo_tables.proofs.first_calls.Goals as goal
+use Rattle.echo_tables.proofs.first_calls.Goals.{then-n-eq-KIND_CALL+then-g-lt-MAX_ENTRIES, else-n-eq-KIND_CALL, else-n-eq-KIND_CALL-via-then-n-eq-KIND_CALL+else-g-lt-MAX_ENTRIES, else-n-eq-KIND_CALL-via-else-n-eq-KIND_CALL}
 
 pub loop-left-init : goal.loop-left-init
 loop-left-init c =
     (
       c.node_count-count.ensures,
       omega arith,
-      c.clear_numbers.auto.0 ∙ c.clear_numbers-arg-1.given.0.1,
+      omega arith,
       rw c.node_count-count.ensures (filled-end call_of 512 no_node (nodes_of c.args.nodes.now) (zero-at c.args.first.now c.clear_numbers.ensures)),
     )
 
@@ -42,27 +42,27 @@ loop-left-preserved c =
     let is : get_or (nodes_of c.args.nodes.now) (c.loop-left.left - 1) no_node ≡ node_of c.node_at-n.result =
     nodes-at c.args.nodes.now no_node _ (omega (arith, nodes-length c.args.nodes.now)) ∙ sym c.node_at-n.ensures
     in
-    ⊎_elim
-    (λ w. (
+    elim c.if-n-eq-KIND_CALL.branch [
+    then-n-eq-KIND_CALL+then-g-lt-MAX_ENTRIES w ↦ (
       c.loop-left.invariant.0,
       omega arith,
-      ap length w.2 ∙ length-set c.loop-left.first _ _ ∙ c.loop-left.invariant.2,
-      rw w.2
+      ap length w.first-is ∙ length-set c.loop-left.first _ _ ∙ c.loop-left.invariant.2,
+      rw w.first-is
           (filled_put call_of 512 no_node (nodes_of c.args.nodes.now) c.loop-left-test.true (omega arith) c.loop-left.invariant.3
-          (omega (arith, ltb-true c.node_at-n.result.a 512 w.1.taken)) (calls-own is w.0.taken)),
-    ))
-    (λ w. (
+          (omega (arith, w.if-g-lt-MAX_ENTRIES.true)) (calls-own is w.if-n-eq-KIND_CALL.true)),
+    )
+    | else-n-eq-KIND_CALL w ↦ (
       c.loop-left.invariant.0,
       omega arith,
-      ap length w.1 ∙ c.loop-left.invariant.2,
-      rw w.1
+      ap length w.first-is ∙ c.loop-left.invariant.2,
+      rw w.first-is
           (filled-skip call_of 512 no_node (nodes_of c.args.nodes.now) c.loop-left-test.true (omega arith) c.loop-left.invariant.3
-          (⊎_elim
-          (λ v. calls-past is v.0.taken (ltb-false c.node_at-n.result.a 512 v.1.left))
-          (λ v i h. calls-none is v.left i)
-          w.0.came)),
-    ))
-    c.if-n-eq-KIND_CALL.branch
+          (elim w.else-n-eq-KIND_CALL.branch [
+          else-n-eq-KIND_CALL-via-then-n-eq-KIND_CALL+else-g-lt-MAX_ENTRIES v ↦ calls-past is v.if-n-eq-KIND_CALL.true v.if-g-lt-MAX_ENTRIES.false
+          | else-n-eq-KIND_CALL-via-else-n-eq-KIND_CALL v ↦ λ i h. calls-none is v.if-n-eq-KIND_CALL.false i
+          ])),
+    )
+    ]
 
 pub returns : goal.returns
 returns c = calls-whole _ c.loop-left-test.false c.loop-left.invariant.3

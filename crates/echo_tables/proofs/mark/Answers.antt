@@ -3,7 +3,7 @@ use mathlib.Core.Path.{sym, ◌∙◌}
 use native.Mathlib.Omega.{arith}
 use lib.ListN.{length-set}
 use Rattle.echo_spec.specs.Input.{dag_of, no_node}
-use Rattle.lent.specs.Lent.{dag_at}
+use Rattle.lent.specs.Lent.{problem_at, dag_at}
 use Rattle.lent.specs.Records.{nodes-length, nodes-at}
 use Rattle.echo_tables.specs.Asked.{marked_more}
 use Rattle.echo_tables.proofs.mark.Goals as goal
@@ -14,7 +14,7 @@ loop-i-init c =
 
 pub node_at-requires : goal.node_at-requires
 node_at-requires c =
-    omega (arith, nodes-length (nodes c))
+    omega (arith, nodes-length (((problem_at c.args.bytes.now c.args.numbers.now).nodes)))
 
 pub code_node-code-requires : goal.code_node-code-requires
 unfolding dag_of
@@ -24,21 +24,21 @@ code_node-code-requires c =
       measured = c.requires.measured;
       filled = c.loop-i.invariant.3;
       here = omega (arith, c.loop-i.invariant.0);
-      node = c.node_at.ensures ∙ sym (nodes-at (nodes c) no_node _ (omega (arith, nodes-length (nodes c))));
+      node = c.node_at.ensures ∙ sym (nodes-at (((problem_at c.args.bytes.now c.args.numbers.now).nodes)) no_node _ (omega (arith, nodes-length (((problem_at c.args.bytes.now c.args.numbers.now).nodes)))));
     }
 
 pub offset_bounds-table-i : goal.offset_bounds-table-i
 offset_bounds-table-i c =
-    omega (arith, nodes-length (nodes c), c.requires.lookups.nodes)
+    omega (arith, nodes-length (((problem_at c.args.bytes.now c.args.numbers.now).nodes)), c.requires.lookups.nodes)
 
 pub bounds-table-i : goal.bounds-table-i
 bounds-table-i c =
-    omega (arith, nodes-length (nodes c), c.requires.lookups.nodes)
+    omega (arith, nodes-length (((problem_at c.args.bytes.now c.args.numbers.now).nodes)), c.requires.lookups.nodes)
 
 pub loop-i-preserved : goal.loop-i-preserved
 unfolding dag_of
 loop-i-preserved c =
-    (c.loop-i.invariant.0, omega arith, length-set c.loop-i.table _ _ ∙ c.loop-i.invariant.2, marked_more (dag_at c.args.bytes.now c.args.numbers.now) c.loop-i.table _ c.loop-i.invariant.3 (omega (arith, nodes-length (nodes c), c.requires.lookups.nodes)) c.code_node-code.ensures)
+    (c.loop-i.invariant.0, omega arith, length-set c.loop-i.table _ _ ∙ c.loop-i.invariant.2, marked_more (dag_at c.args.bytes.now c.args.numbers.now) c.loop-i.table _ c.loop-i.invariant.3 (omega (arith, nodes-length (((problem_at c.args.bytes.now c.args.numbers.now).nodes)), c.requires.lookups.nodes)) c.code_node-code.ensures)
 
 pub returns : goal.returns
 unfolding dag_of

@@ -12,37 +12,44 @@ loop-left-init c =
 
 pub overflow_add-at : goal.overflow_add-at
 overflow_add-at c =
-    let inside : c.args.s + (c.loop-left.left + c.loop-left.left) ≤ length c.args.side.now = omega (arith, length-drop c.args.s c.args.side.now, c.loop-left.invariant.0, c.loop-left-test.true) in
+    let inside : c.args.s + (c.loop-left.left + c.loop-left.left) ≤ length c.args.side.now = let args = c.args in
+    omega (arith, length-drop args.s args.side.now, c.loop-left.invariant.0, c.loop-left-test.true) in
     omega (arith, inside)
 
 pub overflow_add-at-in-loop-left : goal.overflow_add-at-in-loop-left
 overflow_add-at-in-loop-left c =
-    let inside : c.args.s + (c.loop-left.left + c.loop-left.left) ≤ length c.args.side.now = omega (arith, length-drop c.args.s c.args.side.now, c.loop-left.invariant.0, c.loop-left-test.true) in
+    let inside : c.args.s + (c.loop-left.left + c.loop-left.left) ≤ length c.args.side.now = let args = c.args in
+    omega (arith, length-drop args.s args.side.now, c.loop-left.invariant.0, c.loop-left-test.true) in
     omega (arith, inside)
 
 pub offset_bounds-side-at : goal.offset_bounds-side-at
 offset_bounds-side-at c =
-    let inside : c.args.s + (c.loop-left.left + c.loop-left.left) ≤ length c.args.side.now = omega (arith, length-drop c.args.s c.args.side.now, c.loop-left.invariant.0, c.loop-left-test.true) in
+    let inside : c.args.s + (c.loop-left.left + c.loop-left.left) ≤ length c.args.side.now = let args = c.args in
+    omega (arith, length-drop args.s args.side.now, c.loop-left.invariant.0, c.loop-left-test.true) in
     omega (arith, inside)
 
 pub bounds-side-at : goal.bounds-side-at
 bounds-side-at c =
-    let inside : c.args.s + (c.loop-left.left + c.loop-left.left) ≤ length c.args.side.now = omega (arith, length-drop c.args.s c.args.side.now, c.loop-left.invariant.0, c.loop-left-test.true) in
+    let inside : c.args.s + (c.loop-left.left + c.loop-left.left) ≤ length c.args.side.now = let args = c.args in
+    omega (arith, length-drop args.s args.side.now, c.loop-left.invariant.0, c.loop-left-test.true) in
     omega (arith, inside)
 
 pub overflow_add-at-in-loop-left-2 : goal.overflow_add-at-in-loop-left-2
 overflow_add-at-in-loop-left-2 c =
-    let inside : c.args.s + (c.loop-left.left + c.loop-left.left) ≤ length c.args.side.now = omega (arith, length-drop c.args.s c.args.side.now, c.loop-left.invariant.0, c.loop-left-test.true) in
+    let inside : c.args.s + (c.loop-left.left + c.loop-left.left) ≤ length c.args.side.now = let args = c.args in
+    omega (arith, length-drop args.s args.side.now, c.loop-left.invariant.0, c.loop-left-test.true) in
     omega (arith, inside)
 
 pub offset_bounds-side-at-in-loop-left : goal.offset_bounds-side-at-in-loop-left
 offset_bounds-side-at-in-loop-left c =
-    let inside : c.args.s + (c.loop-left.left + c.loop-left.left) ≤ length c.args.side.now = omega (arith, length-drop c.args.s c.args.side.now, c.loop-left.invariant.0, c.loop-left-test.true) in
+    let inside : c.args.s + (c.loop-left.left + c.loop-left.left) ≤ length c.args.side.now = let args = c.args in
+    omega (arith, length-drop args.s args.side.now, c.loop-left.invariant.0, c.loop-left-test.true) in
     omega (arith, inside)
 
 pub bounds-side-at-in-loop-left : goal.bounds-side-at-in-loop-left
 bounds-side-at-in-loop-left c =
-    let inside : c.args.s + (c.loop-left.left + c.loop-left.left) ≤ length c.args.side.now = omega (arith, length-drop c.args.s c.args.side.now, c.loop-left.invariant.0, c.loop-left-test.true) in
+    let inside : c.args.s + (c.loop-left.left + c.loop-left.left) ≤ length c.args.side.now = let args = c.args in
+    omega (arith, length-drop args.s args.side.now, c.loop-left.invariant.0, c.loop-left-test.true) in
     omega (arith, inside)
 
 pub returns-then-e-gt0 : goal.returns-then-e-gt0

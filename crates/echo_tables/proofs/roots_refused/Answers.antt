@@ -1,7 +1,8 @@
 -- `echo_tables::roots_refused` meets its contract: the roots from place k on decide the answer. Assumes nothing.
 use mathlib.Core.Path.{refl}
 use native.Mathlib.Omega.{arith}
-use Rattle.echo_spec.specs.Walk.{formula, walk_roots}
+use Rattle.echo_spec.specs.Walk.{formula, walk, walk_roots}
+use Rattle.lent.specs.Lent.{dag_at}
 use Rattle.echo_tables.specs.Uses.{entry-stops, entry-passes, entries-end}
 use Rattle.echo_tables.proofs.roots_refused.Goals as goal
 
@@ -15,12 +16,12 @@ root_refused-e-requires c =
 
 pub returns-then-e-gt0 : goal.returns-then-e-gt0
 returns-then-e-gt0 c =
-    entry-stops (walked c) formula c.args.roots.now c.loop-k.k c.loop-k.invariant.1 c.loop-k-test.true c.root_refused-e.ensures c.if-e-gt0.true
+    entry-stops ((walk (dag_at c.args.bytes.now c.args.numbers.now) c.args.ws.now)) formula c.args.roots.now c.loop-k.k c.loop-k.invariant.1 c.loop-k-test.true c.root_refused-e.ensures c.if-e-gt0.true
 
 pub loop-k-preserved : goal.loop-k-preserved
 loop-k-preserved c =
-    (omega arith, entry-passes (walked c) formula c.args.roots.now c.loop-k.k c.loop-k.invariant.1 c.loop-k-test.true c.root_refused-e.ensures c.if-e-gt0.false)
+    (omega arith, entry-passes ((walk (dag_at c.args.bytes.now c.args.numbers.now) c.args.ws.now)) formula c.args.roots.now c.loop-k.k c.loop-k.invariant.1 c.loop-k-test.true c.root_refused-e.ensures c.if-e-gt0.false)
 
 pub returns : goal.returns
 returns c =
-    entries-end (walked c) formula c.args.roots.now c.loop-k.k c.loop-k.invariant.1 c.loop-k-test.false
+    entries-end ((walk (dag_at c.args.bytes.now c.args.numbers.now) c.args.ws.now)) formula c.args.roots.now c.loop-k.k c.loop-k.invariant.1 c.loop-k-test.false

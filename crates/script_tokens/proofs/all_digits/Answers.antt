@@ -19,7 +19,7 @@ loop-k-preserved c =
           runs-at {e = c.args.e + c.loop-k.k + 1}
           (elim c.if-ends_digits.branch [
           then-ends_digits w ↦ absurd (true≢false (sym q ∙ w.ok-is))
-          | else-ends_digits w ↦ runs_on (c.loop-k.invariant.1 (sym w.ok-is ∙ q)) (omega (arith, c.requires, c.loop-k-test.true)) (sym w.ends_digits.ensures ∙ w.if-ends_digits.false)
+          | else-ends_digits w ↦ runs_on (c.loop-k.invariant.1 (sym w.ok-is ∙ q)) (omega (arith, c.requires, c.loop-k-test.true)) (sym c.ends_digits.ensures ∙ w.if-ends_digits.false)
           ])
           (omega arith),
     )

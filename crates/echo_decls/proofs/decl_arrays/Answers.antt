@@ -1,0 +1,22 @@
+-- `echo_decls::decl_arrays` meets its contract: at the loop's test, the lines of the first k arrays are written. Assumes nothing.
+use native.Mathlib.Omega.{arith}
+use Rattle.echo_spec.specs.Input.{dag_of}
+use Rattle.lent.specs.Lent.{dag_at}
+use Rattle.echo_decls.specs.NumberedLines.{none_written, more-written}
+use Rattle.echo_decls.specs.DeclaredLines.{arrays-written}
+use Rattle.echo_decls.proofs.decl_arrays.Goals as goal
+
+pub loop-k-init : goal.loop-k-init
+loop-k-init c = (c.count-n.ensures, omega arith, none_written _ _ (omega arith))
+
+pub push_array-q-requires : goal.push_array-q-requires
+push_array-q-requires c = omega (arith, c.loop-k.invariant.0)
+
+pub loop-k-preserved : goal.loop-k-preserved
+loop-k-preserved c =
+    (c.loop-k.invariant.0, omega arith, more-written c.loop-k.invariant.2 c.push_array-q.ensures)
+
+pub returns : goal.returns
+unfolding dag_of
+returns c =
+    arrays-written (dag_at c.args.bytes.now c.args.numbers.now) c.loop-k.invariant.2 (omega (arith, c.loop-k.invariant.0))

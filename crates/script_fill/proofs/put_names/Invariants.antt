@@ -1,0 +1,10 @@
+-- `put_names` meets its contract: the first i names are written, and the next goes to place `at`.
+use Prim.Native.Nat.{◌-◌, ◌≤◌}
+use Rattle.script_fill.specs.Turns.{Written}
+use Rattle.script_fill.proofs.put_names.Given as goal
+
+abbrev pub invariant-loop-i : goal.invariant-loop-i
+invariant-loop-i l = (l.i ≤ l.count) × Written l.s l.t l.from l.i l.at l.initial.names l.initial.starts l.initial.lengths l.names l.starts l.lengths
+
+abbrev pub decreases-loop-i : goal.decreases-loop-i
+decreases-loop-i l = l.count - l.i

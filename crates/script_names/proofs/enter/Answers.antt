@@ -1,0 +1,9 @@
+-- `enter` meets its contract: the line stands last in its chain.
+use Rattle.script_names.specs.Laws.{tabled-more, tabled-past}
+use Rattle.script_names.proofs.enter.Goals as goal
+
+pub returns-then-count-lt-LINES : goal.returns-then-count-lt-LINES
+returns-then-count-lt-LINES c = tabled-more c.args.s.now c.args.first c.args.t.now c.args.count c.args.a c.args.f _ c.requires.1 c.requires.0 c.requires.2 c.if-count-lt-LINES.true c.hash_part-h.ensures.0
+
+pub returns-else-count-lt-LINES : goal.returns-else-count-lt-LINES
+returns-else-count-lt-LINES c = tabled-past c.args.s.now c.args.first c.args.t.now c.args.count c.args.a c.args.f c.requires.1 c.requires.0 c.requires.2 c.if-count-lt-LINES.false
