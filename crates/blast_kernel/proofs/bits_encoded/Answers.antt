@@ -20,8 +20,8 @@ loop-i-preserved c =
     let bits : List ℕ = c.args.bits.now in
     let i : ℕ = c.loop-i.i in
     elim c.if-bits-i-gt1.branch [
-    then-bits-i-gt1 w ↦ subst (λ (ok : Bool). Seen bit bits ok (i + 1)) (sym w.ok-is) (seen-fail bit 0 c.loop-i.invariant (search rules) (lt-leb (get_or bits i 0) 1 (omega (arith, w.if-bits-i-gt1.true))))
-    | else-bits-i-gt1 w ↦ subst (λ (ok : Bool). Seen bit bits ok (i + 1)) (sym w.ok-is) (seen-pass bit 0 c.loop-i.invariant (search rules) (le-leb _ _ w.if-bits-i-gt1.false))
+      | then-bits-i-gt1 w ↦ subst (λ (ok : Bool). Seen bit bits ok (i + 1)) (sym w.ok-is) (seen-fail bit 0 c.loop-i.invariant (search rules) (lt-leb (get_or bits i 0) 1 (omega (arith, w.if-bits-i-gt1.true))))
+      | else-bits-i-gt1 w ↦ subst (λ (ok : Bool). Seen bit bits ok (i + 1)) (sym w.ok-is) (seen-pass bit 0 c.loop-i.invariant (search rules) (le-leb _ _ w.if-bits-i-gt1.false))
     ]
 
 pub returns : goal.returns

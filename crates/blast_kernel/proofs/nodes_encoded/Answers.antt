@@ -24,7 +24,7 @@ loop-i-preserved c = (
   omega arith,
   left-next node_encoded no_node
       c.loop-i.invariant.2 (omega arith) ((ap node_encoded (nodes-at ((c.args.nodes.now)) no_node _ (omega (arith, nodes-length ((c.args.nodes.now)))) ∙ sym c.node_at.ensures)
-    ∙ sym c.node_encoded.ensures) ∙ c.if-not-node_encoded.false),
+      ∙ sym c.node_encoded.ensures) ∙ c.if-not-node_encoded.false),
 )
 
 pub returns : goal.returns

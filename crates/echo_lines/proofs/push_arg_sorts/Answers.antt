@@ -14,12 +14,11 @@ unfolding sorts_text
 loop-j-init c = (sym (written-nil _ (omega arith)), omega arith)
 
 pub loop-j-preserved : goal.loop-j-preserved
-loop-j-preserved c =
-    (
-      written_then _ _ _ c.loop-j.invariant.0 c.push_next_sort-q.ensures
-          ∙ ap (written _) (argument-more c.args.ws.now c.args.side.now c.args.s c.loop-j.j (omega arith) _ c.width_at.ensures),
-      omega arith,
-    )
+loop-j-preserved c = (
+  written_then _ _ _ c.loop-j.invariant.0 c.push_next_sort-q.ensures
+      ∙ ap (written _) (argument-more c.args.ws.now c.args.side.now c.args.s c.loop-j.j (omega arith) _ c.width_at.ensures),
+  omega arith,
+)
 
 pub returns : goal.returns
 returns c =

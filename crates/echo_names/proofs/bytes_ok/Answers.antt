@@ -13,11 +13,10 @@ returns-then-not-byte_ok c =
     every-fail byte_ok 0 c.args.name.now _ _ c.loop-i.invariant.1 c.loop-i-test.true (sym c.byte_ok.ensures ∙ c.if-not-byte_ok.true)
 
 pub loop-i-preserved : goal.loop-i-preserved
-loop-i-preserved c =
-    (
-      omega arith,
-      every-pass byte_ok 0 c.args.name.now _ _ c.loop-i.invariant.1 c.loop-i-test.true (sym c.byte_ok.ensures ∙ c.if-not-byte_ok.false),
-    )
+loop-i-preserved c = (
+  omega arith,
+  every-pass byte_ok 0 c.args.name.now _ _ c.loop-i.invariant.1 c.loop-i-test.true (sym c.byte_ok.ensures ∙ c.if-not-byte_ok.false),
+)
 
 pub returns : goal.returns
 returns c =

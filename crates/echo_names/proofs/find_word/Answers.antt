@@ -12,11 +12,10 @@ search-init c =
     (omega arith, inside-all c.args.words.now c.args.counts.now c.requires, groups-all c.args.words.now c.args.counts.now c.args.name.now)
 
 pub loop-left-init : goal.loop-left-init
-loop-left-init c =
-    (
-      rw c.if-size-n.true at (group-inside c.args.words.now c.args.counts.now c.search.g c.search.start (omega arith) c.search.invariant.1),
-      group-enter c.args.words.now c.args.counts.now c.search.g c.search.start (omega arith) c.args.name.now c.search.invariant.2 _ c.if-size-n.true,
-    )
+loop-left-init c = (
+  rw c.if-size-n.true at (group-inside c.args.words.now c.args.counts.now c.search.g c.search.start (omega arith) c.search.invariant.1),
+  group-enter c.args.words.now c.args.counts.now c.search.g c.search.start (omega arith) c.args.name.now c.search.invariant.2 _ c.if-size-n.true,
+)
 
 pub overflow_add-at : goal.overflow_add-at
 overflow_add-at c =
@@ -31,11 +30,10 @@ overflow_add-at-in-loop-left c =
     omega (arith, (word-inside (length c.args.words.now) (length c.args.name.now) c.loop-left.at c.loop-left.left (omega arith) c.loop-left.invariant.0).0)
 
 pub loop-left-preserved : goal.loop-left-preserved
-loop-left-preserved c =
-    (
-      (word-inside (length c.args.words.now) (length c.args.name.now) c.loop-left.at c.loop-left.left (omega arith) c.loop-left.invariant.0).1,
-      word_next c.args.words.now c.args.name.now _ _ _ c.loop-left.left (omega arith) (sym c.same_bytes.ensures ∙ c.if-same_bytes.false) c.loop-left.invariant.1,
-    )
+loop-left-preserved c = (
+  (word-inside (length c.args.words.now) (length c.args.name.now) c.loop-left.at c.loop-left.left (omega arith) c.loop-left.invariant.0).1,
+  word_next c.args.words.now c.args.name.now _ _ _ c.loop-left.left (omega arith) (sym c.same_bytes.ensures ∙ c.if-same_bytes.false) c.loop-left.invariant.1,
+)
 
 pub overflow_mul-start : goal.overflow_mul-start
 overflow_mul-start c =
@@ -46,16 +44,15 @@ overflow_add-start c =
     omega (arith, group-inside c.args.words.now c.args.counts.now c.search.g c.search.start (omega arith) c.search.invariant.1)
 
 pub search-preserved : goal.search-preserved
-search-preserved c =
-    (
-      omega arith,
-      inside-next c.args.words.now c.args.counts.now c.search.g c.search.start (omega arith) c.search.invariant.1,
-      elim c.if-size-n.branch [
-          then-size-n+else-loop-left-test w ↦ words-end c.args.words.now c.args.name.now _ _ w.loop-left.at w.loop-left.left (omega arith) w.loop-left.invariant.1
-          | else-size-n w ↦ group-pass c.args.words.now c.args.counts.now c.search.g c.search.start (omega arith) c.args.name.now
-          c.search.invariant.2 c.search.invariant.1 w.if-size-n.false
-          ],
-    )
+search-preserved c = (
+  omega arith,
+  inside-next c.args.words.now c.args.counts.now c.search.g c.search.start (omega arith) c.search.invariant.1,
+  elim c.if-size-n.branch [
+    | then-size-n+else-loop-left-test w ↦ words-end c.args.words.now c.args.name.now _ _ w.loop-left.at w.loop-left.left (omega arith) w.loop-left.invariant.1
+    | else-size-n w ↦ group-pass c.args.words.now c.args.counts.now c.search.g c.search.start (omega arith) c.args.name.now
+        c.search.invariant.2 c.search.invariant.1 w.if-size-n.false
+  ],
+)
 
 pub returns-then-g-counts : goal.returns-then-g-counts
 returns-then-g-counts c =

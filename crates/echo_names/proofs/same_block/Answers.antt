@@ -34,13 +34,12 @@ loop-k-preserved c =
     let a : List ℕ = c.args.a.now in
     let b : List ℕ = c.args.b.now in
     let i : ℕ = c.args.i in
-    let k : ℕ = c.loop-k.k in
-    (
+    let k : ℕ = c.loop-k.k in (
       omega (arith, c.loop-k-test.true),
       compared_at
           (elim c.if-a-i.branch [
-          then-a-i w ↦ subst (Compared a b i (i + k + 1)) (sym w.ok-is) (compared-apart c.loop-k.invariant.1 w.if-a-i.true)
-          | else-a-i w ↦ subst (Compared a b i (i + k + 1)) (sym w.ok-is) (compared_same c.loop-k.invariant.1 w.if-a-i.false)
+            | then-a-i w ↦ subst (Compared a b i (i + k + 1)) (sym w.ok-is) (compared-apart c.loop-k.invariant.1 w.if-a-i.true)
+            | else-a-i w ↦ subst (Compared a b i (i + k + 1)) (sym w.ok-is) (compared_same c.loop-k.invariant.1 w.if-a-i.false)
           ])
           (omega arith),
     )

@@ -8,12 +8,11 @@ pub loop-k-init : goal.loop-k-init
 loop-k-init c = (omega arith, refl, refl)
 
 pub loop-k-preserved : goal.loop-k-preserved
-loop-k-preserved c =
-    (
-      omega arith,
-      omega arith,
-      counted_next c.loop-k.uses c.args.us.now c.loop-k.k c.loop-k.invariant.2 (omega arith) c.bump.ensures,
-    )
+loop-k-preserved c = (
+  omega arith,
+  omega arith,
+  counted_next c.loop-k.uses c.args.us.now c.loop-k.k c.loop-k.invariant.2 (omega arith) c.bump.ensures,
+)
 
 pub returns : goal.returns
 returns c =

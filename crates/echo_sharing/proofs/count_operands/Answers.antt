@@ -13,13 +13,12 @@ pub node_at-requires : goal.node_at-requires
 node_at-requires c = omega (arith, nodes-length c.args.nodes.now)
 
 pub loop-i-preserved : goal.loop-i-preserved
-loop-i-preserved c =
-    (
-      c.loop-i.invariant.0,
-      omega arith,
-      omega arith,
-      node-next _ _ _ c.loop-i.i c.loop-i.invariant.3 (omega arith) c.node_at.ensures c.bump_node.ensures,
-    )
+loop-i-preserved c = (
+  c.loop-i.invariant.0,
+  omega arith,
+  omega arith,
+  node-next _ _ _ c.loop-i.i c.loop-i.invariant.3 (omega arith) c.node_at.ensures c.bump_node.ensures,
+)
 
 pub returns : goal.returns
 returns c =

@@ -19,18 +19,18 @@ bounds-entry-x c = c.if-x-lt-MAX_NODES.true
 pub loop-left-preserved : goal.loop-left-preserved
 loop-left-preserved c =
     elim c.if-x-lt-MAX_NODES.branch [
-    then-x-lt-MAX_NODES w ↦ (
-      omega arith,
-      ap length w.entry-is ∙ length-set c.loop-left.entry _ _ ∙ c.loop-left.invariant.1,
-      rw w.entry-is (filled_put has 2048 0 c.args.var_node.now c.loop-left-test.true c.loop-left.invariant.0 c.loop-left.invariant.2 (omega arith) (λ i. refl)),
-    )
-    | else-x-lt-MAX_NODES w ↦ (
-      omega arith,
-      ap length w.entry-is ∙ c.loop-left.invariant.1,
-      rw w.entry-is
-          (filled-skip has 2048 0 c.args.var_node.now c.loop-left-test.true c.loop-left.invariant.0 c.loop-left.invariant.2
-          (λ i h. ne_eqb (get_or c.args.var_node.now (c.loop-left.left - 1) 0) i (λ e. omega (arith, w.if-x-lt-MAX_NODES.false)))),
-    )
+      | then-x-lt-MAX_NODES w ↦ (
+        omega arith,
+        ap length w.entry-is ∙ length-set c.loop-left.entry _ _ ∙ c.loop-left.invariant.1,
+        rw w.entry-is (filled_put has 2048 0 c.args.var_node.now c.loop-left-test.true c.loop-left.invariant.0 c.loop-left.invariant.2 (omega arith) (λ i. refl)),
+      )
+      | else-x-lt-MAX_NODES w ↦ (
+        omega arith,
+        ap length w.entry-is ∙ c.loop-left.invariant.1,
+        rw w.entry-is
+            (filled-skip has 2048 0 c.args.var_node.now c.loop-left-test.true c.loop-left.invariant.0 c.loop-left.invariant.2
+            (λ i h. ne_eqb (get_or c.args.var_node.now (c.loop-left.left - 1) 0) i (λ e. omega (arith, w.if-x-lt-MAX_NODES.false)))),
+      )
     ]
 
 pub returns : goal.returns

@@ -58,12 +58,11 @@ returns-then-e-gt0 c =
     (first-is c.first_of-e.ensures c.use_of-index.ensures c.use_of-value.ensures) c.if-e-gt0.true
 
 pub loop-left-preserved : goal.loop-left-preserved
-loop-left-preserved c =
-    (
-      omega (arith, c.loop-left.invariant.0),
-      pair-passes (use_of c.args.codes.now) c.args.side.now c.args.s c.loop-left.left c.loop-left.invariant.1 c.loop-left-test.true c.loop-left.invariant.0
-          (first-is c.first_of-e.ensures c.use_of-index.ensures c.use_of-value.ensures) c.if-e-gt0.false,
-    )
+loop-left-preserved c = (
+  omega (arith, c.loop-left.invariant.0),
+  pair-passes (use_of c.args.codes.now) c.args.side.now c.args.s c.loop-left.left c.loop-left.invariant.1 c.loop-left-test.true c.loop-left.invariant.0
+      (first-is c.first_of-e.ensures c.use_of-index.ensures c.use_of-value.ensures) c.if-e-gt0.false,
+)
 
 pub returns : goal.returns
 returns c =

@@ -16,12 +16,11 @@ pub doubled-k-requires : goal.doubled-k-requires
 doubled-k-requires c = (omega arith, c.wide.ensures.1, omega arith)
 
 pub loop-j-preserved : goal.loop-j-preserved
-loop-j-preserved c =
-    (
-      omega arith,
-      rw c.doubled-k.ensures (mod-lt _ (omega arith)),
-      c.doubled-k.ensures ∙ amount-more c.args.bits.now c.args.w c.loop-j.j c.loop-j-test.true c.loop-j.invariant.0 c.loop-j.invariant.2 c.wide.ensures.0,
-    )
+loop-j-preserved c = (
+  omega arith,
+  rw c.doubled-k.ensures (mod-lt _ (omega arith)),
+  c.doubled-k.ensures ∙ amount-more c.args.bits.now c.args.w c.loop-j.j c.loop-j-test.true c.loop-j.invariant.0 c.loop-j.invariant.2 c.wide.ensures.0,
+)
 
 pub returns : goal.returns
 returns c =

@@ -13,12 +13,11 @@ returns-then-get c =
     (λ e. c.if-get.true (c.get.ensures ∙ e ∙ sym c.get-in-loop-j.ensures))
 
 pub loop-j-preserved : goal.loop-j-preserved
-loop-j-preserved c =
-    (
-      omega arith,
-      widths-pass c.args.ws.now c.args.a.now c.args.b.now c.loop-j.j c.loop-j.invariant.1 (omega arith) (omega arith)
-          (sym c.get.ensures ∙ c.if-get.false ∙ c.get-in-loop-j.ensures),
-    )
+loop-j-preserved c = (
+  omega arith,
+  widths-pass c.args.ws.now c.args.a.now c.args.b.now c.loop-j.j c.loop-j.invariant.1 (omega arith) (omega arith)
+      (sym c.get.ensures ∙ c.if-get.false ∙ c.get-in-loop-j.ensures),
+)
 
 pub returns : goal.returns
 returns c =

@@ -7,15 +7,15 @@ use Rattle.echo_walk.proofs.+echo_args_echo_levels_echo_node_echo_one_echo_opera
 
 pub echo_operand-echo_leaf-requires : goal.echo_operand-echo_leaf-requires
 echo_operand-echo_leaf-requires t c =
-    (c.requires.1.0, (leaf-found _ _ _ _ c.requires.1.0 _ c.requires.1.1 c.is_leaf.ensures c.if-is_leaf.true))
+    (c.requires.0, (leaf-found _ _ _ _ c.requires.0 _ c.requires.1 c.is_leaf.ensures c.if-is_leaf.true))
 
 pub echo_operand-returns-then-is_leaf : goal.echo_operand-returns-then-is_leaf
 echo_operand-returns-then-is_leaf t c =
-    leaf-written _ _ _ _ c.requires.1.0 _ (leaf-found _ _ _ _ c.requires.1.0 _ c.requires.1.1 c.is_leaf.ensures c.if-is_leaf.true) _ c.echo_leaf.ensures
+    leaf-written _ _ _ _ c.requires.0 _ (leaf-found _ _ _ _ c.requires.0 _ c.requires.1 c.is_leaf.ensures c.if-is_leaf.true) _ c.echo_leaf.ensures
 
 pub echo_operand-echo_node-requires : goal.echo_operand-echo_node-requires
 echo_operand-echo_node-requires t c =
-    (fewer _ _ _ c.requires.0 (omega arith), c.requires.1)
+    (fewer _ _ _ c.decreases (omega arith), c.requires)
 
 pub echo_operand-returns : goal.echo_operand-returns
 echo_operand-returns t c =
@@ -23,7 +23,7 @@ echo_operand-returns t c =
 
 pub echo_levels-loop-left-init : goal.echo_levels-loop-left-init
 echo_levels-loop-left-init t c =
-    (begun _ (omega arith), c.requires.1.1)
+    (begun _ (omega arith), c.requires.1)
 
 pub echo_levels-overflow_sub-left : goal.echo_levels-overflow_sub-left
 echo_levels-overflow_sub-left t c =
@@ -31,15 +31,15 @@ echo_levels-overflow_sub-left t c =
 
 pub echo_levels-pair_at-x-requires : goal.echo_levels-pair_at-x-requires
 echo_levels-pair_at-x-requires t c =
-    omega (arith, chained-place c.loop-left.invariant.1 (omega (arith, c.loop-left-test.true)), c.requires.1.0.entries)
+    omega (arith, chained-place c.loop-left.invariant.1 (omega (arith, c.loop-left-test.true)), c.requires.0.entries)
 
 pub echo_levels-pair_at-v-requires : goal.echo_levels-pair_at-v-requires
 echo_levels-pair_at-v-requires t c =
-    omega (arith, chained-place c.loop-left.invariant.1 (omega (arith, c.loop-left-test.true)), c.requires.1.0.entries)
+    omega (arith, chained-place c.loop-left.invariant.1 (omega (arith, c.loop-left-test.true)), c.requires.0.entries)
 
 pub echo_levels-echo_two-r-requires : goal.echo_levels-echo_two-r-requires
 echo_levels-echo_two-r-requires t c =
-    (fewer _ _ _ c.requires.0 (omega arith), (c.requires.1.0, chained-index c.loop-left.invariant.1 (omega (arith, c.loop-left-test.true)) c.pair_at-x.ensures, chained-value c.loop-left.invariant.1 (omega (arith, c.loop-left-test.true)) c.pair_at-v.ensures))
+    (fewer _ _ _ c.decreases (omega arith), (c.requires.0, chained-index c.loop-left.invariant.1 (omega (arith, c.loop-left-test.true)) c.pair_at-x.ensures, chained-value c.loop-left.invariant.1 (omega (arith, c.loop-left-test.true)) c.pair_at-v.ensures))
 
 pub echo_levels-loop-left-smaller : goal.echo_levels-loop-left-smaller
 echo_levels-loop-left-smaller t c =
@@ -55,15 +55,15 @@ echo_levels-returns t c =
 
 pub echo_args-loop-left-init : goal.echo_args-loop-left-init
 echo_args-loop-left-init t c =
-    (begun _ (omega arith), c.requires.1.1)
+    (begun _ (omega arith), c.requires.1)
 
 pub echo_args-echo_operand-r-requires : goal.echo_args-echo_operand-r-requires
 echo_args-echo_operand-r-requires t c =
-    let x = listed-first c.loop-left.invariant.1 (omega (arith, c.loop-left-test.true)) c.get-x.ensures in (lower _ _ _ _ c.requires.0 x.below (omega arith), (c.requires.1.0, x.fine))
+    let x = listed-first c.loop-left.invariant.1 (omega (arith, c.loop-left-test.true)) c.get-x.ensures in (lower _ _ _ _ c.decreases x.below (omega arith), (c.requires.0, x.fine))
 
 pub echo_args-overflow_add-k : goal.echo_args-overflow_add-k
 echo_args-overflow_add-k t c =
-    omega (arith, listed-place c.loop-left.invariant.1 (omega (arith, c.loop-left-test.true)), c.requires.1.0.entries)
+    omega (arith, listed-place c.loop-left.invariant.1 (omega (arith, c.loop-left-test.true)), c.requires.0.entries)
 
 pub echo_args-overflow_sub-left : goal.echo_args-overflow_sub-left
 echo_args-overflow_sub-left t c =
@@ -83,72 +83,72 @@ echo_args-returns t c =
 
 pub echo_node-open_head-q-requires : goal.echo_node-open_head-q-requires
 echo_node-open_head-q-requires t c =
-    c.requires.1
+    c.requires
 
 pub echo_node-operands_at-f-requires : goal.echo_node-operands_at-f-requires
 echo_node-operands_at-f-requires t c =
-    (c.requires.1.0, c.requires.1.1.here)
+    (c.requires.0, c.requires.1.here)
 
 pub echo_node-echo_one-requires : goal.echo_node-echo_one-requires
 echo_node-echo_one-requires t c =
-    (fewer _ _ _ c.requires.0 (omega arith), (c.requires.1.0, (form-under _ _ _ _ c.requires.1.0 _ c.requires.1.1 (sym c.in-One.is ∙ c.operands_at-f.ensures))))
+    (fewer _ _ _ c.decreases (omega arith), (c.requires.0, (form-under _ _ _ _ c.requires.0 _ c.requires.1 (sym c.in-One.is ∙ c.operands_at-f.ensures))))
 
 pub echo_node-echo_two-requires : goal.echo_node-echo_two-requires
 echo_node-echo_two-requires t c =
-    let x = (form-under _ _ _ _ c.requires.1.0 _ c.requires.1.1 (sym c.in-Two.is ∙ c.operands_at-f.ensures)) in (fewer _ _ _ c.requires.0 (omega arith), (c.requires.1.0, x.0, x.1))
+    let x = (form-under _ _ _ _ c.requires.0 _ c.requires.1 (sym c.in-Two.is ∙ c.operands_at-f.ensures)) in (fewer _ _ _ c.decreases (omega arith), (c.requires.0, x.0, x.1))
 
 pub echo_node-echo_operand-r-requires : goal.echo_node-echo_operand-r-requires
 echo_node-echo_operand-r-requires t c =
-    let x = (form-under _ _ _ _ c.requires.1.0 _ c.requires.1.1 (sym c.in-Choice.is ∙ c.operands_at-f.ensures)) in (lower _ _ _ _ c.requires.0 x.0.below (omega arith), (c.requires.1.0, x.0.fine))
+    let x = (form-under _ _ _ _ c.requires.0 _ c.requires.1 (sym c.in-Choice.is ∙ c.operands_at-f.ensures)) in (lower _ _ _ _ c.decreases x.0.below (omega arith), (c.requires.0, x.0.fine))
 
 pub echo_node-echo_two-requires-in-Choice : goal.echo_node-echo_two-requires-in-Choice
 echo_node-echo_two-requires-in-Choice t c =
-    let x = (form-under _ _ _ _ c.requires.1.0 _ c.requires.1.1 (sym c.in-Choice.is ∙ c.operands_at-f.ensures)) in (fewer _ _ _ c.requires.0 (omega arith), (c.requires.1.0, x.1, x.2))
+    let x = (form-under _ _ _ _ c.requires.0 _ c.requires.1 (sym c.in-Choice.is ∙ c.operands_at-f.ensures)) in (fewer _ _ _ c.decreases (omega arith), (c.requires.0, x.1, x.2))
 
 pub echo_node-echo_levels-r-requires : goal.echo_node-echo_levels-r-requires
 echo_node-echo_levels-r-requires t c =
-    (fewer _ _ _ c.requires.0 (omega arith), (c.requires.1.0, (form-under _ _ _ _ c.requires.1.0 _ c.requires.1.1 (sym c.in-Chain.is ∙ c.operands_at-f.ensures)).1))
+    (fewer _ _ _ c.decreases (omega arith), (c.requires.0, (form-under _ _ _ _ c.requires.0 _ c.requires.1 (sym c.in-Chain.is ∙ c.operands_at-f.ensures)).1))
 
 pub echo_node-echo_one-requires-in-Chain : goal.echo_node-echo_one-requires-in-Chain
 echo_node-echo_one-requires-in-Chain t c =
-    (fewer _ _ _ c.requires.0 (omega arith), (c.requires.1.0, (form-under _ _ _ _ c.requires.1.0 _ c.requires.1.1 (sym c.in-Chain.is ∙ c.operands_at-f.ensures)).0))
+    (fewer _ _ _ c.decreases (omega arith), (c.requires.0, (form-under _ _ _ _ c.requires.0 _ c.requires.1 (sym c.in-Chain.is ∙ c.operands_at-f.ensures)).0))
 
 pub echo_node-echo_args-requires : goal.echo_node-echo_args-requires
 echo_node-echo_args-requires t c =
-    (fewer _ _ _ c.requires.0 (omega arith), (c.requires.1.0, (form-under _ _ _ _ c.requires.1.0 _ c.requires.1.1 (sym c.in-Arguments.is ∙ c.operands_at-f.ensures))))
+    (fewer _ _ _ c.decreases (omega arith), (c.requires.0, (form-under _ _ _ _ c.requires.0 _ c.requires.1 (sym c.in-Arguments.is ∙ c.operands_at-f.ensures))))
 
 pub echo_node-returns-in-Leaf : goal.echo_node-returns-in-Leaf
 echo_node-returns-in-Leaf t c =
-    node-leaf _ _ _ _ c.requires.1.0 _ c.requires.1.1.here (sym c.in-Leaf.is ∙ c.operands_at-f.ensures) _ c.open_head-q.ensures
+    node-leaf _ _ _ _ c.requires.0 _ c.requires.1.here (sym c.in-Leaf.is ∙ c.operands_at-f.ensures) _ c.open_head-q.ensures
 
 pub echo_node-returns-in-One : goal.echo_node-returns-in-One
 unfolding form_text
 echo_node-returns-in-One t c =
-    node_in _ _ _ _ c.requires.1.0 _ c.requires.1.1.here (sym c.in-One.is ∙ c.operands_at-f.ensures) _ c.open_head-q.ensures c.echo_one.ensures
+    node_in _ _ _ _ c.requires.0 _ c.requires.1.here (sym c.in-One.is ∙ c.operands_at-f.ensures) _ c.open_head-q.ensures c.echo_one.ensures
 
 pub echo_node-returns-in-Two : goal.echo_node-returns-in-Two
 unfolding form_text
 echo_node-returns-in-Two t c =
-    node_in _ _ _ _ c.requires.1.0 _ c.requires.1.1.here (sym c.in-Two.is ∙ c.operands_at-f.ensures) _ c.open_head-q.ensures c.echo_two.ensures
+    node_in _ _ _ _ c.requires.0 _ c.requires.1.here (sym c.in-Two.is ∙ c.operands_at-f.ensures) _ c.open_head-q.ensures c.echo_two.ensures
 
 pub echo_node-returns-in-Choice : goal.echo_node-returns-in-Choice
 unfolding form_text choice_text
 echo_node-returns-in-Choice t c =
-    node_in _ _ _ _ c.requires.1.0 _ c.requires.1.1.here (sym c.in-Choice.is ∙ c.operands_at-f.ensures) _ c.open_head-q.ensures (written_then _ _ _ c.echo_operand-r.ensures c.echo_two-in-Choice.ensures)
+    node_in _ _ _ _ c.requires.0 _ c.requires.1.here (sym c.in-Choice.is ∙ c.operands_at-f.ensures) _ c.open_head-q.ensures (written_then _ _ _ c.echo_operand-r.ensures c.echo_two-in-Choice.ensures)
 
 pub echo_node-returns-in-Chain : goal.echo_node-returns-in-Chain
 unfolding form_text
 echo_node-returns-in-Chain t c =
-    node_in _ _ _ _ c.requires.1.0 _ c.requires.1.1.here (sym c.in-Chain.is ∙ c.operands_at-f.ensures) _ c.open_head-q.ensures (written_then _ _ _ c.echo_levels-r.ensures c.echo_one-in-Chain.ensures)
+    node_in _ _ _ _ c.requires.0 _ c.requires.1.here (sym c.in-Chain.is ∙ c.operands_at-f.ensures) _ c.open_head-q.ensures (written_then _ _ _ c.echo_levels-r.ensures c.echo_one-in-Chain.ensures)
 
 pub echo_node-returns-in-Arguments : goal.echo_node-returns-in-Arguments
 unfolding form_text
 echo_node-returns-in-Arguments t c =
-    node_in _ _ _ _ c.requires.1.0 _ c.requires.1.1.here (sym c.in-Arguments.is ∙ c.operands_at-f.ensures) _ c.open_head-q.ensures c.echo_args.ensures
+    node_in _ _ _ _ c.requires.0 _ c.requires.1.here (sym c.in-Arguments.is ∙ c.operands_at-f.ensures) _ c.open_head-q.ensures c.echo_args.ensures
 
 pub echo_one-echo_operand-q-requires : goal.echo_one-echo_operand-q-requires
 echo_one-echo_operand-q-requires t c =
-    (lower _ _ _ _ c.requires.0 c.requires.1.1.below (omega arith), (c.requires.1.0, c.requires.1.1.fine))
+    (lower _ _ _ _ c.decreases c.requires.1.below (omega arith), (c.requires.0, c.requires.1.fine))
 
 pub echo_one-returns : goal.echo_one-returns
 unfolding one_text
@@ -157,11 +157,11 @@ echo_one-returns t c =
 
 pub echo_two-echo_operand-q-requires : goal.echo_two-echo_operand-q-requires
 echo_two-echo_operand-q-requires t c =
-    (lower _ _ _ _ c.requires.0 c.requires.1.1.below (omega arith), (c.requires.1.0, c.requires.1.1.fine))
+    (lower _ _ _ _ c.decreases c.requires.1.below (omega arith), (c.requires.0, c.requires.1.fine))
 
 pub echo_two-echo_one-requires : goal.echo_two-echo_one-requires
 echo_two-echo_one-requires t c =
-    (fewer _ _ _ c.requires.0 (omega arith), (c.requires.1.0, c.requires.1.2))
+    (fewer _ _ _ c.decreases (omega arith), (c.requires.0, c.requires.2))
 
 pub echo_two-returns : goal.echo_two-returns
 unfolding two_text

@@ -26,14 +26,14 @@ abbrev pub decreases-echo_two : goal.decreases-echo_two
 decreases-echo_two l = μ l.lim 1
 
 abbrev pub invariant-echo_levels-loop-left : goal.invariant-echo_levels-loop-left
-invariant-echo_levels-loop-left l =     Begun (levels_text (text_at l.bytes l.numbers l.tables) (problem_at l.bytes l.numbers).side l.s l.n) (levels_text (text_at l.bytes l.numbers l.tables) (problem_at l.bytes l.numbers).side l.s l.left) (page l.initial.q l.initial.out) (page l.q l.out)
+invariant-echo_levels-loop-left l = Begun (levels_text (text_at l.bytes l.numbers l.tables) (problem_at l.bytes l.numbers).side l.s l.n) (levels_text (text_at l.bytes l.numbers l.tables) (problem_at l.bytes l.numbers).side l.s l.left) (page l.initial.q l.initial.out) (page l.q l.out)
     × Entries (Under l.bytes l.numbers l.tables l.lim) (problem_at l.bytes l.numbers).side l.s (l.left + l.left)
 
 abbrev pub decreases-echo_levels-loop-left : goal.decreases-echo_levels-loop-left
 decreases-echo_levels-loop-left l = l.left
 
 abbrev pub invariant-echo_args-loop-left : goal.invariant-echo_args-loop-left
-invariant-echo_args-loop-left l =     Begun (args_text (text_at l.bytes l.numbers l.tables) (problem_at l.bytes l.numbers).side l.s l.n) (args_text (text_at l.bytes l.numbers l.tables) (problem_at l.bytes l.numbers).side l.k l.left) (page l.initial.q l.initial.out) (page l.q l.out)
+invariant-echo_args-loop-left l = Begun (args_text (text_at l.bytes l.numbers l.tables) (problem_at l.bytes l.numbers).side l.s l.n) (args_text (text_at l.bytes l.numbers l.tables) (problem_at l.bytes l.numbers).side l.k l.left) (page l.initial.q l.initial.out) (page l.q l.out)
     × Entries (Under l.bytes l.numbers l.tables l.lim) (problem_at l.bytes l.numbers).side l.k l.left
 
 abbrev pub decreases-echo_args-loop-left : goal.decreases-echo_args-loop-left

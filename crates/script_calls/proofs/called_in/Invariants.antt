@@ -8,7 +8,7 @@ use Rattle.script_calls.specs.Scan.{Scanned}
 use Rattle.script_calls.proofs.called_in.Given as goal
 
 abbrev pub invariant-loop-done : goal.invariant-loop-done
-invariant-loop-done l =     (l.p ≤ length l.s) × ((D : Declarations) → Known l.s l.t l.h D → Scanned l.s D l.from l.p l.flags) × (l.done ≤ l.n) × ((g : ℕ) → g < l.done → get_or l.flags g 0 ≡ 1)
+invariant-loop-done l = (l.p ≤ length l.s) × ((D : Declarations) → Known l.s l.t l.h D → Scanned l.s D l.from l.p l.flags) × (l.done ≤ l.n) × ((g : ℕ) → g < l.done → get_or l.flags g 0 ≡ 1)
 
 abbrev pub decreases-loop-done : goal.decreases-loop-done
 decreases-loop-done l = length l.s - l.p

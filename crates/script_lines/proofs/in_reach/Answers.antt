@@ -29,10 +29,13 @@ loop-k-smaller c =
     omega (arith, c.loop-k-test.true)
 
 pub loop-k-preserved : goal.loop-k-preserved
-loop-k-preserved c = (omega arith, λ s. elim c.if-file-i.branch [
-  then-file-i w ↦ absurd (subst T (sym w.seen-is ∙ s) tt)
-  | else-file-i w ↦ without_more (c.loop-k.invariant.1 (sym w.seen-is ∙ s)) w.if-file-i.false
-])
+loop-k-preserved c = (
+  omega arith,
+  λ s. elim c.if-file-i.branch [
+    | then-file-i w ↦ absurd (subst T (sym w.seen-is ∙ s) tt)
+    | else-file-i w ↦ without_more (c.loop-k.invariant.1 (sym w.seen-is ∙ s)) w.if-file-i.false
+  ],
+)
 
 pub returns : goal.returns
 returns c =

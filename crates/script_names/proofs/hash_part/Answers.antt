@@ -7,12 +7,11 @@ use Rattle.script_names.specs.Laws.{hash-whole, hash-ends}
 use Rattle.script_names.proofs.hash_part.Goals as goal
 
 pub returns-then-e-a-gt16 : goal.returns-then-e-a-gt16
-returns-then-e-a-gt16 c =
-    (
-      c.hash_from.ensures.0 ∙ ap (λ (h : ℕ). hash_from h (between c.args.s.now (c.args.e - 16) c.args.e)) c.hash_from-h.ensures.0
-          ∙ hash-ends c.args.s.now c.args.a c.args.e c.requires.0 c.requires.1 c.if-e-a-gt16.true,
-      c.hash_from.ensures.1,
-    )
+returns-then-e-a-gt16 c = (
+  c.hash_from.ensures.0 ∙ ap (λ (h : ℕ). hash_from h (between c.args.s.now (c.args.e - 16) c.args.e)) c.hash_from-h.ensures.0
+      ∙ hash-ends c.args.s.now c.args.a c.args.e c.requires.0 c.requires.1 c.if-e-a-gt16.true,
+  c.hash_from.ensures.1,
+)
 
 pub returns : goal.returns
 returns c =

@@ -12,17 +12,16 @@ pub loop-k-init : goal.loop-k-init
 loop-k-init c = (omega arith, λ _. runs-at runs-start (omega arith))
 
 pub loop-k-preserved : goal.loop-k-preserved
-loop-k-preserved c =
-    (
-      omega (arith, c.loop-k-test.true),
-      λ q.
-          runs-at {e = c.args.e + c.loop-k.k + 1}
-          (elim c.if-ends_name.branch [
-          then-ends_name w ↦ absurd (true≢false (sym q ∙ w.ok-is))
-          | else-ends_name w ↦ runs_on (c.loop-k.invariant.1 (sym w.ok-is ∙ q)) (omega (arith, c.requires, c.loop-k-test.true)) (sym c.ends_name.ensures ∙ w.if-ends_name.false)
-          ])
-          (omega arith),
-    )
+loop-k-preserved c = (
+  omega (arith, c.loop-k-test.true),
+  λ q.
+      runs-at {e = c.args.e + c.loop-k.k + 1}
+      (elim c.if-ends_name.branch [
+        | then-ends_name w ↦ absurd (true≢false (sym q ∙ w.ok-is))
+        | else-ends_name w ↦ runs_on (c.loop-k.invariant.1 (sym w.ok-is ∙ q)) (omega (arith, c.requires, c.loop-k-test.true)) (sym c.ends_name.ensures ∙ w.if-ends_name.false)
+      ])
+      (omega arith),
+)
 
 pub returns : goal.returns
 returns c = λ q. runs-at (c.loop-k.invariant.1 q) (omega (arith, c.loop-k.invariant.0, c.loop-k-test.false))

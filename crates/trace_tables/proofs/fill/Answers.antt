@@ -11,9 +11,9 @@ loop-i-init c = (omega arith, c.table-1.given.0.1, fill_start _ _ _ _ _)
 
 pub fixed-requires : goal.fixed-requires
 fixed-requires c = record {
-      fact_1 = c.requires.fact_1;
-      fact_2 = omega (arith, c.node_count-n.ensures, c.loop-i-test.true);
-    }
+  fact_1 = c.requires.fact_1;
+  fact_2 = omega (arith, c.node_count-n.ensures, c.loop-i-test.true);
+}
 
 pub offset_bounds-table-i : goal.offset_bounds-table-i
 offset_bounds-table-i c = omega (arith, c.loop-i.invariant.1, c.node_count-n.ensures, c.loop-i-test.true, c.requires.fact_2)

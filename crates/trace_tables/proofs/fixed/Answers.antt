@@ -8,9 +8,9 @@ use Rattle.trace_tables.proofs.fixed.Goals as goal
 
 pub constant-requires : goal.constant-requires
 constant-requires c = record {
-      fact_1 = (const-inside c.requires.fact_1 c.args.i (omega (arith, c.requires.fact_1.widths, c.requires.fact_2)) (node_of c.node_of-n.result) c.node_of-n.ensures (in-arm (shape (node_of c.node_of-n.result)) c.shape-s.ensures c.in-1.is), c.if-n-le64.true);
-      fact_2 = c.requires.fact_1.digits;
-    }
+  fact_1 = (const-inside c.requires.fact_1 c.args.i (omega (arith, c.requires.fact_1.widths, c.requires.fact_2)) (node_of c.node_of-n.result) c.node_of-n.ensures (in-arm (shape (node_of c.node_of-n.result)) c.shape-s.ensures c.in-1.is), c.if-n-le64.true);
+  fact_2 = c.requires.fact_1.digits;
+}
 
 pub turned-requires : goal.turned-requires
 turned-requires c = rotation-steady c.requires.fact_1 c.args.i (omega (arith, c.requires.fact_1.widths, c.requires.fact_2)) (node_of c.node_of-n.result) c.node_of-n.ensures (in-arm (shape (node_of c.node_of-n.result)) c.shape-s.ensures c.in-3.is)

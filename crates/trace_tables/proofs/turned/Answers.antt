@@ -22,9 +22,9 @@ returns-then-m-ne-KIND_CONST c = third-fails (ltb 0 c.args.w) (leb c.args.w 64) 
 
 pub amount-requires : goal.amount-requires
 amount-requires c = record {
-      fact_1 = search rules;
-      fact_2 = c.requires.steady (sym (ap (λ (x : Node). x.kind) c.node_of-m.ensures) ∙ c.if-m-ne-KIND_CONST.false);
-    }
+  fact_1 = search rules;
+  fact_2 = c.requires.steady (sym (ap (λ (x : Node). x.kind) c.node_of-m.ensures) ∙ c.if-m-ne-KIND_CONST.false);
+}
 
 pub returns : goal.returns
 returns c = all_hold (ltb 0 c.args.w) (leb c.args.w 64) (eqb (get_or (nodes_of c.args.nodes.now) c.args.b no_node).kind Const) (bits_value (constant_bits c.args.bits.now (get_or (nodes_of c.args.nodes.now) c.args.b no_node)) % c.args.w) (lt-ltb 0 c.args.w (omega (arith, c.if-w-eq0.false))) (le-leb _ _ c.if-w-gt64.false) (eq-eqb _ _ (sym (ap (λ (x : Node). x.kind) c.node_of-m.ensures) ∙ c.if-m-ne-KIND_CONST.false)) c.amount.ensures

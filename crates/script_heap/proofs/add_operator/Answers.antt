@@ -1,0 +1,13 @@
+-- `add_operator` meets its contract: its record is added, with no bits and no side entries.
+use mathlib.Core.Path.{refl, sym}
+use mathlib.Core.List.{[]}
+use native.Mathlib.Omega.{arith}
+use Rattle.readback.specs.Rebuild.{an_operator, side_in, record_of}
+use Rattle.heap_laws.specs.Within.{within-parts}
+use Rattle.heap_laws.specs.Adding.{plain-operator}
+use Rattle.script_heap.specs.Laws.{told-record, top-heap}
+use Rattle.script_heap.proofs.add_operator.Goals as goal
+
+pub returns : goal.returns
+unfolding side_in record_of
+returns c = λ bits s ks xs ms h e. told-record h (an_operator c.args.n.kind ks xs ms) (plain-operator c.args.n.kind ks xs ms) [] _ refl (omega (arith, h.side_count, (within-parts s h.inside).side)) _ _ _ _ c.add_record.result (top-heap _ _) (sym e) c.add_record.ensures
