@@ -1,0 +1,14 @@
+-- `place` meets its contract, by the laws of `Going` and `Turning`. The measure is what is left of the script; at each turn of the loop the operands up to the place reached are placed.
+use Prim.Native.Nat.{◌-◌}
+use lib.ListN.{length}
+use Rattle.script_place.specs.Turning.{Turning}
+use Rattle.script_place.proofs.+place.Given as goal
+
+abbrev pub decreases-place : goal.decreases-place
+decreases-place l = length l.s.now - l.at
+
+abbrev pub invariant-loop-w : goal.invariant-loop-w
+invariant-loop-w l =     Turning l.s l.t l.h l.initial.heap l.initial.nodes l.initial.bits l.at l.levels l.x l.heap l.nodes l.bits l.base l.w l.e l.v
+
+abbrev pub decreases-loop-w : goal.decreases-loop-w
+decreases-loop-w l =     length l.s - l.e
