@@ -56,3 +56,75 @@ pub fn write_line<W: Write>(out: &mut W, label: &[u8], n: u64) -> io::Result<()>
     out.write_all(label)?;
     writeln!(out, "{n}")
 }
+
+#[cfg(test)]
+mod tests {
+    use super::{read_full, write_line, write_number};
+    use std::io;
+    use std::io::Read;
+    use std::test::Fail;
+
+    // Gives at most two bytes a call, and fails once, after `before` calls.
+    #[derive(Drop)]
+    struct Halting {
+        bytes: &'static [u8],
+        before: u8,
+    }
+
+    impl Read for Halting {
+        fn read(&mut self, buf: &mut [u8]) -> io::Result<usize> {
+            if self.before == 0 {
+                self.before = 255;
+                return Err(io::Error::from(io::ErrorKind::Other));
+            }
+            self.before -= 1;
+            let n = self.bytes.len().min(buf.len()).min(2);
+            buf[..n].copy_from_slice(&self.bytes[..n]);
+            self.bytes = &self.bytes[n..];
+            Ok(n)
+        }
+    }
+
+    #[test]
+    fn reads_until_full_or_at_the_end(rt: HostRuntime) -> Result<(), Fail> {
+        let mut reader = Halting {
+            bytes: b"abcdefg",
+            before: 100,
+        };
+        let mut buf = [b'-'; 5];
+        assert_eq!(rt; read_full(&mut reader, &mut buf)?, 5);
+        assert_eq!(rt; &buf, b"abcde");
+        assert_eq!(rt; read_full(&mut reader, &mut buf)?, 2);
+        assert_eq!(rt; &buf, b"fgcde");
+        assert_eq!(rt; read_full(&mut reader, &mut buf)?, 0);
+        assert_eq!(rt; read_full(&mut reader, &mut [])?, 0);
+        Ok(())
+    }
+
+    #[test]
+    fn passes_a_failed_read_on(rt: HostRuntime) -> Result<(), Fail> {
+        let mut reader = Halting {
+            bytes: b"abcdefg",
+            before: 2,
+        };
+        let mut buf = [b'-'; 5];
+        assert!(rt; read_full(&mut reader, &mut buf).is_err());
+        assert_eq!(rt; &buf, b"abcd-");
+        assert_eq!(rt; read_full(&mut reader, &mut buf)?, 3);
+        assert_eq!(rt; &buf, b"efgd-");
+        Ok(())
+    }
+
+    #[test]
+    fn writes_numbers(rt: HostRuntime) -> Result<(), Fail> {
+        let mut text = Vec::new(rt.alloc());
+        write_number(&mut text, b"refused with ", 10)?;
+        write_line(&mut text, b": ", 0)?;
+        write_line(&mut text, b"most ", u64::MAX)?;
+        assert_eq!(rt;
+            text.as_slice(),
+            &b"refused with 10: 0\nmost 18446744073709551615\n"[..]
+        );
+        Ok(())
+    }
+}
