@@ -5,7 +5,9 @@ ghost use Rattle.std.specs.Prelude.{◌≡◌};
 ghost use Rattle.echo_kernel.specs.Answered.{number as number_of, count};
 
 use echo_kernel::Echo;
-use libc::STDOUT_FILENO;
+use std::io;
+use std::io::Write;
+use streams::{write_line, write_number};
 
 // Kinds of a node.
 const ADD: u8 = 2;
@@ -52,24 +54,20 @@ fn length(r: Echo) -> usize
     }
 }
 
-fn write(text: &[u8], n: u64) {
-    io::write_all(STDOUT_FILENO, text);
-    io::print_decimal(STDOUT_FILENO, n);
-}
-
-fn tell(label: u64, r: Echo, out: &[u8]) {
+fn tell<W: Write>(writer: &mut W, label: u64, r: Echo, out: &[u8]) -> io::Result<()> {
     let n = length(r);
-    write(b"M", label);
-    write(b" ", number(r));
-    write(b" ", n as u64);
-    io::write_all(STDOUT_FILENO, b"\n");
+    write_number(writer, b"M", label)?;
+    write_number(writer, b" ", number(r))?;
+    write_line(writer, b" ", n as u64)?;
     if n <= out.len() {
-        io::write_all(STDOUT_FILENO, &out[..n]);
+        writer.write_all(&out[..n])?;
     }
+    Ok(())
 }
 
 // M2 with other bits, another kind of node 2, another second operand of node 3, another root and another name.
-fn sum_case<'a>(
+fn sum_case<'a, W: Write>(
+    writer: &mut W,
     label: u64,
     bits: &'a [u8],
     kind: u8,
@@ -77,7 +75,7 @@ fn sum_case<'a>(
     root: u64,
     name: &'a [u8],
     out: &mut [u8],
-) {
+) -> io::Result<()> {
     let mut nodes = SUM;
     nodes[KIND] = kind;
     nodes[RIGHT] = right;
@@ -102,11 +100,12 @@ fn sum_case<'a>(
         &[],
         out,
     );
-    tell(label, r, out);
+    tell(writer, label, r, out)
 }
 
 // M1 with these nodes, bits and functions.
-fn bare_case<'a>(
+fn bare_case<'a, W: Write>(
+    writer: &mut W,
     label: u64,
     nodes: &'a [u8],
     bits: &'a [u8],
@@ -115,7 +114,7 @@ fn bare_case<'a>(
     fname_len: &'a [u64],
     func_width: &'a [u64],
     out: &mut [u8],
-) {
+) -> io::Result<()> {
     let r = echo_kernel::echo_ext(
         nodes,
         bits,
@@ -137,20 +136,31 @@ fn bare_case<'a>(
         func_width,
         out,
     );
-    tell(label, r, out);
+    tell(writer, label, r, out)
 }
 
-fn main() {
+fn main(rt: HostRuntime) -> io::Result<()> {
+    let mut writer = io::writer(&rt);
     let mut out = [0u8; 200];
     let mut short = [0u8; 102];
-    bare_case(1, b"", b"", b"", &[], &[], &[], &mut out);
-    sum_case(2, &FIVE, ADD, 0, 3, b"x", &mut out);
-    sum_case(3, &FIVE, ADD, 0, 3, b"x", &mut short);
-    sum_case(4, &FIVE, ADD, 2, 3, b"x", &mut out);
-    sum_case(5, &FIVE, ADD, 0, 0, b"x", &mut out);
-    sum_case(6, &FIVE, ADD, 0, 3, b"bvadd", &mut out);
-    sum_case(7, &FIVE, ADD, 0, 4, b"x", &mut out);
-    sum_case(8, &ELEVEN, ROTL, 0, 3, b"x", &mut out);
-    bare_case(9, b"", b"", b"f", &[0], &[1], &[8], &mut out);
-    bare_case(10, &SELECT, &[0; 32], b"", &[], &[], &[], &mut out);
+    bare_case(&mut writer, 1, b"", b"", b"", &[], &[], &[], &mut out)?;
+    sum_case(&mut writer, 2, &FIVE, ADD, 0, 3, b"x", &mut out)?;
+    sum_case(&mut writer, 3, &FIVE, ADD, 0, 3, b"x", &mut short)?;
+    sum_case(&mut writer, 4, &FIVE, ADD, 2, 3, b"x", &mut out)?;
+    sum_case(&mut writer, 5, &FIVE, ADD, 0, 0, b"x", &mut out)?;
+    sum_case(&mut writer, 6, &FIVE, ADD, 0, 3, b"bvadd", &mut out)?;
+    sum_case(&mut writer, 7, &FIVE, ADD, 0, 4, b"x", &mut out)?;
+    sum_case(&mut writer, 8, &ELEVEN, ROTL, 0, 3, b"x", &mut out)?;
+    bare_case(&mut writer, 9, b"", b"", b"f", &[0], &[1], &[8], &mut out)?;
+    bare_case(
+        &mut writer,
+        10,
+        &SELECT,
+        &[0; 32],
+        b"",
+        &[],
+        &[],
+        &[],
+        &mut out,
+    )
 }

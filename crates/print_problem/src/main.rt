@@ -2,7 +2,8 @@
 // says why there is none.
 #![tactic(auto)]
 
-use libc::{STDIN_FILENO, STDOUT_FILENO};
+use std::io;
+use std::io::{Read, Write};
 
 // One byte more than the longest problem within the limits, which has 18 counts and 327,680 bytes of elements. These bytes decide:
 // what follows them is left over, or stands behind the first fault (`layout-front` in problem_layout's specs/LayoutLaws.antt).
@@ -12,19 +13,29 @@ const INPUT: usize = 327825;
 const ROOM: usize = 2097152;
 
 // Over buffers of any length: the check does not have to count the elements of the two arrays.
-fn run(input: &mut [u8], out: &mut [u8]) {
-    let n = io::read_full(STDIN_FILENO, input);
+fn run<R: Read, W: Write>(
+    reader: &mut R,
+    writer: &mut W,
+    input: &mut [u8],
+    out: &mut [u8],
+) -> io::Result<()> {
+    let n = streams::read_full(reader, input)?;
     let told = problem_layout::print_problem(&input[..n], out);
     let m = told.length;
-    io::write_all(STDOUT_FILENO, &out[..m]);
+    writer.write_all(&out[..m])
 }
 
-fn with_buffers(input: &mut [u8; INPUT], out: &mut [u8; ROOM]) {
-    run(input, out);
+fn with_buffers<R: Read, W: Write>(
+    reader: &mut R,
+    writer: &mut W,
+    input: &mut [u8; INPUT],
+    out: &mut [u8; ROOM],
+) -> io::Result<()> {
+    run(reader, writer, input, out)
 }
 
-fn main() {
+fn main(rt: HostRuntime) -> io::Result<()> {
     let mut input = [0u8; INPUT];
     let mut out = [0u8; ROOM];
-    with_buffers(&mut input, &mut out);
+    with_buffers(&mut rt.reader(), &mut io::writer(&rt), &mut input, &mut out)
 }

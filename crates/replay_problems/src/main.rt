@@ -2,14 +2,15 @@
 // with the whole library.
 #![tactic(auto)]
 
-use replay::Recorded;
+use replay::{Recorded, run};
+use std::io;
 
-fn main() {
-    replay::run(Recorded::Widths);
-    replay::run(Recorded::Printer);
-    replay::run(Recorded::Sizes);
-    replay::run(Recorded::Hidden);
-    replay::run(Recorded::Let);
-    replay::run(Recorded::Fewest);
-    replay::run(Recorded::Formulas);
+fn main(rt: HostRuntime) -> io::Result<()> {
+    run(&rt, Recorded::Widths)?;
+    run(&rt, Recorded::Printer)?;
+    run(&rt, Recorded::Sizes)?;
+    run(&rt, Recorded::Hidden)?;
+    run(&rt, Recorded::Let)?;
+    run(&rt, Recorded::Fewest)?;
+    run(&rt, Recorded::Formulas)
 }

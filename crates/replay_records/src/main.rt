@@ -2,9 +2,11 @@
 // damaged is told as such.
 #![tactic(auto)]
 
-use libc::STDOUT_FILENO;
-use replay::{Unpacked, agree8, line};
+use replay::{Unpacked, agree8};
 use short_records::Converted;
+use std::io;
+use std::io::{Read, Write};
+use streams::{read_full, write_line};
 
 // What a problem came to: the number that was answered, where all is as recorded; what was answered where it is not; or a damaged
 // list.
@@ -120,31 +122,31 @@ fn unpacked_in(packed: &[u8], plain: &mut [u8]) -> Verdict {
 }
 
 // The bytes of a packed problem, all of which have to be there.
-fn read(fd: i32, packed: &mut [u8], plain: &mut [u8]) -> Verdict {
-    if io::read_full(fd, packed) < packed.len() {
-        return Verdict::Damaged;
+fn read<R: Read>(file: &mut R, packed: &mut [u8], plain: &mut [u8]) -> io::Result<Verdict> {
+    if read_full(file, packed)? < packed.len() {
+        return Ok(Verdict::Damaged);
     }
-    unpacked_in(packed, plain)
+    Ok(unpacked_in(packed, plain))
 }
 
 // The length of the next problem, and the problem.
-fn find(fd: i32, packed: &mut [u8], plain: &mut [u8]) -> Verdict {
+fn find<R: Read>(file: &mut R, packed: &mut [u8], plain: &mut [u8]) -> io::Result<Verdict> {
     let mut head = [0u8; 4];
-    if io::read_full(fd, &mut head) < 4 {
-        return Verdict::Damaged;
+    if read_full(file, &mut head)? < 4 {
+        return Ok(Verdict::Damaged);
     }
     let n = lent::word32(&head, 0) as usize;
     if n > packed.len() {
-        return Verdict::Damaged;
+        return Ok(Verdict::Damaged);
     }
-    read(fd, &mut packed[..n], plain)
+    read(file, &mut packed[..n], plain)
 }
 
 // The next problem of the file, with room for the largest of the list.
-fn next(fd: i32) -> Verdict {
+fn next<R: Read>(file: &mut R) -> io::Result<Verdict> {
     let mut packed = [0u8; 20480];
     let mut plain = [0u8; 73728];
-    find(fd, &mut packed, &mut plain)
+    find(file, &mut packed, &mut plain)
 }
 
 // ---------------------------------------------------------------- the tally
@@ -158,7 +160,7 @@ struct Tally {
 }
 
 fn one_more(n: u64) -> u64 {
-    std::num::wrapping_add_u64(n, 1)
+    n.wrapping_add(1)
 }
 
 fn noted(mut t: Tally, number: u64) -> Tally {
@@ -175,69 +177,64 @@ fn differing(mut t: Tally) -> Tally {
     t
 }
 
-fn report(t: Tally) {
-    line(b"problems ", t.problems);
-    line(b"accepted ", t.numbers[0]);
-    line(b"refused with 8: ", t.numbers[8]);
-    line(b"refused with 9: ", t.numbers[9]);
-    line(b"refused with 10: ", t.numbers[10]);
-    line(b"refused with 16: ", t.numbers[16]);
-    line(b"differences ", t.differences);
+fn report<W: Write>(out: &mut W, t: Tally) -> io::Result<()> {
+    write_line(out, b"problems ", t.problems)?;
+    write_line(out, b"accepted ", t.numbers[0])?;
+    write_line(out, b"refused with 8: ", t.numbers[8])?;
+    write_line(out, b"refused with 9: ", t.numbers[9])?;
+    write_line(out, b"refused with 10: ", t.numbers[10])?;
+    write_line(out, b"refused with 16: ", t.numbers[16])?;
+    write_line(out, b"differences ", t.differences)
 }
 
 // n problems.
-fn replay_all(fd: i32, n: u64) -> Tally {
+fn replay_all<R: Read, W: Write>(file: &mut R, out: &mut W, n: u64) -> io::Result<Tally> {
     let mut t = Tally {
         problems: 0,
         differences: 0,
         numbers: [0u64; 17],
     };
-    let mut i = 0;
-    while i < n {
-        match next(fd) {
+    for i in 0..n {
+        match next(file)? {
             Verdict::Same(number) => t = noted(t, number),
             Verdict::Other(number, length) => {
-                line(b"another answer to problem ", i);
-                line(b"  number ", number);
-                line(b"  length ", length);
+                write_line(out, b"another answer to problem ", i)?;
+                write_line(out, b"  number ", number)?;
+                write_line(out, b"  length ", length)?;
                 t = differing(noted(t, number));
             }
             Verdict::Damaged => {
-                line(b"the list is damaged at problem ", i);
-                return t;
+                write_line(out, b"the list is damaged at problem ", i)?;
+                return Ok(t);
             }
         }
-        i += 1;
     }
-    t
+    Ok(t)
 }
 
 // The list in an open file.
-fn replay_file(fd: i32) {
+fn replay_file<R: Read, W: Write>(file: &mut R, out: &mut W) -> io::Result<()> {
     let mut found = [0u8; 8];
     let mut size = [0u8; 4];
-    io::read_full(fd, &mut found);
-    io::read_full(fd, &mut size);
+    read_full(file, &mut found)?;
+    read_full(file, &mut size)?;
     let wanted = *b"RECORDS1";
     if !agree8(&found, &wanted, 0) {
-        line(b"the list is damaged at byte ", 0);
-        return;
+        return write_line(out, b"the list is damaged at byte ", 0);
     }
     let n = lent::word32(&size, 0);
-    let t = replay_all(fd, n);
-    report(t);
+    let t = replay_all(file, out, n)?;
+    report(out, t)?;
     let mut rest = [0u8; 1];
-    if io::read_full(fd, &mut rest) > 0 {
-        line(b"the list goes on after its problems, so many: ", n);
+    if read_full(file, &mut rest)? > 0 {
+        write_line(out, b"the list goes on after its problems, so many: ", n)?;
     }
+    Ok(())
 }
 
-fn main() {
-    let fd = os::open_read(b"records.bin");
-    if fd < 0 {
-        os::fail(b"records.bin");
-        return;
+fn main(rt: HostRuntime) -> io::Result<()> {
+    match streams::open(&rt, "records.bin")? {
+        Some(mut file) => replay_file(&mut file, &mut io::writer(&rt)),
+        None => Ok(()),
     }
-    replay_file(fd);
-    libc::close(fd);
 }

@@ -4,7 +4,10 @@
 
 use lent::word32;
 use release::Outcome;
-use replay::{Unpacked, agree8, line};
+use replay::{Unpacked, agree8};
+use std::io;
+use std::io::{Read, Write};
+use streams::{read_full, write_line};
 
 // What a file came to: the number that was answered, where all is as recorded; what was answered where it is not; or a damaged list.
 #[derive(Clone, Copy)]
@@ -71,31 +74,31 @@ fn unpacked_in(packed: &[u8], plain: &mut [u8]) -> Verdict {
 }
 
 // The bytes of a packed problem, all of which have to be there.
-fn read(fd: i32, packed: &mut [u8], plain: &mut [u8]) -> Verdict {
-    if io::read_full(fd, packed) < packed.len() {
-        return Verdict::Damaged;
+fn read<R: Read>(file: &mut R, packed: &mut [u8], plain: &mut [u8]) -> io::Result<Verdict> {
+    if read_full(file, packed)? < packed.len() {
+        return Ok(Verdict::Damaged);
     }
-    unpacked_in(packed, plain)
+    Ok(unpacked_in(packed, plain))
 }
 
 // The length of the next problem, and the problem.
-fn find(fd: i32, packed: &mut [u8], plain: &mut [u8]) -> Verdict {
+fn find<R: Read>(file: &mut R, packed: &mut [u8], plain: &mut [u8]) -> io::Result<Verdict> {
     let mut head = [0u8; 4];
-    if io::read_full(fd, &mut head) < 4 {
-        return Verdict::Damaged;
+    if read_full(file, &mut head)? < 4 {
+        return Ok(Verdict::Damaged);
     }
     let n = word32(&head, 0) as usize;
     if n > packed.len() {
-        return Verdict::Damaged;
+        return Ok(Verdict::Damaged);
     }
-    read(fd, &mut packed[..n], plain)
+    read(file, &mut packed[..n], plain)
 }
 
 // The next problem of the file, with room for the largest of the list.
-fn next(fd: i32) -> Verdict {
+fn next<R: Read>(file: &mut R) -> io::Result<Verdict> {
     let mut packed = [0u8; 40960];
     let mut plain = [0u8; 264192];
-    find(fd, &mut packed, &mut plain)
+    find(file, &mut packed, &mut plain)
 }
 
 // ---------------------------------------------------------------- the tally
@@ -109,7 +112,7 @@ struct Tally {
 }
 
 fn one_more(n: u64) -> u64 {
-    std::num::wrapping_add_u64(n, 1)
+    n.wrapping_add(1)
 }
 
 fn noted(mut t: Tally, number: u64) -> Tally {
@@ -126,68 +129,63 @@ fn differing(mut t: Tally) -> Tally {
     t
 }
 
-fn report(t: Tally) {
-    line(b"files ", t.files);
-    line(b"accepted ", t.numbers[0]);
-    line(b"refused with 9: ", t.numbers[9]);
-    line(b"refused with 13: ", t.numbers[13]);
-    line(b"refused with 17: ", t.numbers[17]);
-    line(b"differences ", t.differences);
+fn report<W: Write>(out: &mut W, t: Tally) -> io::Result<()> {
+    write_line(out, b"files ", t.files)?;
+    write_line(out, b"accepted ", t.numbers[0])?;
+    write_line(out, b"refused with 9: ", t.numbers[9])?;
+    write_line(out, b"refused with 13: ", t.numbers[13])?;
+    write_line(out, b"refused with 17: ", t.numbers[17])?;
+    write_line(out, b"differences ", t.differences)
 }
 
 // n files.
-fn replay_all(fd: i32, n: u64) -> Tally {
+fn replay_all<R: Read, W: Write>(file: &mut R, out: &mut W, n: u64) -> io::Result<Tally> {
     let mut t = Tally {
         files: 0,
         differences: 0,
         numbers: [0u64; 18],
     };
-    let mut i = 0;
-    while i < n {
-        match next(fd) {
+    for i in 0..n {
+        match next(file)? {
             Verdict::Same(number) => t = noted(t, number),
             Verdict::Other(number, script) => {
-                line(b"another answer to file ", i);
-                line(b"  number ", number);
-                line(b"  script ", script);
+                write_line(out, b"another answer to file ", i)?;
+                write_line(out, b"  number ", number)?;
+                write_line(out, b"  script ", script)?;
                 t = differing(noted(t, number));
             }
             Verdict::Damaged => {
-                line(b"the list is damaged at file ", i);
-                return t;
+                write_line(out, b"the list is damaged at file ", i)?;
+                return Ok(t);
             }
         }
-        i += 1;
     }
-    t
+    Ok(t)
 }
 
 // The list in an open file.
-fn replay_file(fd: i32) {
+fn replay_file<R: Read, W: Write>(file: &mut R, out: &mut W) -> io::Result<()> {
     let mut found = [0u8; 8];
     let mut size = [0u8; 4];
-    io::read_full(fd, &mut found);
-    io::read_full(fd, &mut size);
+    read_full(file, &mut found)?;
+    read_full(file, &mut size)?;
     let wanted = *b"RELEASE1";
     if !agree8(&found, &wanted, 0) {
-        line(b"the list is damaged at byte ", 0);
-        return;
+        return write_line(out, b"the list is damaged at byte ", 0);
     }
     let n = word32(&size, 0);
-    let t = replay_all(fd, n);
-    report(t);
+    let t = replay_all(file, out, n)?;
+    report(out, t)?;
     let mut rest = [0u8; 1];
-    if io::read_full(fd, &mut rest) > 0 {
-        line(b"the list goes on after its files, so many: ", n);
+    if read_full(file, &mut rest)? > 0 {
+        write_line(out, b"the list goes on after its files, so many: ", n)?;
     }
+    Ok(())
 }
 
-fn main() {
-    let fd = os::open_read(b"releases.bin");
-    if fd < 0 {
-        os::fail(b"releases.bin");
-        return;
+fn main(rt: HostRuntime) -> io::Result<()> {
+    match streams::open(&rt, "releases.bin")? {
+        Some(mut file) => replay_file(&mut file, &mut io::writer(&rt)),
+        None => Ok(()),
     }
-    replay_file(fd);
-    libc::close(fd);
 }

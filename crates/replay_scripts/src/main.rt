@@ -2,8 +2,10 @@
 // finds no script, and each length is compared with the recorded one. docs/RECORDED.md has the layout. A list that is damaged is told as such.
 #![tactic(auto)]
 
-use libc::STDOUT_FILENO;
 use script_lines::Found;
+use std::io;
+use std::io::{Read, Write};
+use streams::{read_full, write_line};
 
 // The longest file of the list, and the most scripts of one.
 const LONGEST: usize = 20480;
@@ -45,46 +47,40 @@ fn compared(file: &[u8], lengths: &[u8]) -> Verdict {
 }
 
 // The lengths and the bytes of a file, all of which have to be there.
-fn read(fd: i32, file: &mut [u8], lengths: &mut [u8]) -> Verdict {
-    if io::read_full(fd, lengths) < lengths.len() {
-        return Verdict::Damaged;
+fn read<R: Read>(list: &mut R, file: &mut [u8], lengths: &mut [u8]) -> io::Result<Verdict> {
+    if read_full(list, lengths)? < lengths.len() {
+        return Ok(Verdict::Damaged);
     }
-    if io::read_full(fd, file) < file.len() {
-        return Verdict::Damaged;
+    if read_full(list, file)? < file.len() {
+        return Ok(Verdict::Damaged);
     }
-    compared(file, lengths)
+    Ok(compared(file, lengths))
 }
 
-fn find(fd: i32, file: &mut [u8], lengths: &mut [u8]) -> Verdict {
+fn find<R: Read>(list: &mut R, file: &mut [u8], lengths: &mut [u8]) -> io::Result<Verdict> {
     let mut head = [0u8; 8];
-    if io::read_full(fd, &mut head) < 8 {
-        return Verdict::Damaged;
+    if read_full(list, &mut head)? < 8 {
+        return Ok(Verdict::Damaged);
     }
     let n = lent::word32(&head, 0) as usize;
     let m = lent::word32(&head, 4) as usize;
     if n > file.len() {
-        return Verdict::Damaged;
+        return Ok(Verdict::Damaged);
     }
     if m > lengths.len() / 4 {
-        return Verdict::Damaged;
+        return Ok(Verdict::Damaged);
     }
-    read(fd, &mut file[..n], &mut lengths[..4 * m])
+    read(list, &mut file[..n], &mut lengths[..4 * m])
 }
 
-fn next(fd: i32) -> Verdict {
+fn next<R: Read>(list: &mut R) -> io::Result<Verdict> {
     let mut file = [0u8; LONGEST];
     let mut lengths = [0u8; 4 * MOST];
-    find(fd, &mut file, &mut lengths)
-}
-
-fn line(text: &[u8], n: u64) {
-    io::write_all(STDOUT_FILENO, text);
-    io::print_decimal(STDOUT_FILENO, n);
-    io::write_all(STDOUT_FILENO, b"\n");
+    find(list, &mut file, &mut lengths)
 }
 
 fn sum(a: u64, b: u64) -> u64 {
-    std::num::wrapping_add_u64(a, b)
+    a.wrapping_add(b)
 }
 
 #[derive(Clone, Copy)]
@@ -107,29 +103,27 @@ fn other(mut t: Tally) -> Tally {
 }
 
 // n files, and then nothing more.
-fn replay_all(fd: i32, n: u64) -> Tally {
+fn replay_all<R: Read, W: Write>(list: &mut R, out: &mut W, n: u64) -> io::Result<Tally> {
     let mut t = Tally {
         files: 0,
         scripts: 0,
         differences: 0,
     };
-    let mut i = 0;
-    while i < n {
-        match next(fd) {
+    for i in 0..n {
+        match next(list)? {
             Verdict::Same(k) => t = same(t, k),
             Verdict::Other(k) => {
-                line(b"another answer in file ", i);
-                line(b"  at script ", k);
+                write_line(out, b"another answer in file ", i)?;
+                write_line(out, b"  at script ", k)?;
                 t = other(t);
             }
             Verdict::Damaged => {
-                line(b"the list is damaged at file ", i);
-                return t;
+                write_line(out, b"the list is damaged at file ", i)?;
+                return Ok(t);
             }
         }
-        i += 1;
     }
-    t
+    Ok(t)
 }
 
 fn titled(found: &[u8; 8]) -> bool {
@@ -144,32 +138,30 @@ fn titled(found: &[u8; 8]) -> bool {
     true
 }
 
-fn replay_file(fd: i32) {
+// The list in an open file.
+fn replay_file<R: Read, W: Write>(list: &mut R, out: &mut W) -> io::Result<()> {
     let mut title = [0u8; 8];
     let mut size = [0u8; 4];
-    io::read_full(fd, &mut title);
-    io::read_full(fd, &mut size);
+    read_full(list, &mut title)?;
+    read_full(list, &mut size)?;
     if !titled(&title) {
-        line(b"the list is damaged at byte ", 0);
-        return;
+        return write_line(out, b"the list is damaged at byte ", 0);
     }
     let n = lent::word32(&size, 0);
-    let t = replay_all(fd, n);
-    line(b"files ", t.files);
-    line(b"scripts ", t.scripts);
-    line(b"differences ", t.differences);
+    let t = replay_all(list, out, n)?;
+    write_line(out, b"files ", t.files)?;
+    write_line(out, b"scripts ", t.scripts)?;
+    write_line(out, b"differences ", t.differences)?;
     let mut rest = [0u8; 1];
-    if io::read_full(fd, &mut rest) > 0 {
-        line(b"the list goes on after its files, so many: ", n);
+    if read_full(list, &mut rest)? > 0 {
+        write_line(out, b"the list goes on after its files, so many: ", n)?;
     }
+    Ok(())
 }
 
-fn main() {
-    let fd = os::open_read(b"scripts.bin");
-    if fd < 0 {
-        os::fail(b"scripts.bin");
-        return;
+fn main(rt: HostRuntime) -> io::Result<()> {
+    match streams::open(&rt, "scripts.bin")? {
+        Some(mut list) => replay_file(&mut list, &mut io::writer(&rt)),
+        None => Ok(()),
     }
-    replay_file(fd);
-    libc::close(fd);
 }
