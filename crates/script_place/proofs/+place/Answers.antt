@@ -13,12 +13,6 @@ use Rattle.script_place.specs.Turning.{few-ready, ready-pushable, none-placed, a
 use Prim.Native.Nat.{ℕ}
 use Rattle.script_place.proofs.+place.Goals as goal
 
-abbrev place_at : ℕ → In 6 place-kinds.ps
-place_at t = and 6 place-kinds.ps (is 6 place-kinds.ps μ-place t) place.Pre
-
-abbrev calls : ℕ → place-lts.Claims
-calls t = (head-at-reads.Asked, head-at-reads.Learnt, begin-reads.Asked, begin-reads.Learnt, end-call-reads.Asked, end-call-reads.Learnt, finished-reads.Asked, finished-reads.Learnt, opening-reads.Asked, opening-reads.Learnt, more-reads.Asked, more-reads.Learnt, place-below t, place.Post, pushed-reads.Asked, pushed-reads.Learnt, one-more-reads.Asked, one-more-reads.Learnt, step-reads.Asked, step-reads.Learnt, closed-reads.Asked, closed-reads.Learnt)
-
 pub head_at-x-requires : goal.head_at-x-requires
 head_at-x-requires t c = (c.requires.0, c.requires.1)
 
