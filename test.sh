@@ -1,9 +1,9 @@
 #!/bin/sh
 # Tests what is around the proofs: the C header and examples, the Rust package and the command, the story of examples/rule, the archive. The
-# proofs and the programs in Rattle are `rt ci`. Exit status: 0 if all is as expected.
+# proofs and the programs in Rattle are `.ci/run`. Exit status: 0 if all is as expected.
 set -eu
 cd "$(dirname "$0")"
-[ -f target/staticlib/libecho_c.a ] || rt staticlib echo_c
+[ -f target/staticlib/libecho_c.a ] || sh tools/staticlib.sh
 sh examples/c/run.sh
 (cd bindings/rust && cargo test --quiet --offline)
 sh examples/rule/run.sh

@@ -1,6 +1,6 @@
 #!/bin/sh
 # Measures read_script: its time beside that of printing the same problem, and the stack that deep scripts take. The library is
-# target/staticlib/libecho_c.a (`rt staticlib echo_c`), or that of the folder which ECHO_LIB_DIR names. It fails if more stack is taken than
+# target/staticlib/libecho_c.a (`sh tools/staticlib.sh`), or that of the folder which ECHO_LIB_DIR names. It fails if more stack is taken than
 # `read_stack` of the Rust package, and `echo_read_stack` of the header, tell.
 set -eu
 cd "$(dirname "$0")/.."

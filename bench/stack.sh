@@ -1,13 +1,13 @@
 #!/bin/sh
 # Measures the stack of the port beside the Rust's: stack.sh FOLDER, where FOLDER holds the unchanged Rust (kernel.rs and the files
-# that it includes). target/staticlib/libecho_c.a must be there (`rt staticlib echo_c`), or LIBRARY names another. What is built goes
+# that it includes). target/staticlib/libecho_c.a must be there (`sh tools/staticlib.sh`), or LIBRARY names another. What is built goes
 # to a folder of its own and is removed.
 set -eu
 source=$(cd "$1" && pwd)
 here=$(cd "$(dirname "$0")" && pwd)
 library=${LIBRARY:-$here/../target/staticlib/libecho_c.a}
 if [ ! -f "$library" ]; then
-    echo "$library is not there; make it with: rt staticlib echo_c" >&2
+    echo "$library is not there; make it with: sh tools/staticlib.sh" >&2
     exit 2
 fi
 room=$(mktemp -d)

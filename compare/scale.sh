@@ -7,7 +7,7 @@ source=$(cd "$1" && pwd)
 here=$(cd "$(dirname "$0")" && pwd)
 library=${LIBRARY:-$here/../target/staticlib}
 if [ ! -f "$library/libecho_c.a" ]; then
-    echo "libecho_c.a is not there; make it with: rt staticlib echo_c" >&2
+    echo "libecho_c.a is not there; make it with: sh tools/staticlib.sh" >&2
     exit 2
 fi
 room=$(mktemp -d)

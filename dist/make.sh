@@ -15,8 +15,8 @@ cd "$(dirname "$0")/.."
 folder=${folder:-$PWD/target/dist}
 library=target/staticlib/libecho_c.a
 if [ ! -f "$library" ]; then
-    echo "make.sh: $library is not there: rt staticlib echo_c" >&2
-    rt staticlib echo_c >&2
+    echo "make.sh: $library is not there: sh tools/staticlib.sh" >&2
+    sh tools/staticlib.sh >&2
 fi
 version=$(sed -n 's/^version = "\(.*\)"$/\1/p' bindings/rust/Cargo.toml)
 name=smt-echo-$version

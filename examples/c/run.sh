@@ -12,8 +12,8 @@ cc=${CC:-gcc}
 cxx=${CXX:-g++}
 warnings='-Wall -Wextra -Wpedantic -Wconversion -Werror'
 if [ ! -f "$library" ]; then
-    echo "run.sh: $library is not there: rt staticlib echo_c"
-    rt staticlib echo_c
+    echo "run.sh: $library is not there: sh tools/staticlib.sh"
+    sh tools/staticlib.sh
 fi
 mkdir -p "$out"
 sanitizers='-g -O1 -fsanitize=address,undefined -fno-sanitize-recover=all'

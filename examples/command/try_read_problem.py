@@ -4,7 +4,7 @@ must print as the same script.
 
   try_read_problem.py READ_PROBLEM PRINT_PROBLEM READS [PRINTER]
 
-READS is the file reads.bin of the crate replay_reads, PRINTER the file printer.bin of the crate replay_printer (docs/RECORDED.md). Of the
+READS is the file reads.bin of the crate replay_reads, PRINTER the file printer.bin of the crate replay_problems (docs/RECORDED.md). Of the
 second the recorded scripts of accepted problems are read and printed again. The recorded number 10 is for outputs that were lent too short,
 and does not occur here. A script that is longer or nested more deeply than the command reads is told as such.
 """

@@ -6,7 +6,7 @@
 set -eu
 cd "$(dirname "$0")/../.."
 if [ -z "${ECHO_LIB_DIR:-}" ] && [ ! -f target/staticlib/libecho_c.a ] && [ ! -f lib/libecho_c.a ]; then
-    rt staticlib echo_c
+    sh tools/staticlib.sh
 fi
 cargo build --quiet --release --offline --manifest-path bindings/rust/Cargo.toml --target-dir target/bindings --bin smt-echo
 cargo build --quiet --release --offline --manifest-path examples/rule/Cargo.toml --target-dir target/bindings
