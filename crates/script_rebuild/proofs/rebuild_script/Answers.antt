@@ -31,10 +31,10 @@ pub over_limit-requires-in-Over : goal.over_limit-requires-in-Over
 over_limit-requires-in-Over c = (((top-at c.args.s.now _ _ c.check_header.ensures c.in-To.is).declarations, (top-at c.args.s.now _ _ c.check_header.ensures c.in-To.is).known), (top-at c.args.s.now _ _ c.check_header.ensures c.in-To.is).place)
 
 pub returns-in-No : goal.returns-in-No
-returns-in-No c = none-placed (top-at c.args.s.now _ _ c.check_header.ensures c.in-To.is) (c.place_script.ensures.0 (top-at c.args.s.now _ _ c.check_header.ensures c.in-To.is).declarations (top-at c.args.s.now _ _ c.check_header.ensures c.in-To.is).known) c.in-No.is
+returns-in-No c = none-placed (top-at c.args.s.now _ _ c.check_header.ensures c.in-To.is) (c.place_script.ensures.reads (top-at c.args.s.now _ _ c.check_header.ensures c.in-To.is).declarations (top-at c.args.s.now _ _ c.check_header.ensures c.in-To.is).known) c.in-No.is
 
 pub returns-in-Over : goal.returns-in-Over
-returns-in-Over c = over-items (top-at c.args.s.now _ _ c.check_header.ensures c.in-To.is) (subst (Tables (top-at c.args.s.now _ _ c.check_header.ensures c.in-To.is).declarations) (not-false c.tables_fit.result c.if-not-tables_fit.false-raw) (c.tables_fit.ensures (top-at c.args.s.now _ _ c.check_header.ensures c.in-To.is).declarations (top-at c.args.s.now _ _ c.check_header.ensures c.in-To.is).known)) c.called_in.ensures c.requires.2 c.requires.3 c.requires.4 _ _ _ _ c.place_script.result c.place_script.ensures.1 c.in-Over.is c.over_limit-in-Over.result (c.over_limit-in-Over.ensures (top-at c.args.s.now _ _ c.check_header.ensures c.in-To.is).declarations (top-at c.args.s.now _ _ c.check_header.ensures c.in-To.is).known)
+returns-in-Over c = over-items (top-at c.args.s.now _ _ c.check_header.ensures c.in-To.is) (subst (Tables (top-at c.args.s.now _ _ c.check_header.ensures c.in-To.is).declarations) (not-false c.tables_fit.result c.if-not-tables_fit.false-raw) (c.tables_fit.ensures (top-at c.args.s.now _ _ c.check_header.ensures c.in-To.is).declarations (top-at c.args.s.now _ _ c.check_header.ensures c.in-To.is).known)) c.called_in.ensures c.requires.2 c.requires.3 c.requires.4 _ _ _ _ c.place_script.result c.place_script.ensures.placed c.in-Over.is c.over_limit-in-Over.result (c.over_limit-in-Over.ensures (top-at c.args.s.now _ _ c.check_header.ensures c.in-To.is).declarations (top-at c.args.s.now _ _ c.check_header.ensures c.in-To.is).known)
 
 pub returns-in-Are : goal.returns-in-Are
-returns-in-Are c = whole (top-at c.args.s.now _ _ c.check_header.ensures c.in-To.is) (subst (Tables (top-at c.args.s.now _ _ c.check_header.ensures c.in-To.is).declarations) (not-false c.tables_fit.result c.if-not-tables_fit.false-raw) (c.tables_fit.ensures (top-at c.args.s.now _ _ c.check_header.ensures c.in-To.is).declarations (top-at c.args.s.now _ _ c.check_header.ensures c.in-To.is).known)) c.called_in.ensures c.requires.2 c.requires.3 c.requires.4 _ _ _ _ c.place_script.result c.place_script.ensures.1 c.in-Are.is (c.place_script.ensures.0 (top-at c.args.s.now _ _ c.check_header.ensures c.in-To.is).declarations (top-at c.args.s.now _ _ c.check_header.ensures c.in-To.is).known)
+returns-in-Are c = whole (top-at c.args.s.now _ _ c.check_header.ensures c.in-To.is) (subst (Tables (top-at c.args.s.now _ _ c.check_header.ensures c.in-To.is).declarations) (not-false c.tables_fit.result c.if-not-tables_fit.false-raw) (c.tables_fit.ensures (top-at c.args.s.now _ _ c.check_header.ensures c.in-To.is).declarations (top-at c.args.s.now _ _ c.check_header.ensures c.in-To.is).known)) c.called_in.ensures c.requires.2 c.requires.3 c.requires.4 _ _ _ _ c.place_script.result c.place_script.ensures.placed c.in-Are.is (c.place_script.ensures.reads (top-at c.args.s.now _ _ c.check_header.ensures c.in-To.is).declarations (top-at c.args.s.now _ _ c.check_header.ensures c.in-To.is).known)
