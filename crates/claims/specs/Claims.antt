@@ -13,13 +13,14 @@ use Rattle.lists.specs.Tests.{among, in_list, in_right}
 use Rattle.reading.specs.Trees.{Name, Reading, Declarations, Trees}
 use Rattle.smtlib.specs.Lexicon.{Token, Lex}
 use Rattle.smtlib.specs.Grammar.{Script, script_tokens}
-use Rattle.smtlib.specs.LexUnique.{lex-unique}
+use Rattle.smtlib.proofs.LexUnique.{lex-unique}
 use Rattle.smtlib.specs.Readings.{operators, Reads}
 use Rattle.smtlib.specs.Sorts.{WellSorted}
 use Rattle.echo_spec.specs.Input.{Problem, ArrayWidths, array_columns, nodes_of, no_node, dag_of}
 use Rattle.echo_spec.specs.Widths.{node_wf, ext_wf_of}
 use Rattle.echo_spec.specs.Names.{byte_ok, rust_words, smtlib27_words, reserved}
-use Rattle.echo_spec.specs.NameLaws.{NameByte, name-byte, byte-named, all_names, word-refused, byte-refused}
+use Rattle.echo_spec.specs.NameLaws.{NameByte, all_names}
+use Rattle.echo_spec.proofs.NameLaws.{name-byte, byte-named, word-refused, byte-refused}
 use Rattle.echo_spec.specs.Render.{symbol_of}
 use Rattle.echo_spec.specs.Answers.{Answer, ext_wf_answer, reading, echo_ext_answer}
 use Rattle.sliver_kernel.specs.declared.Outcome.{Outcome}

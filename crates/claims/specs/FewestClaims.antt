@@ -10,7 +10,7 @@ use Rattle.lent.specs.Lent.{problem_of}
 use Rattle.fewest.specs.Fewest.{with_roots, roots_at, same_number, rising, by_length, listed, fewest, FewestAnswer, fewest_roots_answer}
 use Rattle.fewest.specs.FewestExamples.{with_nodes, x}
 use Rattle.fewest.specs.Least.{RisingFrom, Earlier, least-passes, least-short, least-rises, none-shorter, none-earlier}
-use Rattle.fewest.specs.Always.{fewest-least}
+use Rattle.fewest.proofs.Always.{fewest-least}
 use Rattle.fewest_roots.specs.declared.Fewest.{Fewest}
 use Rattle.fewest_roots.specs.declared.Fewest.TheVariants.{NoRoot, OneRoot, TwoRoots}
 use Rattle.fewest_roots.specs.Answered as told

@@ -8,7 +8,8 @@ use Rattle.std.proofs.Math.Seq.{take-append_seam}
 use Rattle.lists.specs.Tests.{among, among-every}
 use Rattle.reading.specs.Trees.{Tree, Trees}
 use Rattle.echo_spec.specs.Input.{Problem}
-use Rattle.echo_spec.specs.Accepted.{endless_number, endless-number}
+use Rattle.echo_spec.specs.Accepted.{endless_number}
+use Rattle.echo_spec.proofs.Accepted.{endless-number}
 use Rattle.echo_spec.specs.Answers.{Answer, reading, endless_refusal, echo_ext_answer}
 use Rattle.refusals.specs.declared.EchoError.{EchoError}
 use Rattle.refusals.specs.Numbers.{error_number, error-number}

@@ -8,9 +8,9 @@ use Rattle.reading.specs.Trees.{Tree, variable, constant, apply, select, call, T
 use Rattle.smtlib.specs.Lexicon.{Lex}
 use Rattle.smtlib.specs.Grammar.{Script, script_tokens}
 use Rattle.smtlib.specs.GrammarUnique.{script-unique}
-use Rattle.smtlib.specs.LexUnique.{lex-unique}
+use Rattle.smtlib.proofs.LexUnique.{lex-unique}
 use Rattle.smtlib.specs.Readings.{Reads}
-use Rattle.smtlib.specs.ReadsUnique.{reads-unique}
+use Rattle.smtlib.proofs.ReadsUnique.{reads-unique}
 use Rattle.smtlib.specs.Sorts.{TermSort, bits, WellSorted}
 use Rattle.echo_spec.specs.Input.{Problem, query_of}
 use Rattle.echo_spec.specs.Render.{render}

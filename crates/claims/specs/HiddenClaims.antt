@@ -14,7 +14,8 @@ use Rattle.smtlib.specs.Sorts.{WellSorted}
 use Rattle.echo_spec.specs.Input.{Problem, query_of}
 use Rattle.echo_spec.specs.Answers.{Answer, endless_refusal, echo_ext_answer}
 use Rattle.hidden.specs.Hidden.{hidden_script, echo_hidden_answer}
-use Rattle.hidden.specs.Alike.{with_bits, Alike, same_answer, same-in-both}
+use Rattle.hidden.specs.Alike.{with_bits, Alike}
+use Rattle.hidden.proofs.Alike.{same_answer, same-in-both}
 use Rattle.refusals.specs.declared.EchoError.{EchoError}
 use Rattle.refusals.specs.Numbers.{error_number, error-number}
 use Rattle.echo_kernel.specs.declared.Echo.{Echo}

@@ -10,24 +10,9 @@ use Rattle.script_lines.specs.Lines.{scripts_of}
 use Rattle.readback.specs.ScriptReader.{reading_in}
 use Rattle.releases.specs.Release.{Declared, to_read, ReleaseAnswer, told, release_answer}
 use Rattle.releases.specs.ReleaseLaws.{Declares}
-use Rattle.releases.specs.ReleaseScripts.{
-  ScriptAt,
-  AllRead,
-  FirstUnread,
-  OneMeaning as OneForEach,
-  TwoMeanings,
-  Unread,
-  Says,
-  too_many_given,
-  unread,
-  two_meanings,
-  one_meaning,
-  says,
-  number-listed,
-  accepted-exactly,
-  seventeen,
-}
-use Rattle.releases.specs.ReleaseOrder.{first-unread, rest-told, too_many, two-told, accepted-none, one-in-all}
+use Rattle.releases.specs.ReleaseScripts.{ScriptAt, AllRead, FirstUnread, OneMeaning as OneForEach, TwoMeanings, Unread, Says, too_many_given, unread, two_meanings, one_meaning}
+use Rattle.releases.proofs.ReleaseScripts.{says, number-listed, accepted-exactly, seventeen}
+use Rattle.releases.proofs.ReleaseOrder.{first-unread, rest-told, too_many, two-told, accepted-none, one-in-all}
 use Rattle.release.specs.declared.Outcome.{Outcome}
 use Rattle.release.specs.declared.Outcome.TheVariants.{OneMeaning, Refused}
 use Rattle.release.specs.Told.{counted_by_number, outcome_of}

@@ -7,7 +7,8 @@ use Rattle.echo_spec.specs.Refusals.{unless, ◌or_else◌}
 use Rattle.echo_spec.specs.Input.{Problem, Query, query_of}
 use Rattle.echo_spec.specs.Answers.{script, endless_refusal, text_refusal, echo_ext_answer}
 use Rattle.sizes.specs.Size.{terms_entered, SizeAnswer, size_with, echo_size_answer}
-use Rattle.echo_spec.specs.Accepted.{endless_number, endless-number}
+use Rattle.echo_spec.specs.Accepted.{endless_number}
+use Rattle.echo_spec.proofs.Accepted.{endless-number}
 use Rattle.theorems.specs.Answered.{text-number}
 
 with_number : (n : ℕ) (q : Query) → (size_with n q).number ≡ n

@@ -9,7 +9,7 @@ use Rattle.refusals.specs.Numbers.{error_number, error-number}
 use Rattle.sizes.specs.Size.{terms_entered, operators_entered, SizeAnswer, echo_size_answer}
 use Rattle.sizes.specs.Sums.{sum_over}
 use Rattle.sizes.specs.Count.{counts_below}
-use Rattle.sizes.specs.Scripts.{operators-entered, terms-entered, terms-walked, script-length}
+use Rattle.sizes.proofs.Scripts.{operators-entered, terms-entered, terms-walked, script-length}
 use Rattle.echo_size.specs.declared.Size.{Size}
 use Rattle.echo_size.specs.declared.Size.TheVariants.{Script, Refused as NoScript}
 use Rattle.echo_size.specs.Sized as sized

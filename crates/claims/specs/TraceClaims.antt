@@ -14,13 +14,15 @@ use Rattle.smtlib.specs.Sorts.{WellSorted}
 use Rattle.vectors.specs.Vectors.{bit}
 use Rattle.vectors.specs.BitLaws.{bit-zero, bit-suc}
 use Rattle.vectors.specs.Values.{Value, mask, count, meaning, environment}
-use Rattle.meanings.specs.Symbols.{symbol_meaning, kind-means}
+use Rattle.meanings.specs.Symbols.{symbol_meaning}
+use Rattle.meanings.proofs.Symbols.{kind-means}
 use Rattle.echo_spec.specs.Refusals.{unless, ◌or_else◌}
 use Rattle.echo_spec.specs.Input.{Problem, dag_of, query_of}
 use Rattle.echo_spec.specs.Widths.{widths_of}
 use Rattle.echo_spec.specs.Trees.{trees_over, tree_of, reading_of}
 use Rattle.echo_spec.specs.Answers.{reading, endless_refusal, at_front, zeroed}
-use Rattle.echo_spec.specs.Accepted.{unless-passed, or_else-passed, in-unless, in-or_else, endless_number, endless-number}
+use Rattle.echo_spec.specs.Accepted.{unless-passed, or_else-passed, in-unless, in-or_else, endless_number}
+use Rattle.echo_spec.proofs.Accepted.{endless-number}
 use Rattle.traces.specs.Trace.{narrow_roots, values_fit, trace_refusal, rows_of, row_of, holding_all, holding, holding_in, TraceAnswer, trace_answer, replay_trace_answer}
 use Rattle.replay_trace.specs.declared.Trace.{Trace}
 use Rattle.replay_trace.specs.Traced.{answered}

@@ -11,7 +11,8 @@ use Rattle.lists.specs.Tests.{among-every}
 use Rattle.echo_spec.specs.Refusals.{unless, ◌or_else◌}
 use Rattle.echo_spec.specs.Input.{Problem, query_of}
 use Rattle.echo_spec.specs.Answers.{zeroed, script, endless_refusal, text_refusal, echo_answer, text_answer, echo_ext_answer}
-use Rattle.echo_spec.specs.Accepted.{endless_number, endless-number}
+use Rattle.echo_spec.specs.Accepted.{endless_number}
+use Rattle.echo_spec.proofs.Accepted.{endless-number}
 use Rattle.echo_bytes.specs.declared.Place.{Place}
 use Rattle.echo_bytes.specs.Page.{Page, page, start, written}
 use Rattle.echo_bytes.specs.Laws.{need-exact, written-fits}

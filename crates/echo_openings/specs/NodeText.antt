@@ -33,7 +33,8 @@ use Rattle.echo_spec.specs.Shapes.{
 }
 use Rattle.echo_spec.specs.Input.{Node, shape, no_node, Dag, aname_table, fname_table}
 use Rattle.echo_spec.specs.Widths.{ext_wf_of}
-use Rattle.echo_spec.specs.NodeLaws.{Formed, Facts, facts}
+use Rattle.echo_spec.specs.NodeLaws.{Formed, Facts}
+use Rattle.echo_spec.proofs.NodeLaws.{facts}
 use Rattle.echo_spec.specs.Trees.{constant_bits, variable_name, amount_of, trees_over, stores_over, tree_as, tree_step, trees_below, tree_of}
 use Rattle.echo_spec.specs.Render.{symbol_of, decimal, binary_digits, quoted}
 use Rattle.echo_lines.specs.Heads.{repeated}

@@ -12,7 +12,7 @@ use Rattle.std.proofs.Math.ListN.{get_or, get_or-eq_default}
 use Rattle.lists.specs.Tests.{among, no→false}
 use Rattle.echo_spec.specs.Input.{Node, shape, no_node, node_at, Dag, dag_of}
 use Rattle.echo_spec.specs.Widths.{ext_wf_of}
-use Rattle.echo_spec.specs.NodeLaws.{facts}
+use Rattle.echo_spec.proofs.NodeLaws.{facts}
 use Rattle.echo_spec.specs.Walk.{Operand, vector, levels, operands_as}
 use Rattle.lets.specs.Lets.{operands_of, reached_below, reached, uses_in, shared, binds}
 use Rattle.lets.specs.ReachedLaws.{Reaches, itself, onward, low-among, reached-is}

@@ -20,7 +20,7 @@ use Rattle.echo_kernel.proofs.Answering.{outcome-refused, outcome-done}
 use Rattle.sizes.specs.Size.{SizeAnswer, terms_entered, size_with, echo_size_answer}
 use Rattle.sizes.specs.Sums.{sum_over}
 use Rattle.sizes.specs.Count.{counts_below}
-use Rattle.sizes.specs.Scripts.{limits, widths-all, terms-held, script-in-64}
+use Rattle.sizes.proofs.Scripts.{limits, widths-all, terms-held, script-in-64}
 use Rattle.echo_terms.specs.TermTable.{held, Countable}
 use Rattle.echo_size.specs.declared.Size.TheVariants.{Script, Refused}
 use Rattle.echo_size.specs.Sized.{answered, FullWidths}

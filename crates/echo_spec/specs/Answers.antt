@@ -1,5 +1,5 @@
 -- What the two entry points answer to every input: a number, a length or count, and the whole output.
-use Rattle.std.specs.Prelude.{ℕ, zero, suc, List, [], ◌∷◌, ◌++◌, Bool, true, false, cond, leb, eqb, length, drop, replicate}
+use Rattle.std.specs.Prelude.{ℕ, zero, suc, List, [], ◌∷◌, ◌++◌, cond, leb, eqb, length, drop, replicate}
 use Rattle.echo_spec.specs.Refusals.{unless, ◌or_else◌}
 use Rattle.reading.specs.Trees.{Reading}
 use Rattle.echo_spec.specs.Input.{Problem, ArrayWidths, pass_within, within_limits, nodes_of, encoded, dag_of, Query, query_of}

@@ -1,31 +1,11 @@
 -- Examples of the array table's widths (document 02, L5): selects and stores by the widths of their array, 12 and its place, column
 -- lengths before the widths, arrays of width 1, and the declarations.
 use Rattle.std.specs.Prelude.{ℕ, ◌≡◌, refl, List, [], ◌∷◌, ◌++◌, map, true, false, drop, replicate}
-use Prim.Native.String.{String}
-use Rattle.reading.specs.Kinds.{Var, Const, Add, Eq, Not, BvNot, Select, Call}
+use Rattle.reading.specs.Kinds.{Var, Eq, Not, Select}
 use Rattle.echo_spec.specs.Input.{ArrayWidths, array_columns, Node, Problem, Query}
 use Rattle.echo_spec.specs.Widths.{array_widths_ok, ext_wf_of}
 use Rattle.echo_spec.specs.Answers.{Answer}
-use Rattle.echo_spec.specs.Examples.{
-  node,
-  problem_with,
-  decoded,
-  query_with,
-  var,
-  fun,
-  Named,
-  Example,
-  given,
-  wanted,
-  refused,
-  accepted,
-  prints,
-  refuses,
-  passes,
-  widens_with,
-  asks,
-  all_meet,
-}
+use Rattle.echo_spec.specs.Examples.{node, problem_with, decoded, query_with, var, Named, Example, given, wanted, refused, accepted, prints, refuses, passes, widens_with, asks, all_meet}
 
 -- ---------------------------------------------------------------- selects and stores
 

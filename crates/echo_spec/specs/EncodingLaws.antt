@@ -1,14 +1,7 @@
--- Laws of what a problem encodes: a problem that passes 8 encodes an encodable query, and every width that is worked out has 64 bits.
-use Rattle.std.specs.Prelude.{ℕ, ◌%◌, List, [], ◌∷◌, map, Bool, ◌&&◌, T, leb, ltb, eqb, length, take, drop, get_or}
-use Rattle.std.proofs.Math.Option.{Option, none, some}
-use Rattle.std.proofs.Common.{le→leb, lt→ltb}
-use Rattle.lists.specs.Tests.{every, All, and_0, and-1, and_T, by-test, places-every, place-bound}
-use Rattle.echo_spec.specs.Input.{Problem, no_node, nodes_of, node_encoded, encoded, dag_of, Query, query_of, largest, fits64, encodable}
-use Rattle.echo_spec.specs.Widths.{array_widths_ok, width_at, widths_of}
-use Rattle.echo_spec.specs.Tables.{find_call, argument_widths, signature}
-use Rattle.echo_spec.specs.NodeLaws.{node_wide}
-
--- ---------------------------------------------------------------- 8
+-- Laws of what a problem encodes: a problem that passes 8 encodes an encodable query. (That every width has 64 bits is in proofs/EncodingLaws.antt.)
+use Rattle.std.specs.Prelude.{◌%◌, Bool, T, leb, eqb, length}
+use Rattle.lists.specs.Tests.{every, All, and_0, and-1, and_T, by-test}
+use Rattle.echo_spec.specs.Input.{Problem, nodes_of, node_encoded, encoded, dag_of, Query, query_of, fits64, encodable}
 
 -- The hypotheses on the columns hold of whatever is lent: they are lent as numbers of 64 bits.
 pub encoded-encodable : (p : Problem) → T (encoded p.nodes p.bits) → T (every fits64 p.var_width) → T (every fits64 p.func_width)
@@ -51,34 +44,3 @@ encodable-has q t =
       indices = and_0 (every fits64 q.dag.array-widths.index) (every fits64 q.dag.array-widths.value) t₄;
       values = and-1 (every fits64 q.dag.array-widths.index) (every fits64 q.dag.array-widths.value) t₄;
     }
-
--- ---------------------------------------------------------------- widths
-
--- whether or not every node is well formed, those whose widths are known have widths from 1 to the largest of 64 bits, where the array
--- table's are allowed
-pub widths-wide : (q : Query) → T (array_widths_ok q.dag.array-widths) → T (every (λ w. ltb 0 w && fits64 w) (widths_of q))
-widths-wide q ok =
-    places-every (λ w. ltb 0 w && fits64 w) 0 (widths_of q)
-    (λ i l.
-    let w : ℕ = width_at (widths_of q) i in
-    let (p, b) = node_wide (length q.bits) q.dag.array-widths q.dag.side q.dag.nodes ok i l in
-    and_T (ltb 0 w) (fits64 w) (lt→ltb 0 w p) (le→leb w largest b))
-
--- of any number: past the nodes there is 0
-pub width_fits : (q : Query) → T (array_widths_ok q.dag.array-widths) → (i : ℕ) → T (fits64 (width_at (widths_of q) i))
-width_fits q ok i =
-    let ws : List ℕ = widths_of q in
-    le→leb (width_at ws i) largest (place-bound ws i largest (λ l. (node_wide (length q.bits) q.dag.array-widths q.dag.side q.dag.nodes ok i l).1))
-
--- and so of the arguments that a function is declared with
-pub signature-fits : (q : Query) → T (array_widths_ok q.dag.array-widths) → (g : ℕ) → T (every fits64 (signature q.dag (widths_of q) g))
-unfolding signature argument_widths
-signature-fits q ok g = by_first (find_call q.dag.nodes g)
-  where
-    fit : (xs : List ℕ) → T (every fits64 (map (width_at (widths_of q)) xs))
-    fit [] = tt
-    fit (x ∷ xs) = and_T (fits64 (width_at (widths_of q) x)) _ (width_fits q ok x) (fit xs)
-
-    by_first : (o : Option ℕ) → T (every fits64 (elim o [ none ↦ [] | some c ↦ argument_widths (widths_of q) q.dag.side (get_or q.dag.nodes c no_node) ]))
-    by_first none = tt
-    by_first (some c) = fit (take (get_or q.dag.nodes c no_node).d (drop (get_or q.dag.nodes c no_node).c q.dag.side))

@@ -1,9 +1,9 @@
 -- What is lent to the printer, its limits, and the query that it encodes.
-use Rattle.std.specs.Prelude.{ℕ, zero, suc, ◌+◌, ◌*◌, ◌/◌, ◌%◌, List, [], ◌∷◌, Bool, true, false, ◌&&◌, ◌||◌, not, leb, ltb, eqb, length, take, drop, get_or}
+use Rattle.std.specs.Prelude.{ℕ, ◌+◌, ◌*◌, ◌/◌, ◌%◌, List, [], ◌∷◌, Bool, true, false, ◌&&◌, leb, ltb, eqb, length, take, drop, get_or}
 use Rattle.lists.specs.Tests.{every}
 use Rattle.lists.specs.Build.{tabulate}
 use Rattle.reading.specs.Trees.{Name}
-use Rattle.echo_spec.specs.Shapes.{Shape, unknown, shapes, shape_of, operand_count}
+use Rattle.echo_spec.specs.Shapes.{Shape, shape_of, operand_count}
 
 -- ---------------------------------------------------------------- what is lent
 

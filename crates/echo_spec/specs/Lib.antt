@@ -11,7 +11,6 @@ pub mod TreeSorts
 pub mod Render
 pub mod Answers
 pub mod Examples
-pub mod LimitExamples
 pub mod EncodingExamples
 pub mod WidthExamples
 pub mod NameExamples

@@ -1,5 +1,5 @@
 -- Names: which a table may declare.
-use Rattle.std.specs.Prelude.{ℕ, zero, suc, List, [], ◌∷◌, ◌++◌, map, Bool, true, false, ◌&&◌, not, leb, eqb}
+use Rattle.std.specs.Prelude.{ℕ, List, [], ◌∷◌, ◌++◌, map, Bool, true, false, ◌&&◌, not, leb, eqb}
 use Prim.Native.String.{String}
 use Rattle.lists.specs.Bytes.{bytes}
 use Rattle.lists.specs.Tests.{every, in_list}

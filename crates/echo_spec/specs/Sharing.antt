@@ -1,5 +1,5 @@
 -- Sharing: how often each node is used, reached or not.
-use Rattle.std.specs.Prelude.{ℕ, zero, suc, ◌*◌, List, [], ◌∷◌, ◌++◌, Bool, true, false, ◌||◌, leb, eqb, length, take, drop, get_or}
+use Rattle.std.specs.Prelude.{ℕ, suc, ◌*◌, List, [], ◌∷◌, ◌++◌, Bool, true, false, ◌||◌, leb, eqb, length, take, drop, get_or}
 use Rattle.lists.specs.Tests.{every_from}
 use Rattle.echo_spec.specs.Shapes.{
   Shape,

@@ -2,7 +2,7 @@
 use Rattle.std.specs.Prelude.{ℕ, zero, suc, ◌+◌, ◌*◌, ◌%◌, List, [], ◌∷◌, take, drop, get_or}
 use Rattle.std.proofs.Math.Option.{Option, some}  -- `none` is a tree's here
 use Rattle.lists.specs.Build.{upto}
-use Rattle.reading.specs.Trees.{Name, Tree, variable, constant, apply, select, call, Trees, none, more, Stores, base, store, Declarations, Reading}
+use Rattle.reading.specs.Trees.{Name, Tree, variable, constant, apply, select, call, Trees, none, more, Stores, base, store, Reading}
 use Rattle.echo_spec.specs.Shapes.{Shape, var, const, binary, rotation, extraction, concat, extension, ite, comparison, negation, connective, unary, unknown}
 use Rattle.echo_spec.specs.Input.{Node, shape, no_node, Dag, Query, name_table, aname_table, fname_table}
 use Rattle.echo_spec.specs.Widths.{width_at, widths_of}

@@ -1,6 +1,6 @@
 -- Refusals 1 to 7 and 12 of a query. They take the number of bits, not the bits, and the roots by themselves.
-use Rattle.std.specs.Prelude.{ℕ, zero, suc, ◌+◌, List, [], ◌∷◌, ◌++◌, map, Bool, true, false, ◌&&◌, not, leb, ltb, eqb, length, take, drop, get_or}
-use Rattle.std.proofs.Math.Option.{Option, none, some}
+use Rattle.std.specs.Prelude.{ℕ, zero, suc, List, [], ◌∷◌, ◌++◌, map, Bool, true, false, ◌&&◌, not, leb, ltb, eqb, length, take, drop, get_or}
+use Rattle.std.proofs.Math.Option.{none, some}
 use Rattle.lists.specs.Tests.{same}
 use Rattle.lists.specs.Build.{upto}
 use Rattle.reading.specs.Kinds.{Const}

@@ -1,5 +1,5 @@
 -- The width pass: which nodes are well formed after the nodes before them, and how wide they are.
-use Rattle.std.specs.Prelude.{ℕ, zero, suc, ◌+◌, ◌-◌, List, [], ◌∷◌, ◌++◌, Bool, true, false, ◌&&◌, leb, ltb, eqb, length, take, drop, get_or}
+use Rattle.std.specs.Prelude.{ℕ, zero, suc, ◌+◌, ◌-◌, List, [], ◌∷◌, ◌++◌, Bool, true, false, ◌&&◌, leb, ltb, eqb, length, drop, get_or}
 use Rattle.echo_spec.specs.Shapes.{
   Shape,
   var,

@@ -13,7 +13,8 @@ use Rattle.echo_spec.specs.Refusals.{unless, ◌or_else◌}
 use Rattle.echo_spec.specs.Shapes.{is_bool}
 use Rattle.echo_spec.specs.Input.{Node, shape, no_node, Dag}
 use Rattle.echo_spec.specs.Widths.{ext_wf_of}
-use Rattle.echo_spec.specs.NodeLaws.{Low, facts}
+use Rattle.echo_spec.specs.NodeLaws.{Low}
+use Rattle.echo_spec.proofs.NodeLaws.{facts}
 use Rattle.echo_spec.specs.Walk.{asked, Operand, formula, operands_as, walk_all, sort_ok, step_of_walk, walks_below, walk, walk_roots}
 use Rattle.echo_spec.specs.Accepted.{unless-passed, or_else-passed, walk-passed, in-or_else, walk_number, WalkNumbers, asked-number, all-number, step-number}
 use Rattle.echo_tables.specs.declared.Form.{Form}

@@ -29,7 +29,8 @@ use Rattle.echo_spec.specs.Shapes.{
 }
 use Rattle.echo_spec.specs.Input.{ArrayWidths, Node, shape, no_node, Dag}
 use Rattle.echo_spec.specs.Widths.{index_width_of, value_width_of, ext_wf_of}
-use Rattle.echo_spec.specs.NodeLaws.{Pairs, Formed, facts}
+use Rattle.echo_spec.specs.NodeLaws.{Pairs, Formed}
+use Rattle.echo_spec.proofs.NodeLaws.{facts}
 use Rattle.echo_spec.specs.Walk.{asked_as, asked, Operand, vector, levels, walk_all, sort_ok, walk}
 use Rattle.lent.specs.Lent.{Slice, problem_at, dag_at}
 use Rattle.blast_kernel.specs.Codes.{code_of, code-small}

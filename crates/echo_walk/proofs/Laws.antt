@@ -10,7 +10,8 @@ use lib.Dec.{leb, eqb}
 use lib.ListN.{length, get_or}
 use Rattle.echo_spec.specs.Shapes.{Shape, var, const}
 use Rattle.echo_spec.specs.Input.{Node, shape, no_node, node_at, nodes_of, Dag, dag_of}
-use Rattle.echo_spec.specs.NodeLaws.{Facts, facts}
+use Rattle.echo_spec.specs.NodeLaws.{Facts}
+use Rattle.echo_spec.proofs.NodeLaws.{facts}
 use Rattle.echo_spec.specs.Walk.{asked, Operand, walk_all, walk}
 use Rattle.echo_spec.specs.Accepted.{or_else-passed}
 use Rattle.blast_kernel.specs.Codes.{code_of, code-small, shape_coded, coded-back}

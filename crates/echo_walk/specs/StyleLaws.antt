@@ -26,7 +26,8 @@ use Rattle.echo_spec.specs.Shapes.{
 }
 use Rattle.echo_spec.specs.Input.{Node, shape, no_node, Dag, aname_table, fname_table}
 use Rattle.echo_spec.specs.Widths.{ext_wf_of}
-use Rattle.echo_spec.specs.NodeLaws.{Formed, Facts, facts}
+use Rattle.echo_spec.specs.NodeLaws.{Formed, Facts}
+use Rattle.echo_spec.proofs.NodeLaws.{facts}
 use Rattle.echo_spec.specs.Trees.{constant_bits, amount_of, variable_name, trees_over, stores_over, tree_as, tree_step, trees_below, tree_of}
 use Rattle.echo_spec.specs.Walk.{operands_as}
 use Rattle.echo_spec.specs.Render.{symbol_of, binary_digits, quoted, operator_text, call_text, term, terms, stores}

@@ -1,5 +1,5 @@
 -- The fewest roots with which a problem is still refused by the same number (document 02, L14).
-use Rattle.std.specs.Prelude.{ℕ, zero, suc, List, [], ◌∷◌, ◌++◌, map, Bool, true, false, ◌&&◌, cond, leb, eqb, length, get_or}
+use Rattle.std.specs.Prelude.{ℕ, zero, suc, List, [], ◌∷◌, ◌++◌, map, Bool, ◌&&◌, cond, leb, eqb, length, get_or}
 use Rattle.std.proofs.Math.Option.{Option, none, some}
 use Rattle.lists.specs.Build.{find}
 use Rattle.echo_spec.specs.Input.{Problem}

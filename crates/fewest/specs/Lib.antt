@@ -3,4 +3,3 @@ pub mod FewestExamples
 pub mod Least
 pub mod Uses
 pub mod Refused
-pub mod Always

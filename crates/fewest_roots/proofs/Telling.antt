@@ -18,7 +18,8 @@ use Rattle.echo_script.specs.Prepared.{WellFormed, Measure}
 use Rattle.echo_script.specs.Scripts.{declared_checks}
 use Rattle.echo_script.proofs.Checking.{measured-checks}
 use Rattle.fewest.specs.Fewest.{with_roots, fewest_roots_answer}
-use Rattle.fewest.specs.Refused.{roots_few, within-with, refused-before, FirstRefused, Numbered, bad-names, shared-operands, shared-one, shared-two, bad-declaration, accepted, refused-root}
+use Rattle.fewest.specs.Refused.{roots_few, within-with, FirstRefused, Numbered}
+use Rattle.fewest.proofs.Refused.{refused-before, bad-names, shared-operands, shared-one, shared-two, bad-declaration, accepted, refused-root}
 use Rattle.fewest_sharing.specs.Found.{Shares}
 use Rattle.fewest_sharing.specs.declared.Sharing.{Sharing}
 use Rattle.fewest_sharing.specs.declared.Sharing.TheVariants as by

@@ -17,7 +17,7 @@ use Rattle.smtlib.specs.Readings.{Row, operators, listed, row_names, built_in, v
 use Rattle.smtlib.specs.Readings.{Meaning, a_tree, an_array, as_meanings, numerals_of, Names, is_variable, is_array, is_constant, Applies, is_call, is_select, is_store, is_operator, Means, MeansAll, MeansIn}
 use Rattle.smtlib.specs.Scopes.{symbol_of}
 use Rattle.smtlib.specs.Sorts.{TermSort}
-use Rattle.smtlib.specs.ReadsUnique.{select-built-in, store-built-in, operator-built-in}
+use Rattle.smtlib.proofs.ReadsUnique.{select-built-in, store-built-in, operator-built-in}
 use Rattle.echo_spec.specs.Render.{symbol_of as printed}
 use Rattle.theorems.specs.Terms.{Fits}
 use Rattle.formula_text.specs.Notation.{Notation, between, before, named, notations, notation_of, level_as, level, formula}

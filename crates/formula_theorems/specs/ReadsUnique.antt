@@ -9,7 +9,7 @@ use Rattle.lists.specs.Tests.{All, in_list, same, every, and_0, and-1, or_elim, 
 use Rattle.smtlib.specs.Lexicon.{digit, letter, binary_digit}
 use Rattle.reading.specs.Trees.{Name, Tree, Trees, none as noTrees, more as moreTrees, Declarations}
 use Rattle.smtlib.specs.Readings.{declared_names, Apart, a_tree, Means, MeansIn}
-use Rattle.smtlib.specs.ReadsUnique.{means-unique}
+use Rattle.smtlib.proofs.ReadsUnique.{means-unique}
 use Rattle.smtlib.specs.Sorts.{TermSort}
 use Rattle.theorems.specs.Terms.{term_of, Fits, FitsAll}
 use Rattle.theorems.specs.Meanings.{means-terms}

@@ -24,8 +24,9 @@ use Rattle.echo_spec.specs.Render.{logic_text, declarations_text, frame, asserti
 use Rattle.echo_spec.specs.Accepted.{or_else-passed}
 use Rattle.echo_spec.specs.Answers.{endless_with}
 use Rattle.lets.specs.Lets.{uses_in, shared, binds, assertion_of, assertions_of, let_text, let_assertions_text, render_let, let_roots, names_clear, let_refusal_with, let_script, endless_let}
-use Rattle.lets.specs.Numbers.{endless_number, endless-let-number}
-use Rattle.lets.specs.Plain.{binds-none, text-plain, roots-plain, clear-unshared}
+use Rattle.lets.specs.Numbers.{endless_number}
+use Rattle.lets.proofs.Numbers.{endless-let-number}
+use Rattle.lets.proofs.Plain.{binds-none, text-plain, roots-plain, clear-unshared}
 use Rattle.lent.specs.Lent.{Slice, problem_at, dag_at}
 use Rattle.lent.specs.Records.{nodes-length}
 use Rattle.echo_bytes.specs.declared.Place.{Place}

@@ -1,6 +1,6 @@
 -- The second way to print: operators that are used twice or more are bound by `let` (request L4). What the plain printer says
 -- of a node it says here too, by the same steps; only where a node is used, a bound one stands as its name.
-use Rattle.std.specs.Prelude.{ℕ, zero, suc, List, [], ◌∷◌, ◌++◌, map, Bool, true, false, ◌&&◌, not, cond, leb, ltb, length, get_or}
+use Rattle.std.specs.Prelude.{ℕ, zero, suc, List, [], ◌∷◌, ◌++◌, map, Bool, true, ◌&&◌, not, cond, ltb, length, get_or}
 use Rattle.lists.specs.Bytes.{bytes}
 use Rattle.lists.specs.Tests.{among, in_list, every_from}
 use Rattle.lists.specs.Build.{upto}

@@ -2,4 +2,3 @@ pub mod Lets
 pub mod LetExamples
 pub mod ReachedLaws
 pub mod Numbers
-pub mod Plain

@@ -10,7 +10,8 @@ use Rattle.lists.specs.Tests.{among, among-left, among-right, among-append, or_l
 use Rattle.echo_spec.specs.Input.{Node, shape, no_node, Dag}
 use Rattle.echo_spec.specs.Widths.{ext_wf_of}
 use Rattle.echo_spec.specs.Walk.{Operand, operands_as}
-use Rattle.echo_spec.specs.NodeLaws.{Low, facts}
+use Rattle.echo_spec.specs.NodeLaws.{Low}
+use Rattle.echo_spec.proofs.NodeLaws.{facts}
 use Rattle.lets.specs.Lets.{operands_of, reached_below, reached}
 
 -- the root itself, and the operands of what it reaches

@@ -9,7 +9,8 @@ use Rattle.lists.specs.Build.{find_from}
 use Rattle.lists.specs.Places.{find_at}
 use Rattle.reading.specs.Trees.{Name, Variable, Array, Function, Declarations, Reading}
 use Rattle.echo_spec.specs.Names.{byte_ok, first_ok, reserved}
-use Rattle.echo_spec.specs.NameLaws.{NameByte, name-byte, name_ok}
+use Rattle.echo_spec.specs.NameLaws.{NameByte, name_ok}
+use Rattle.echo_spec.proofs.NameLaws.{name-byte}
 use Rattle.echo_spec.specs.Render.{render}
 use Rattle.readback.specs.Printable.{variable_names_in, array_names_in, function_names_in, printable}
 use Rattle.readback.specs.Rebuild.{variable_number, function_number}

@@ -19,11 +19,14 @@ use Rattle.echo_spec.specs.Trees.{reading_of}
 use Rattle.echo_spec.specs.Walk.{refusal}
 use Rattle.echo_spec.specs.Render.{render}
 use Rattle.echo_spec.specs.Answers.{script}
-use Rattle.echo_spec.specs.Accepted.{Checked, Accepted, accepted}
-use Rattle.echo_spec.specs.NodeLaws.{index-bound, value-bound}
+use Rattle.echo_spec.specs.Accepted.{Checked, Accepted}
+use Rattle.echo_spec.proofs.Accepted.{accepted}
+use Rattle.echo_spec.proofs.NodeLaws.{index-bound, value-bound}
 use Rattle.echo_spec.specs.ColumnLaws.{columns-aligned, names-counted}
-use Rattle.echo_spec.specs.EncodingLaws.{Encodable, encodable-has, signature-fits}
-use Rattle.echo_spec.specs.SortedTrees.{declarations_in, roots-sorted}
+use Rattle.echo_spec.specs.EncodingLaws.{Encodable, encodable-has}
+use Rattle.echo_spec.proofs.EncodingLaws.{signature-fits}
+use Rattle.echo_spec.specs.SortedTrees.{declarations_in}
+use Rattle.echo_spec.proofs.SortedTrees.{roots-sorted}
 use Rattle.readback.specs.Printable.{variable_names_in, array_names_in, function_names_in, names_permitted, width_ok, variable_ok, array_ok, function_ok, declarable, printable}
 use Rattle.readback.specs.Rebuild.{rebuild}
 use Rattle.rebuilt.specs.Accepted.{rebuilt-passes, rebuilt-script, rebuilt-encodable}

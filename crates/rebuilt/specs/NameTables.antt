@@ -7,7 +7,8 @@ use Rattle.lists.specs.Tests.{All, distinct}
 use Rattle.reading.specs.Trees.{Name}
 use Rattle.echo_spec.specs.Input.{Dag, array_columns, name_table, aname_table, fname_table}
 use Rattle.echo_spec.specs.Names.{table_ok, names_ok}
-use Rattle.echo_spec.specs.NameLaws.{name_ok, all_names, names-distinct, names-ok}
+use Rattle.echo_spec.specs.NameLaws.{name_ok, all_names}
+use Rattle.echo_spec.proofs.NameLaws.{names-distinct, names-ok}
 use Rattle.readback.specs.Printable.{names_permitted}
 use Rattle.readback.specs.Rebuild.{starts_counted_from, arena}
 use Rattle.rebuilt.specs.Layout.{names-back}

@@ -3,7 +3,7 @@ use Rattle.std.specs.Prelude.{ℕ, zero, suc, ◌≡◌, refl, List}
 use Rattle.std.proofs.Common.{sym, ap, ◌∙◌}
 use Rattle.releases.specs.Release as releases
 use Rattle.releases.specs.Release.{told, release_answer}
-use Rattle.releases.specs.ReleaseOrder.{accepted-none}
+use Rattle.releases.proofs.ReleaseOrder.{accepted-none}
 use Rattle.release.specs.declared.Outcome.{Outcome}
 use Rattle.release.specs.declared.Outcome.TheVariants.{OneMeaning, Refused}
 use Rattle.release.specs.declared.numbers.ReleaseAnswer.{ReleaseAnswer}

@@ -17,7 +17,8 @@ use Rattle.readback.specs.ReadAnswers.{limits_passed}
 use Rattle.readback_theorems.specs.Decided.{reading-in}
 use Rattle.script_tokens.specs.Reached.{Stretch}
 use Rattle.releases.specs.Release.{Declared, all_declared, any_of, disagree, earliest, declarations_in}
-use Rattle.releases.specs.ReleaseLaws.{Declares, Agree, agree-if-not, differing, At, none_of, one_of}
+use Rattle.releases.specs.ReleaseLaws.{Declares, Agree, At, none_of, one_of}
+use Rattle.releases.proofs.ReleaseLaws.{agree-if-not, differing}
 use Rattle.releases.specs.ReleaseScripts.{AllRead, agree-self, has-reading, declarations_of_all}
 use Rattle.release_lines.specs.Lines.{ends_line, DeclaredAt}
 use Rattle.release_names.specs.declared.Entered.{Entered}

@@ -3,4 +3,3 @@ pub mod Release
 pub mod ReleaseExamples
 pub mod ReleaseLaws
 pub mod ReleaseScripts
-pub mod ReleaseOrder

@@ -1,5 +1,5 @@
 -- What `check_release` answers of a file that joins scripts (document 02, L12): whether each name has one meaning in all of them.
-use Rattle.std.specs.Prelude.{ℕ, zero, suc, ◌-◌, List, [], ◌∷◌, ◌++◌, map, Bool, true, false, ◌&&◌, ◌||◌, not, cond, leb, eqb, length}
+use Rattle.std.specs.Prelude.{ℕ, zero, suc, List, [], ◌∷◌, ◌++◌, map, Bool, true, false, ◌&&◌, ◌||◌, not, cond, leb, eqb, length}
 use Rattle.std.proofs.Math.Option.{Option, none, some}
 use Rattle.lists.specs.Tests.{same}
 use Rattle.reading.specs.Trees.{Name, Variable, Array, Function, Declarations, Reading}

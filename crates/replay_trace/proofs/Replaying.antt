@@ -17,7 +17,8 @@ use Rattle.echo_spec.specs.Refusals.{unless, ◌or_else◌}
 use Rattle.echo_spec.specs.Input.{Problem, array_widths, nodes_of, dag_of, query_of}
 use Rattle.echo_spec.specs.Widths.{widths_of}
 use Rattle.echo_spec.specs.Answers.{endless_refusal, at_front, zeroed}
-use Rattle.echo_spec.specs.Accepted.{unless-passed, or_else-passed, endless_number, endless-number}
+use Rattle.echo_spec.specs.Accepted.{unless-passed, or_else-passed, endless_number}
+use Rattle.echo_spec.proofs.Accepted.{endless-number}
 use Rattle.refusals.specs.Numbers.{Numbered}
 use Rattle.sliver_kernel.specs.Pass as pass
 use Rattle.echo_tables.specs.Found.{Entries}

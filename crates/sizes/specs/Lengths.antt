@@ -1,7 +1,7 @@
 -- The length of a tree's text: so many bytes for each term, its own text and five bytes of what stands around it.
 use Prim.Native.Nat.{ℕ, zero, suc, ◌+◌, ◌*◌, ◌/◌, ◌%◌, ◌≤◌, ◌<◌}
 use Rattle.std.specs.Prelude.{◌≡◌, refl, Bool, true, false, T, leb, ltb, take, drop}
-use Rattle.std.proofs.Common.{ap, sym, ◌∙◌, nltb→le}
+use Rattle.std.proofs.Common.{nltb→le}
 use mathlib.Core.List.{List, [], ◌∷◌, ◌++◌}
 use Rattle.std.proofs.Math.Option.{Option, none as nothing, some}
 use Rattle.std.proofs.Math.Decide.{dec_lt}
@@ -10,14 +10,15 @@ use native.Mathlib.Omega.{arith}
 use Rattle.std.proofs.Math.Dec.{leb→le, le→leb}
 use Rattle.std.proofs.Math.ListN.{length, get_or, length-append, length-take, length-drop, get_or-eq_default}
 use Rattle.lists.specs.Bytes.{bytes}
-use Rattle.lists.specs.Tests.{every, All, by-test}
+use Rattle.lists.specs.Tests.{All, by-test}
 use Rattle.lists.specs.Build.{all-tabulate, upto_all}
-use Rattle.reading.specs.Trees.{Name, Tree, variable, constant, apply, select, call, Trees, none, more, Stores, base, store}
+use Rattle.reading.specs.Trees.{Name, Tree, variable, constant, apply, select, call, Trees, none, more, Stores}
 use Rattle.echo_spec.specs.Shapes.{Shape, var, const, binary, rotation, extraction, concat, extension, ite, comparison, negation, connective, unary, unknown, shapes}
 use Rattle.echo_spec.specs.Input.{Node, shape, no_node, largest, fits64, part, names_of, Dag, Query, name_table, aname_table, fname_table}
 use Rattle.echo_spec.specs.Widths.{array_widths_ok, width_at, widths_of}
-use Rattle.echo_spec.specs.NodeLaws.{Formed, facts, node_wide}
-use Rattle.echo_spec.specs.EncodingLaws.{width_fits}
+use Rattle.echo_spec.specs.NodeLaws.{Formed}
+use Rattle.echo_spec.proofs.NodeLaws.{facts, node_wide}
+use Rattle.echo_spec.proofs.EncodingLaws.{width_fits}
 use Rattle.echo_spec.specs.Tables.{find_node}
 use Rattle.echo_spec.specs.Trees.{constant_bits, bits_value, amount_of, variable_name, trees_over, stores_over, tree_as, tree_step, trees_below, tree_of}
 use Rattle.echo_spec.specs.Render.{

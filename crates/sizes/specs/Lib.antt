@@ -1,9 +1,5 @@
 pub mod Size
 pub mod Sums
-pub mod Operands
-pub mod Operators
-pub mod Terms
 pub mod Count
 pub mod Lengths
-pub mod Scripts
 pub mod SizeExamples

@@ -1,7 +1,7 @@
 -- Computed examples of what `echo_size` answers: each clause of the definitions has one that fails without it.
 use Rattle.std.specs.Prelude.{ℕ, ◌≡◌, refl, List, [], ◌∷◌, ◌++◌, replicate}
 use Prim.Native.String.{String}
-use Rattle.reading.specs.Kinds.{Var, Const, Add, Ite, Eq, Ult, BvNot, Rotl, Select, Call, ZeroExt}
+use Rattle.reading.specs.Kinds.{Var, Const, Add, Ite, Eq, Ult, BvNot, Rotl, Select, Call}
 use Rattle.reading.specs.Trees.{Tree, variable, constant, apply, select, call, none, more, base, store}
 use Rattle.echo_spec.specs.Input.{Problem}
 use Rattle.echo_spec.specs.Examples.{node, problem, var, fun, five, eleven, m1, m2_with, sum, m2, Example, given, wanted, decoded, query, all_meet}

@@ -1,29 +1,15 @@
 -- Examples of `let`: what is read outside and what inside, which name hides which, and sorts.
-use Rattle.std.specs.Prelude.{ℕ, ◌≡◌, refl, List, [], ◌∷◌, T}
+use Rattle.std.specs.Prelude.{◌≡◌, refl, List, [], ◌∷◌}
 use Prim.Native.String.{String}
-use Rattle.std.proofs.Math.Option.{Option, none, some}
+use Rattle.std.proofs.Math.Option.{none, some}
 use Rattle.lists.specs.Bytes.{bytes}
 use Rattle.lists.specs.Tests.{same}
-use Rattle.reading.specs.Kinds.{Eq, BvNot}
-use Rattle.reading.specs.Trees.{Tree, variable, apply, call, Trees, none as noTrees, more as moreTrees, Declarations}
-use Rattle.smtlib.specs.Lexicon.{Token, open⁽, close⁾, reserved, symbol}
-use Rattle.smtlib.specs.Grammar.{
-  bit_vec,
-  plain,
-  Term,
-  identifier,
-  application,
-  binding,
-  none as no_terms,
-  more as moreTerms,
-  term_tokens,
-  operator_tokens,
-  Declaration,
-  declare_const,
-  declare_fun,
-}
-use Rattle.smtlib.specs.Readings.{Meaning, a_tree, is_variable, is_constant, is_operator, operators, MeansIn, Means}
-use Rattle.smtlib.specs.Sorts.{bool, bits, same_sort, same_sorts, ranks, result_of, rank, sort_applied, both_sorts, sort_over, sort_in, sort_of}
+use Rattle.reading.specs.Kinds.{BvNot}
+use Rattle.reading.specs.Trees.{Tree, variable, apply, none as noTrees, more as moreTrees, Declarations}
+use Rattle.smtlib.specs.Lexicon.{open⁽, close⁾, reserved, symbol}
+use Rattle.smtlib.specs.Grammar.{bit_vec, plain, Term, identifier, application, binding, none as no_terms, more as moreTerms, term_tokens, Declaration, declare_const, declare_fun}
+use Rattle.smtlib.specs.Readings.{Meaning, a_tree, is_variable, is_operator, operators, MeansIn, Means}
+use Rattle.smtlib.specs.Sorts.{bool, same_sort, same_sorts, ranks, result_of, rank, sort_applied, both_sorts, sort_over, sort_in, sort_of}
 
 -- a variable x of width 8 and a function f from one bit-vector of that width to another
 abbrev declared : Declarations

@@ -2,7 +2,7 @@
 -- bytes hold which tokens. Definitions only.
 use Rattle.std.specs.Prelude.{ℕ, ◌+◌, ◌-◌, ◌*◌, ◌≡◌, List, [], ◌∷◌, ◌++◌, map, Bool, true, false, ◌&&◌, ◌||◌, not, ◌⊎◌, T, leb, eqb}
 use Rattle.lists.specs.Bytes.{bytes}
-use Rattle.lists.specs.Tests.{among, in_list, every, All}
+use Rattle.lists.specs.Tests.{among, in_list, All}
 
 -- ---------------------------------------------------------------- bytes
 

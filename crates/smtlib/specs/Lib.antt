@@ -4,15 +4,8 @@ pub mod Scopes
 pub mod ScopeLaws
 pub mod Readings
 pub mod Sorts
-pub mod LexUnique
 pub mod GrammarUnique
 pub mod LexText
 pub mod Deciding
-pub mod LexTests
-pub mod LexRefutations
-pub mod GrammarRefutations
-pub mod ReadExamples
 pub mod LetScoping
-pub mod ReadsUnique
-pub mod ReadRefutations
 pub mod SortRefutations

@@ -1,10 +1,10 @@
 -- Laws of bound names.
-use Rattle.std.specs.Prelude.{ℕ, ◌≡◌, refl, List, [], ◌∷◌, Bool, true, false, ◌&&◌, ◌||◌, cond, T}
+use Rattle.std.specs.Prelude.{ℕ, ◌≡◌, refl, List, [], ◌∷◌, Bool, true, false, ◌||◌, cond, T}
 use Rattle.std.proofs.Common.{subst}
 use Rattle.std.proofs.Math.Option.{Option, none, some}
-use Rattle.lists.specs.Tests.{same, in_list, or_l, or_r, no→false, true→T, T→true}
+use Rattle.lists.specs.Tests.{same, in_list, or_l, or_r, no→false, true→T}
 use Rattle.smtlib.specs.Grammar.{Operator}
-use Rattle.smtlib.specs.Scopes.{Bound, Scope, bound_to, bound_names, symbol_of, is_plain, hides}
+use Rattle.smtlib.specs.Scopes.{Scope, bound_to, bound_names, symbol_of, hides}
 
 -- a name that is not bound
 pub bound-none : {A : Type 0} (e : Scope A) (n : List ℕ) → (T (in_list n (bound_names e)) → ⊥) → bound_to e n ≡ none

@@ -11,14 +11,15 @@ use Rattle.reading.specs.Trees.{Name, Reading}
 use Rattle.smtlib.specs.Lexicon.{Lex}
 use Rattle.smtlib.specs.Grammar.{Script, script_tokens}
 use Rattle.smtlib.specs.GrammarUnique.{script-unique}
-use Rattle.smtlib.specs.LexUnique.{lex-unique}
+use Rattle.smtlib.proofs.LexUnique.{lex-unique}
 use Rattle.smtlib.specs.Readings.{Reads}
-use Rattle.smtlib.specs.ReadsUnique.{reads-unique}
+use Rattle.smtlib.proofs.ReadsUnique.{reads-unique}
 use Rattle.smtlib.specs.Sorts.{WellSorted}
 use Rattle.echo_spec.specs.Refusals.{unless, ◌or_else◌}
 use Rattle.echo_spec.specs.Input.{Problem, ArrayWidths, within_limits, encoded, nodes_of, dag_of, query_of}
 use Rattle.echo_spec.specs.Widths.{array_widths_ok, ext_wf_of, widths_of}
-use Rattle.echo_spec.specs.NameLaws.{name_ok, all_names, name-refused}
+use Rattle.echo_spec.specs.NameLaws.{name_ok, all_names}
+use Rattle.echo_spec.proofs.NameLaws.{name-refused}
 use Rattle.echo_spec.specs.Tables.{columns_ok}
 use Rattle.echo_spec.specs.Walk.{refusal_with, refusal}
 use Rattle.echo_spec.specs.Render.{render}
@@ -36,7 +37,8 @@ use Rattle.echo_spec.specs.Answers.{
   text_answer,
   echo_ext_answer,
 }
-use Rattle.echo_spec.specs.Accepted.{unless-passed, or_else-passed, in-or_else, in-unless, endless_number, endless-number}
+use Rattle.echo_spec.specs.Accepted.{unless-passed, or_else-passed, in-or_else, in-unless, endless_number}
+use Rattle.echo_spec.proofs.Accepted.{endless-number}
 use Rattle.echo_spec.specs.EncodingLaws.{encoded-binary}
 use Rattle.theorems.specs.Scripts.{script_of, Sound, lex-script, script-well-sorted, render-reads}
 use Rattle.theorems.specs.Printed.{reading-sound}

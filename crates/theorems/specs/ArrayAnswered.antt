@@ -15,8 +15,9 @@ use Rattle.echo_spec.specs.Tables.{one_length, columns_ok, decl_vars_ok, decl_fu
 use Rattle.echo_spec.specs.Trees.{reading_of}
 use Rattle.echo_spec.specs.Walk.{formula, step_of_walk, walks_below, walk, walk_roots, table_checks, refusal_with, refusal}
 use Rattle.echo_spec.specs.Answers.{width_refusal, refused_node, width_answer, ext_wf_answer, reading, endless_refusal, echo_ext_answer}
-use Rattle.echo_spec.specs.Accepted.{in-or_else, in-unless, walk_number, WalkNumbers, all-number, step-number, accepted}
-use Rattle.echo_spec.specs.NodeLaws.{index-bound, value-bound}
+use Rattle.echo_spec.specs.Accepted.{in-or_else, in-unless, walk_number, WalkNumbers, all-number, step-number}
+use Rattle.echo_spec.proofs.Accepted.{accepted}
+use Rattle.echo_spec.proofs.NodeLaws.{index-bound, value-bound}
 use Rattle.echo_spec.specs.ColumnLaws.{columns-aligned, names-counted}
 use Rattle.theorems.specs.Answered.{text-told, endless-told, Whole, printed}
 

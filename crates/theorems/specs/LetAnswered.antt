@@ -14,7 +14,8 @@ use Rattle.echo_spec.specs.Tables.{columns_ok, decl_vars_ok, decl_funcs_ok}
 use Rattle.echo_spec.specs.Trees.{trees_over, tree_of, reading_of}
 use Rattle.echo_spec.specs.Walk.{walk_all, sort_ok, walk, walk_roots, refusal_with}
 use Rattle.echo_spec.specs.Render.{term, assertions_text, render}
-use Rattle.echo_spec.specs.Accepted.{in-or_else, in-unless, walk_number, WalkNumbers, all-number, step-number, checks-number}
+use Rattle.echo_spec.specs.Accepted.{in-or_else, in-unless, walk_number, WalkNumbers, all-number, step-number}
+use Rattle.echo_spec.proofs.Accepted.{checks-number}
 use Rattle.lists.specs.Build.{upto_all}
 use Rattle.echo_spec.specs.Answers.{script, endless_with, endless_refusal, text_answer, echo_ext_answer}
 use Rattle.lets.specs.Lets.{
@@ -45,8 +46,9 @@ use Rattle.lets.specs.Lets.{
   endless_let,
   echo_let_answer,
 }
-use Rattle.lets.specs.Numbers.{roots-number, query_number, query-number, endless_number, endless-let-number}
-use Rattle.lets.specs.Plain.{binds-none, text-plain, roots-plain, clear-unshared}
+use Rattle.lets.specs.Numbers.{query_number, endless_number}
+use Rattle.lets.proofs.Numbers.{roots-number, query-number, endless-let-number}
+use Rattle.lets.proofs.Plain.{binds-none, text-plain, roots-plain, clear-unshared}
 use Rattle.theorems.specs.Answered.{text-acceptance, text-refused, text-accepted, text-room, text-told, text-listed, endless-passes, endless-listed, endless-told}
 use Rattle.theorems.specs.LetPrinted.{LetWhole, let_printed}
 

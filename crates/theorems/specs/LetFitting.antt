@@ -17,7 +17,8 @@ use Rattle.smtlib.specs.ScopeLaws.{bound-none}
 use Rattle.smtlib.specs.Sorts.{TermSort, bool}
 use Rattle.echo_spec.specs.TreeSorts.{TreeSort, variable_sort, BoundSorts, sort_under, none_bound}
 use Rattle.echo_spec.specs.TreeSortLaws.{if-proper}
-use Rattle.echo_spec.specs.SortedTrees.{sort_as, declarations_in, sort-agrees, node-proper, step-sorted}
+use Rattle.echo_spec.specs.SortedTrees.{sort_as, declarations_in}
+use Rattle.echo_spec.proofs.SortedTrees.{sort-agrees, node-proper, step-sorted}
 use Rattle.echo_spec.specs.Refusals.{unless}
 use Rattle.echo_spec.specs.Input.{Dag, Query, name_table, aname_table, fname_table}
 use Rattle.echo_spec.specs.Widths.{width_at, widths_of}

@@ -14,7 +14,7 @@ use Rattle.echo_spec.specs.Refusals.{unless, ◌or_else◌}
 use Rattle.echo_spec.specs.Shapes.{is_bool}
 use Rattle.echo_spec.specs.Input.{Node, shape, no_node, Dag, Query}
 use Rattle.echo_spec.specs.Widths.{widths_of}
-use Rattle.echo_spec.specs.NodeLaws.{facts}
+use Rattle.echo_spec.proofs.NodeLaws.{facts}
 use Rattle.echo_spec.specs.Trees.{tree_as, tree_step}
 use Rattle.echo_spec.specs.Walk.{Operand, operands_as, walk_all, sort_ok, asked, step_of_walk}
 use Rattle.lets.specs.Lets.{let_name, named, named_step, named_below, named_of, bool_at, used_as, let_step, let_walks_below, let_walk}

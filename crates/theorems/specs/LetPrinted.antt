@@ -9,16 +9,17 @@ use Rattle.reading.specs.Trees.{Trees, more, Reading}
 use Rattle.smtlib.specs.Lexicon.{Lex}
 use Rattle.smtlib.specs.Grammar.{Script, script_tokens}
 use Rattle.smtlib.specs.GrammarUnique.{script-unique}
-use Rattle.smtlib.specs.LexUnique.{lex-unique}
+use Rattle.smtlib.proofs.LexUnique.{lex-unique}
 use Rattle.smtlib.specs.Readings.{as_meanings, MeansAll, Reads}
-use Rattle.smtlib.specs.ReadsUnique.{reads-unique}
+use Rattle.smtlib.proofs.ReadsUnique.{reads-unique}
 use Rattle.smtlib.specs.Sorts.{WellSorted}
 use Rattle.echo_spec.specs.Refusals.{unless}
 use Rattle.echo_spec.specs.Input.{Problem, Dag, dag_of, Query, query_of}
 use Rattle.echo_spec.specs.Widths.{widths_of}
 use Rattle.echo_spec.specs.Tables.{declarations_of}
 use Rattle.echo_spec.specs.Trees.{trees_over, tree_of, reading_of}
-use Rattle.echo_spec.specs.Accepted.{unless-passed, or_else-passed, Checked, checks-passed}
+use Rattle.echo_spec.specs.Accepted.{unless-passed, or_else-passed, Checked}
+use Rattle.echo_spec.proofs.Accepted.{checks-passed}
 use Rattle.echo_spec.specs.Answers.{reading}
 use Rattle.lets.specs.Lets.{
   uses_in,

@@ -17,7 +17,8 @@ use Rattle.echo_spec.specs.Input.{Node, shape, no_node, Dag, Query, aname_table,
 use Rattle.echo_spec.specs.Widths.{widths_of}
 use Rattle.echo_spec.specs.Trees.{amount_of, variable_name, trees_over, stores_over, tree_as, tree_step, trees_below, tree_of}
 use Rattle.echo_spec.specs.Walk.{Operand, vector, levels, operands_as}
-use Rattle.echo_spec.specs.NodeLaws.{Low, facts}
+use Rattle.echo_spec.specs.NodeLaws.{Low}
+use Rattle.echo_spec.proofs.NodeLaws.{facts}
 use Rattle.lets.specs.Lets.{let_name, named, named_step, named_below, named_of}
 use Rattle.theorems.specs.Unfolding.{unfolded_name, unfolded, unfolded_all, unfolded_stores}
 

@@ -36,7 +36,7 @@ use Rattle.smtlib.specs.Readings.{
   MeansAllIn,
   MeansAll,
 }
-use Rattle.smtlib.specs.ReadsUnique.{select-built-in, store-built-in, operator-built-in}
+use Rattle.smtlib.proofs.ReadsUnique.{select-built-in, store-built-in, operator-built-in}
 use Rattle.smtlib.specs.Scopes.{Scope, bound_to, bound_names, symbol_of, hides}
 use Rattle.smtlib.specs.ScopeLaws.{bound-none, bound_some, none-bound, not_hidden}
 use Rattle.smtlib.specs.Sorts.{TermSort, bits}

@@ -36,12 +36,15 @@ use Rattle.echo_spec.specs.Tables.{find_call, arguments_inside, decl_vars_ok, si
 use Rattle.echo_spec.specs.Trees.{reading_of}
 use Rattle.echo_spec.specs.TreeSorts.{TreeSort, has_sort, sort_under, none_bound, tree_sort, all_bool}
 use Rattle.echo_spec.specs.TreeSortLaws.{has-eq}
-use Rattle.echo_spec.specs.SortedTrees.{declarations_in, roots-sorted}
+use Rattle.echo_spec.specs.SortedTrees.{declarations_in}
+use Rattle.echo_spec.proofs.SortedTrees.{roots-sorted}
 use Rattle.echo_spec.specs.Walk.{refusal_with}
-use Rattle.echo_spec.specs.Accepted.{Checked, accepted}
-use Rattle.echo_spec.specs.NodeLaws.{index-bound, value-bound}
+use Rattle.echo_spec.specs.Accepted.{Checked}
+use Rattle.echo_spec.proofs.Accepted.{accepted}
+use Rattle.echo_spec.proofs.NodeLaws.{index-bound, value-bound}
 use Rattle.echo_spec.specs.ColumnLaws.{columns-aligned, names-counted}
-use Rattle.echo_spec.specs.NameLaws.{NameByte, name-byte, name_ok, all_names, names-distinct, names-ok}
+use Rattle.echo_spec.specs.NameLaws.{NameByte, name_ok, all_names}
+use Rattle.echo_spec.proofs.NameLaws.{name-byte, names-distinct, names-ok}
 use Rattle.theorems.specs.Terms.{FitsAll}
 use Rattle.theorems.specs.Fitting.{fits}
 use Rattle.theorems.specs.Scripts.{bools, wide, SoundDeclarations, Sound}

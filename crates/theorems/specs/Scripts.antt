@@ -25,7 +25,8 @@ use Rattle.smtlib.specs.Grammar.{
   Script,
   script_tokens,
 }
-use Rattle.smtlib.specs.LexText.{Next, lex-next, put-open, put-close, put-space, put-line-feed, put-reserved, put-underscore, simple_test, put-simple, put-end}
+use Rattle.smtlib.specs.LexText.{Next, lex-next, put-open, put-close, put-space, put-line-feed, put-reserved, put-underscore, simple_test, put-end}
+use Rattle.smtlib.proofs.LexText.{put-simple}
 use Rattle.smtlib.specs.Readings.{
   widths,
   declaring,

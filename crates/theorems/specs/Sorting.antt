@@ -32,7 +32,7 @@ use Rattle.smtlib.specs.Grammar.{bit_vec, array, Sort, Operator, plain, indexed,
 use Rattle.smtlib.specs.Scopes.{Scope, bound_to, bound_names, hides}
 use Rattle.smtlib.specs.ScopeLaws.{bound-none, not_hidden}
 use Rattle.smtlib.specs.Readings.{built_in, function_names, declared_names, Apart}
-use Rattle.smtlib.specs.ReadsUnique.{select-built-in, store-built-in, operator-built-in}
+use Rattle.smtlib.proofs.ReadsUnique.{select-built-in, store-built-in, operator-built-in}
 use Rattle.smtlib.specs.Sorts.{
   TermSort,
   bool,

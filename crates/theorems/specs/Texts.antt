@@ -21,7 +21,8 @@ use Rattle.smtlib.specs.Grammar.{
   term_tokens,
   terms_tokens,
 }
-use Rattle.smtlib.specs.LexText.{Next, put-open, put-close, put-space, put-underscore, put-numeral, put-binary, put-quoted, simple_test, put-simple}
+use Rattle.smtlib.specs.LexText.{Next, put-open, put-close, put-space, put-underscore, put-numeral, put-binary, put-quoted, simple_test}
+use Rattle.smtlib.proofs.LexText.{put-simple}
 use Rattle.smtlib.specs.Scopes.{Scope, bound_to, bound_names}
 use Rattle.smtlib.specs.ScopeLaws.{bound_some}
 use Rattle.smtlib.specs.Readings.{variable_names, array_names, function_names, declared_names}

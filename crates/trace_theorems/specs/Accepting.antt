@@ -21,10 +21,11 @@ use Rattle.echo_spec.specs.WidthLaws.{sized}
 use Rattle.echo_spec.specs.Tables.{declarations_of}
 use Rattle.echo_spec.specs.Trees.{reading_of}
 use Rattle.echo_spec.specs.ColumnLaws.{Aligned, columns-aligned, names-counted}
-use Rattle.echo_spec.specs.NameLaws.{names-distinct}
+use Rattle.echo_spec.proofs.NameLaws.{names-distinct}
 use Rattle.echo_spec.specs.Walk.{Operand, formula, walk_all, walk, walk_roots, refusal_with}
 use Rattle.echo_spec.specs.Answers.{reading, endless_with, endless_refusal}
-use Rattle.echo_spec.specs.Accepted.{Accepted, accepted, or_else-passed, unless-passed}
+use Rattle.echo_spec.specs.Accepted.{Accepted, or_else-passed, unless-passed}
+use Rattle.echo_spec.proofs.Accepted.{accepted}
 use Rattle.echo_tables.specs.Found.{Entries}
 use Rattle.vectors.specs.Values.{mask}
 use Rattle.traces.specs.Trace.{fits, whole_rows, values_fit, row_count, row_of, narrow, holding, holding_in}

@@ -1,5 +1,5 @@
 -- What the replay of a trace answers (document 02, L9): refusals 14 and 15, their place among the others, and the masks. Definitions only.
-use Rattle.std.specs.Prelude.{ℕ, zero, suc, ◌+◌, ◌*◌, ◌/◌, ◌%◌, ◌^◌, List, [], ◌∷◌, map, Bool, true, false, ◌&&◌, ◌||◌, leb, ltb, eqb, length, take, drop, get_or}
+use Rattle.std.specs.Prelude.{ℕ, zero, suc, ◌*◌, ◌/◌, ◌%◌, ◌^◌, List, [], ◌∷◌, Bool, true, false, ◌&&◌, ◌||◌, leb, ltb, eqb, length, take, drop, get_or}
 use Rattle.lists.specs.Tests.{every, every_from}
 use Rattle.lists.specs.Build.{upto, tabulate}
 use Rattle.reading.specs.Trees.{Name, Trees, none, more, Reading}

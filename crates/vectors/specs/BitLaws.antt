@@ -1,6 +1,6 @@
 -- Laws of `bit` and `vector`: they are inverse, and a vector is put together from two parts.
-use Rattle.std.specs.Prelude.{ℕ, zero, suc, ◌+◌, ◌-◌, ◌*◌, ◌/◌, ◌%◌, ◌^◌, ◌≤◌, ◌<◌, ◌≡◌, refl}
-use Rattle.std.proofs.Common.{ap, ap₂, sym, ◌∙◌, subst, add-one, one-add, arith, pow_pos, pow-add, shr-shr, shr_lt}
+use Rattle.std.specs.Prelude.{ℕ, zero, suc, ◌+◌, ◌*◌, ◌/◌, ◌%◌, ◌^◌, ◌<◌, ◌≡◌, refl}
+use Rattle.std.proofs.Common.{ap, ap₂, sym, ◌∙◌, add-one, one-add, arith, shr-shr, shr_lt}
 use native.Mathlib.Nat.{add-zero, add_comm, add_assoc, mul_comm, mul-add, mul_assoc, mul-one, div-one, mod-lt, pow-suc, add-suc, suc-add, mod-eq_of_lt, add-mul-div_left, add-mul-mod_self_left, div-eq_of_lt, zero-add}
 use Rattle.std.proofs.lemmas.Nat.{mod-pow-add}
 use Rattle.vectors.specs.Vectors.{bit, vector}

@@ -1,5 +1,5 @@
 -- The value of a tree where its variables have values: SMT-LIB's interpretation of terms without arrays and free functions. Definitions only.
-use Rattle.std.specs.Prelude.{ℕ, zero, suc, ◌+◌, ◌-◌, ◌*◌, List, [], ◌∷◌, Bool, true, false, ◌&&◌, ◌||◌, not, cond, leb, ltb, eqb, length, get_or}
+use Rattle.std.specs.Prelude.{ℕ, ◌+◌, ◌-◌, ◌*◌, List, [], ◌∷◌, Bool, false, ◌&&◌, ◌||◌, not, cond, leb, ltb, eqb, length, get_or}
 use Rattle.lists.specs.Tests.{same}
 use Rattle.reading.specs.Trees.{Name, Tree, variable, constant, apply, select, call, Trees, none, more, Variable}
 use Rattle.vectors.specs.Vectors as smt

@@ -1,14 +1,14 @@
 -- Laws: each operator of `Vectors` as the arithmetic that a machine does, and that its result is a vector of its width.
-use Rattle.std.specs.Prelude.{ℕ, zero, suc, ◌+◌, ◌-◌, ◌*◌, ◌/◌, ◌%◌, ◌^◌, ◌≤◌, ◌<◌, min, max, ◌≡◌, refl, Bool, true, false, ◌&&◌, ◌||◌, not, cond, ◌⊎◌}
-use Rattle.std.proofs.Common.{ap, ap₂, sym, ◌∙◌, subst, inl, inr, add-one, one-add, arith, pow_pos, pow_mono, pow-add, shr-shr, shr_lt, shl_lt}
+use Rattle.std.specs.Prelude.{ℕ, zero, suc, ◌+◌, ◌-◌, ◌*◌, ◌/◌, ◌%◌, ◌^◌, ◌≤◌, ◌<◌, min, max, ◌≡◌, refl, Bool, true, false, ◌||◌, not, cond}
+use Rattle.std.proofs.Common.{ap, ap₂, sym, ◌∙◌, subst, add-one, one-add, arith, pow_pos, pow_mono, pow-add, shr-shr, shr_lt}
 use native.Mathlib.Nat.{add_comm, add_assoc, mul_comm, mul_assoc, mul-one, zero-mul, mul-add, add-mul, mod-lt, mod-eq_of_lt, div-one, div-le_self, lt_of_le_of_lt, lt_of_lt_of_le, mul-mod_left, div-eq_of_lt, pow-suc, zero-add, add-zero, one-mul, mod-le, le_refl, sub-add_cancel}
 use lib.Dec.{T, ltb, leb, eqb, eqb→eq, ltb→lt, leb→le, lt→ltb, le→leb, nltb→le, eqb_refl}
-use Rattle.std.proofs.Math.Pow.{split, high, low, mod-mod-pow, ones_lt}
+use Rattle.std.proofs.Math.Pow.{split, high, low}
 use Rattle.std.proofs.lemmas.Nat.{mod-pow-add}
 use Rattle.std.specs.Int.Bits.{bit_and, bit_or, bit_xor, and_step, or_step, xor_step, differ}
 use Rattle.lists.specs.Tests.{T→true, true→T, not→false}
-use Rattle.vectors.specs.Vectors.{bit, vector, nat2bv, concat, extract, bvnot, bvand, bvor, bvneg, bvadd, bvmul, bvudiv, bvurem, bvshl, bvlshr, bvult, bvxor, bvsub, msb, negative, bvsdiv, bvsrem, bvashr, repeat, zero_extend, sign_extend, left_once, right_once, rotate_left, rotate_right, bvule, bvugt, bvuge, bvslt, bvsle, bvsgt, bvsge}
-use Rattle.vectors.specs.BitLaws.{bit-zero, bit-suc, bit-add, bit-lt, vector-ext, vector-lt, vector-bits, bit-vector, vector-split, vector-complement, vector-ones, vector-zeros, vector-op}
+use Rattle.vectors.specs.Vectors.{bit, vector, nat2bv, concat, extract, bvnot, bvand, bvor, bvneg, bvadd, bvudiv, bvurem, bvshl, bvlshr, bvult, bvxor, bvsub, msb, negative, repeat, zero_extend, sign_extend, left_once, right_once, rotate_left, rotate_right, bvule, bvuge}
+use Rattle.vectors.specs.BitLaws.{bit-add, bit-lt, vector-ext, vector-lt, vector-bits, bit-vector, vector-split, vector-complement, vector-ones, vector-op}
 
 -- ---------------------------------------------------------------- digits
 
@@ -377,17 +377,3 @@ eqb_comm s t = alike (eqb s t) (eqb t s) (λ h. rw (eqb→eq s t h) (eqb_refl t)
 pub bvuge-is : (s t : ℕ) → bvule t s ≡ bvuge s t
 unfolding bvule bvuge
 bvuge-is s t = ap (λ (b : Bool). bvult t s || b) (eqb_comm t s)
-
-signed : (x y : ℕ) (u : Bool) → x < 2 → y < 2 → ((eqb x 1 && eqb y 0) || (eqb x y && u)) ≡ cond (eqb x 1) (cond (eqb y 1) u true) (cond (eqb y 1) false u)
-signed x y u hx hy =
-    by_two (λ (a : ℕ). ((eqb a 1 && eqb y 0) || (eqb a y && u)) ≡ cond (eqb a 1) (cond (eqb y 1) u true) (cond (eqb y 1) false u))
-    (by_two (λ (b : ℕ). ((eqb 0 1 && eqb b 0) || (eqb 0 b && u)) ≡ cond (eqb 0 1) (cond (eqb b 1) u true) (cond (eqb b 1) false u)) refl refl y hy)
-    (by_two (λ (b : ℕ). ((eqb 1 1 && eqb b 0) || (eqb 1 b && u)) ≡ cond (eqb 1 1) (cond (eqb b 1) u true) (cond (eqb b 1) false u)) refl refl y hy) x hx
-
-pub bvslt-is : (m s t : ℕ) → bvslt m s t ≡ cond (negative m s) (cond (negative m t) (ltb s t) true) (cond (negative m t) false (ltb s t))
-unfolding bvslt bvult
-bvslt-is m s t = signed (msb m s) (msb m t) (ltb s t) (msb-lt m s) (msb-lt m t)
-
-pub bvsle-is : (m s t : ℕ) → bvsle m s t ≡ cond (negative m s) (cond (negative m t) (leb s t) true) (cond (negative m t) false (leb s t))
-unfolding bvsle
-bvsle-is m s t = rw (bvule-is s t) (signed (msb m s) (msb m t) (leb s t) (msb-lt m s) (msb-lt m t))

@@ -1,5 +1,5 @@
 use Rattle.std.proofs.Common.{true, false, sym, ◌∙◌}
-use Rattle.vectors.specs.VectorLaws as laws
+use Rattle.vectors.proofs.VectorLaws as laws
 use Rattle.bv.proofs.Words.{cases}
 use Rattle.bv.proofs.bvsle.Goals as goal
 

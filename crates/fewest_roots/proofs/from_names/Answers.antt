@@ -3,7 +3,7 @@ use Rattle.lent.specs.Lent.{problem_at}
 use Rattle.echo_spec.specs.ColumnLaws.{columns-aligned}
 use Rattle.echo_checks.specs.Answered.{passed, failed}
 use Rattle.echo_checks.specs.Limits.{bounds}
-use Rattle.fewest.specs.Refused.{bad-names}
+use Rattle.fewest.proofs.Refused.{bad-names}
 use Rattle.fewest_roots.proofs.Telling.{numbered, told-apart, told-operands, told-one, told-two}
 use Rattle.fewest_roots.proofs.from_names.Goals as goal
 

@@ -6,6 +6,6 @@ use Rattle.replay_trace.proofs.evaluate.Goals as goal
 
 pub fill-requires : goal.fill-requires
 fill-requires c = record {
-      fact_1 = lent_at (problem_at c.args.bytes.now c.args.numbers.now) c.requires.fact_1;
-      fact_2 = few (problem_at c.args.bytes.now c.args.numbers.now) c.requires.fact_1.passed;
-    }
+  fact_1 = lent_at (problem_at c.args.bytes.now c.args.numbers.now) c.requires.fact_1;
+  fact_2 = few (problem_at c.args.bytes.now c.args.numbers.now) c.requires.fact_1.passed;
+}

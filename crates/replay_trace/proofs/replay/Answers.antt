@@ -23,6 +23,6 @@ slice_bounds-with_widths-end c = passed_length c.widths-n.ensures
 
 pub with_widths-requires : goal.with_widths-requires
 with_widths-requires c = record {
-      fact_1 = widths-are (problem_at c.args.bytes.now c.args.numbers.now) c.printing-e.ensures c.if-e-gt0.false (rw c.size.ensures at c.widths-n.ensures);
-      fact_2 = record { roots = (printed-first (problem_at c.args.bytes.now c.args.numbers.now) c.printing-e.ensures c.if-e-gt0.false).0; words = c.requires };
-    }
+  fact_1 = widths-are (problem_at c.args.bytes.now c.args.numbers.now) c.printing-e.ensures c.if-e-gt0.false (rw c.size.ensures at c.widths-n.ensures);
+  fact_2 = record { roots = (printed-first (problem_at c.args.bytes.now c.args.numbers.now) c.printing-e.ensures c.if-e-gt0.false).0; words = c.requires };
+}

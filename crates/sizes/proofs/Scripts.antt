@@ -1,7 +1,7 @@
 -- The bounds of problems, from document 01's limits: operators, terms and the length of the script.
-use Rattle.std.specs.Prelude.{ℕ, zero, suc, ◌+◌, ◌*◌, ◌/◌, ◌^◌, ◌≤◌, ◌<◌, min, ◌≡◌, refl, Bool, true, false, T, leb, ltb, take, drop}
-use Rattle.std.proofs.Common.{sym, mul-add, mul-one, leb→le, le→leb, ltb→lt, length-append}
-use mathlib.Core.List.{List, [], ◌∷◌, ◌++◌, map}
+use Rattle.std.specs.Prelude.{ℕ, zero, suc, ◌+◌, ◌*◌, ◌/◌, ◌^◌, ◌≤◌, ◌<◌, min, ◌≡◌, T, leb, take, drop}
+use Rattle.std.proofs.Common.{mul-add, mul-one, leb→le, le→leb, length-append}
+use mathlib.Core.List.{List, [], ◌∷◌, ◌++◌}
 use Rattle.std.proofs.Math.Option.{Option, none as nothing, some}
 use Rattle.std.proofs.Math.Nat.{mul-le-mul_left}
 use native.Mathlib.Omega.{arith}
@@ -10,7 +10,7 @@ use Rattle.lists.specs.Bytes.{bytes}
 use Rattle.lists.specs.Tests.{every, All, and_0, and-1, by-test}
 use Rattle.lists.specs.Build.{tabulate, length-tabulate}
 use Rattle.reading.specs.Trees.{Tree, Variable, Array, Function, Declarations, Reading}
-use Rattle.echo_spec.specs.Refusals.{unless, ◌or_else◌}
+use Rattle.echo_spec.specs.Refusals.{unless}
 use Rattle.echo_spec.specs.Input.{
   Problem,
   nodes_within,
@@ -53,15 +53,17 @@ use Rattle.echo_spec.specs.Render.{
   render,
 }
 use Rattle.echo_spec.specs.Answers.{script, endless_with, endless_refusal}
-use Rattle.echo_spec.specs.Accepted.{unless-passed, or_else-passed, Accepted, accepted}
-use Rattle.echo_spec.specs.NodeLaws.{index-bound, value-bound}
+use Rattle.echo_spec.specs.Accepted.{unless-passed, or_else-passed, Accepted}
+use Rattle.echo_spec.proofs.Accepted.{accepted}
+use Rattle.echo_spec.proofs.NodeLaws.{index-bound, value-bound}
 use Rattle.echo_spec.specs.ColumnLaws.{names-counted}
-use Rattle.echo_spec.specs.EncodingLaws.{signature-fits}
-use Rattle.sizes.specs.Size.{weigh, weigh_all, terms_entered, operators_entered}
+use Rattle.echo_spec.proofs.EncodingLaws.{signature-fits}
+use Rattle.sizes.specs.Size.{weigh_all, terms_entered, operators_entered}
 use Rattle.sizes.specs.Sums.{sum_over}
-use Rattle.sizes.specs.Operators.{operators-bound, roots-exist}
-use Rattle.sizes.specs.Terms.{scaled-all, terms-bound}
-use Rattle.sizes.specs.Count.{counts_below, roots-count}
+use Rattle.sizes.proofs.Operators.{operators-bound, roots-exist}
+use Rattle.sizes.proofs.Terms.{scaled-all, terms-bound}
+use Rattle.sizes.specs.Count.{counts_below}
+use Rattle.sizes.proofs.Count.{roots-count}
 use Rattle.sizes.specs.Lengths.{all_get_d, decimal-few, quoted-length, name-short, Short, tree-short}
 
 -- ---------------------------------------------------------------- lines

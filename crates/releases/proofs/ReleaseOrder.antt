@@ -1,33 +1,19 @@
 -- The order of what is told of a release: too many scripts, then the first that is not read, then meanings.
-use Rattle.std.specs.Prelude.{ℕ, zero, suc, ◌+◌, ◌≤◌, ◌<◌, ◌≡◌, refl, List, [], ◌∷◌, ◌++◌, Bool, true, false, T, ltb, length}
+use Rattle.std.specs.Prelude.{ℕ, ◌≤◌, ◌<◌, ◌≡◌, refl, List, [], ◌∷◌, ◌++◌, Bool, true, false, ltb, length}
 use Rattle.std.proofs.Common.{ap, sym, ◌∙◌, subst, append-nil, arith, ltb→lt, nltb→le}
-use Rattle.std.proofs.Math.Option.{Option, none, some}
+use Rattle.std.proofs.Math.Option.{Option, some}
 use Rattle.std.proofs.Math.ListN.{get_elem?}
 use Rattle.lists.specs.Tests.{true→T}
 use Rattle.lists.specs.Places.{at-seam}
 use Rattle.reading.specs.Trees.{Declarations, Reading}
-use Rattle.script_lines.specs.Lines.{following_script, Cut, scripts_of}
+use Rattle.script_lines.specs.Lines.{following_script, scripts_of}
 use Rattle.script_lines.specs.Cuts.{CutOf, cut-exactly}
 use Rattle.readback.specs.ScriptReader.{reading_in}
 use Rattle.rebuilt.specs.Start.{map_at}
 use Rattle.releases.specs.Release.{Declared, script_limit, rest_script, to_read, read_refusal, declarations_in, ReleaseAnswer, told, release_answer}
 use Rattle.releases.specs.ReleaseLaws.{Declares, At, at_left, Earliest}
-use Rattle.releases.specs.ReleaseScripts.{
-  rest-unread,
-  ScriptAt,
-  AllRead,
-  FirstUnread,
-  declarations_of_all,
-  OneMeaning,
-  TwoMeanings,
-  Unread,
-  Says,
-  too_many_given,
-  unread,
-  two_meanings,
-  one_meaning,
-  says,
-}
+use Rattle.releases.specs.ReleaseScripts.{rest-unread, ScriptAt, AllRead, FirstUnread, declarations_of_all, OneMeaning, TwoMeanings, Says, too_many_given, unread, two_meanings, one_meaning}
+use Rattle.releases.proofs.ReleaseScripts.{says}
 
 -- ---------------------------------------------------------------- the first that is not read
 

@@ -7,7 +7,7 @@ use Rattle.lists.specs.Bytes.{bytes}
 use Rattle.lists.specs.Tests.{same, in_list, every, by-test, and_0, and-1}
 use Rattle.reading.specs.Trees.{Name, Tree, variable, constant, apply, select, call, Trees, none as noTrees, more as moreTrees, base, store}
 use Rattle.reading.specs.Trees.{Declarations, Reading}
-use Rattle.smtlib.specs.LexTests.{lexemes, lexable, lex-text}
+use Rattle.smtlib.proofs.LexTests.{lexemes, lexable, lex-text}
 use Rattle.smtlib.specs.Grammar.{bit_vec, array, Operator, plain, indexed, Term, literal, identifier, application, Terms, none as no_terms}
 use Rattle.smtlib.specs.Grammar.{more as moreTerms, declare_const, declare_fun, Script, script_tokens, declarations_tokens, declaration_tokens}
 use Rattle.smtlib.specs.Grammar.{sort_tokens, sorts_tokens, assertions_tokens, term_tokens, operator_tokens}

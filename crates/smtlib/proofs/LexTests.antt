@@ -32,7 +32,8 @@ use Rattle.smtlib.specs.Lexicon.{
   Lex,
 }
 use Rattle.smtlib.specs.Deciding.{all→every}
-use Rattle.smtlib.specs.LexText.{simple_test, simple-by-test}
+use Rattle.smtlib.specs.LexText.{simple_test}
+use Rattle.smtlib.proofs.LexText.{simple-by-test}
 
 -- ---------------------------------------------------------------- the spelling of a token
 

@@ -5,9 +5,9 @@
 -- operands, so all nodes' weights are at most the number of nodes and the uses by operands and side entries. What is left of the first
 -- sum are the roots.
 use Prim.Native.Nat.{ℕ, zero, suc, ◌+◌, ◌≤◌, ◌<◌}
-use Rattle.std.specs.Prelude.{◌≡◌, Bool, true, false, ◌||◌, ◌⊎◌, ltb, eqb, length, get_or}
+use Rattle.std.specs.Prelude.{◌≡◌, Bool, true, false, ◌||◌, ltb, eqb, length, get_or}
 use Rattle.std.proofs.Math.Path.{refl, ap}
-use Rattle.std.proofs.Common.{sym, ◌∙◌, subst, eqb→eq, leb→le, ltb→lt, lt→ltb}
+use Rattle.std.proofs.Common.{◌∙◌, eqb→eq, leb→le, ltb→lt, lt→ltb}
 use mathlib.Core.List.{List, [], ◌∷◌, ◌++◌, map}
 use Rattle.std.proofs.Math.Logic.{inl, inr}
 use Rattle.std.proofs.Math.Decide.{dec_lt}
@@ -15,7 +15,7 @@ use native.Mathlib.Omega.{arith}
 use Rattle.std.proofs.Math.Dec.{T, leb}
 use Rattle.lists.specs.Tests.{All, every-at, or_elim, true→T, T→true}
 use Rattle.lists.specs.Build.{upto, upto-below}
-use Rattle.reading.specs.Trees.{Tree, constant}
+use Rattle.reading.specs.Trees.{constant}
 use Rattle.echo_spec.specs.Shapes.{Shape, is_leaf}
 use Rattle.echo_spec.specs.Input.{Node, shape, no_node, Dag}
 use Rattle.echo_spec.specs.Sharing.{uses_as, uses_of_all, count, used_once, unshared}
@@ -24,7 +24,7 @@ use Rattle.echo_spec.specs.Walk.{formula, walk_all, walks_below, walk, walk_root
 use Rattle.echo_spec.specs.Accepted.{or_else-passed, Accepted, walk-passed}
 use Rattle.sizes.specs.Size.{weigh, weigh_all}
 use Rattle.sizes.specs.Sums.{sum_over, sum_from, sum_at, sum-append, sum-le, sum-from-le, sum-by-number, at_most}
-use Rattle.sizes.specs.Operands.{own, entered, trees-sum, tree-sum, operands-used, operands-few}
+use Rattle.sizes.proofs.Operands.{own, entered, trees-sum, tree-sum, operands-used, operands-few}
 
 -- from n on the table has its default
 pub upto-past : {A : Type 0} (step : (ℕ → A) → ℕ → A) (d : A) (n j : ℕ) → n ≤ j → upto step d n j ≡ d

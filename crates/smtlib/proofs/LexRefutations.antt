@@ -27,9 +27,9 @@ use Rattle.smtlib.specs.Lexicon.{
   Lex,
 }
 use Rattle.smtlib.specs.Deciding.{Decided, agree, decided}
-use Rattle.smtlib.specs.LexUnique.{lex-unique}
+use Rattle.smtlib.proofs.LexUnique.{lex-unique}
 use Rattle.smtlib.specs.LexText.{simple_test}
-use Rattle.smtlib.specs.LexTests.{spelled, spells-by-test, spells→test, spelling, spells-some, Lexeme, tokens_of, text_of, holds, lex-by-test, same_tokens, same-tokens}
+use Rattle.smtlib.proofs.LexTests.{spelled, spells-by-test, spells→test, spelling, spells-some, Lexeme, tokens_of, text_of, holds, lex-by-test, same_tokens, same-tokens}
 
 -- ---------------------------------------------------------------- classes of bytes
 

@@ -1,7 +1,7 @@
 -- The terms in the roots' trees: each root is one, and each operator adds its operands.
-use Prim.Native.Nat.{ℕ, zero, suc, ◌+◌, ◌*◌, ◌≤◌, ◌<◌}
+use Prim.Native.Nat.{ℕ, suc, ◌+◌, ◌*◌, ◌≤◌}
 use Rattle.std.specs.Prelude.{◌≡◌, refl, Bool, true, false, length}
-use mathlib.Core.List.{List, [], ◌∷◌}
+use mathlib.Core.List.{List, []}
 use Rattle.std.proofs.Common.{mul-add, mul-one, mul-le-mul_left}
 use native.Mathlib.Omega.{arith}
 use Rattle.std.proofs.Math.ListN.{get_or}
@@ -13,9 +13,9 @@ use Rattle.echo_spec.specs.Trees.{trees_over, tree_step, trees_below, tree_of}
 use Rattle.echo_spec.specs.Walk.{Operand, operands_as}
 use Rattle.echo_spec.specs.Accepted.{Accepted}
 use Rattle.sizes.specs.Size.{weigh, weigh_all, weigh_stores}
-use Rattle.sizes.specs.Sums.{sum_over, sum-le, sum-suc}
-use Rattle.sizes.specs.Operands.{own, entered, trees-sum, tree-sum, operands-few}
-use Rattle.sizes.specs.Operators.{operators-bound}
+use Rattle.sizes.specs.Sums.{sum-le, sum-suc}
+use Rattle.sizes.proofs.Operands.{own, entered, trees-sum, tree-sum, operands-few}
+use Rattle.sizes.proofs.Operators.{operators-bound}
 
 -- weights k times as large
 module _ (k l o : ℕ) {l' o' : ℕ} (p : l' ≡ k * l) (q : o' ≡ k * o) where

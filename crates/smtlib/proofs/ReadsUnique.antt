@@ -6,11 +6,9 @@ use Rattle.lists.specs.Bytes.{bytes}
 use Rattle.lists.specs.Tests.{same, in_list, distinct, and_0, and-1, or_l, or_r, or_elim, T→true, no→false, same→eq, same_refl, in_left, in_right}
 use Rattle.lists.specs.Tests.{distinct-right, distinct_apart, every_in}
 use Rattle.reading.specs.Trees.{Name, Tree, apply, select, call, Trees, none as noTrees, more as moreTrees, Stores, store, Declarations, Reading}
-use Rattle.smtlib.specs.Lexicon.{Token, Lex}
 use Rattle.smtlib.specs.Grammar.{Operator, Term, literal, identifier, application, binding, Terms, none as no_terms, more as moreTerms, Script}
-use Rattle.smtlib.specs.Grammar.{script_tokens}
 use Rattle.smtlib.specs.Scopes.{Scope, bind, bound_to, symbol_of, hides}
-use Rattle.smtlib.specs.LexUnique.{lex-unique}
+use Rattle.smtlib.proofs.LexUnique.{lex-unique}
 use Rattle.smtlib.specs.GrammarUnique.{script-unique}
 use Rattle.smtlib.specs.Readings.{Row, operators, listed, row_names, built_in, variable_names, array_names, function_names, declared_names, Apart}
 use Rattle.smtlib.specs.Readings.{Meaning, a_tree, an_array, as_meanings, numerals_of, Names, is_variable, is_array, is_constant, Applies}

@@ -1,24 +1,24 @@
 -- Every refusal from 1 to 7 has its list, of two positions at most.
-use Rattle.std.specs.Prelude.{ℕ, zero, suc, ◌≤◌, ◌<◌, ◌≡◌, Bool, true, false, ◌&&◌, not, cond, ◌⊎◌, T, leb, eqb, length, get_or}
+use Rattle.std.specs.Prelude.{ℕ, zero, suc, ◌≤◌, ◌<◌, ◌≡◌, Bool, true, false, ◌⊎◌, eqb, length, get_or}
 use Rattle.std.proofs.Math.Path.{refl, sym, subst}
-use Rattle.std.proofs.Common.{ap, ◌∙◌, inl, inr, arith, leb→le}
+use Rattle.std.proofs.Common.{◌∙◌, inl, inr, arith}
 use mathlib.Core.List.{List, [], ◌∷◌}
-use Rattle.std.proofs.Math.Option.{some}
-use borrow.Author.Tests.{eq-eqb, eqb-false, leb-true, le-leb}
-use Rattle.lists.specs.Tests.{and_0, and-1, true→T}
-use Rattle.lists.specs.Build.{find}
-use Rattle.echo_spec.specs.Refusals.{unless, ◌or_else◌}
-use Rattle.echo_spec.specs.Input.{Problem, Dag, array_widths, nodes_within, within_limits, encoded, nodes_of, dag_of}
+use borrow.Author.Tests.{eqb-false, le-leb}
+use Rattle.lists.specs.Tests.{true→T}
+use Rattle.echo_spec.specs.Refusals.{unless}
+use Rattle.echo_spec.specs.Input.{Problem, Dag, array_widths, within_limits, encoded, nodes_of, dag_of}
 use Rattle.echo_spec.specs.Widths.{array_widths_ok, ext_wf_of}
 use Rattle.echo_spec.specs.Names.{names_ok}
 use Rattle.echo_spec.specs.Sharing.{unshared}
 use Rattle.echo_spec.specs.Tables.{columns_ok, decl_vars_ok, decl_funcs_ok}
 use Rattle.echo_spec.specs.Walk.{walk_roots, checks, refusal_with}
 use Rattle.echo_spec.specs.Answers.{endless_with, endless_refusal}
-use Rattle.fewest.specs.Fewest.{with_roots, roots_at, same_number, all_rising, listed, fewest}
-use Rattle.fewest.specs.Least.{LeastList, first-is, least-exists}
-use Rattle.fewest.specs.Uses.{Operator, Places, two-shared, pair_of}
-use Rattle.fewest.specs.Refused.{roots_few, within-with, checked-with, declared, Numbered, walk_none, walk_first, number, six-is, six, apart_none, apart-one}
+use Rattle.fewest.specs.Fewest.{with_roots, roots_at, same_number, fewest}
+use Rattle.fewest.specs.Least.{LeastList, least-exists}
+use Rattle.fewest.proofs.Least.{first-is}
+use Rattle.fewest.specs.Uses.{Operator, two-shared, pair_of}
+use Rattle.fewest.specs.Refused.{roots_few, within-with, checked-with, declared, Numbered, walk_none, walk_first}
+use Rattle.fewest.proofs.Refused.{number, six, apart_none, apart-one}
 
 -- the widths of the nodes
 abbrev widths_of : Problem → List ℕ

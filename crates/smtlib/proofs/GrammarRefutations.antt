@@ -35,8 +35,8 @@ use Rattle.smtlib.specs.Grammar.{
   Script,
   script_tokens,
 }
-use Rattle.smtlib.specs.LexUnique.{lex-unique}
-use Rattle.smtlib.specs.LexTests.{lexemes, lexable, lex-text, is_number, is_constant, is_symbol, same_token, same_tokens, same-tokens}
+use Rattle.smtlib.proofs.LexUnique.{lex-unique}
+use Rattle.smtlib.proofs.LexTests.{lexemes, lexable, lex-text, is_number, is_constant, is_symbol, same_token, same_tokens, same-tokens}
 use Rattle.smtlib.specs.GrammarUnique.{term-unique}
 use Rattle.smtlib.specs.Readings.{operators, a_tree, is_variable, is_operator, MeansIn, Reads}
 use Rattle.smtlib.specs.Sorts.{

@@ -1,44 +1,15 @@
 -- Without shared operators the text with `let` and its refusals are the plain ones.
-use Rattle.std.specs.Prelude.{ℕ, zero, suc, ◌≤◌, ◌<◌, ◌≡◌, Bool, true, false, ◌&&◌, not, cond, T, ltb, length}
+use Rattle.std.specs.Prelude.{ℕ, zero, suc, ◌<◌, ◌≡◌, Bool, true, false, ◌&&◌, not, T, ltb, length}
 use Rattle.std.proofs.Math.Path.{refl}
 use Rattle.std.proofs.Common.{ap, arith, ltb→lt, T_not}
 use mathlib.Core.List.{List, [], ◌∷◌, ◌++◌}
-use Rattle.lists.specs.Tests.{among, among-every, in_list, every_from, every-at, and_0, and-1, no→false}
-use Rattle.lists.specs.Build.{upto_all}
-use Rattle.echo_spec.specs.Refusals.{unless, ◌or_else◌}
-use Rattle.echo_spec.specs.Input.{Problem, within_limits, encoded, Dag, dag_of, name_table, aname_table, fname_table}
+use Rattle.lists.specs.Tests.{among, in_list, every_from, every-at, and_0, and-1, no→false}
+use Rattle.echo_spec.specs.Input.{Dag, name_table, aname_table, fname_table}
 use Rattle.echo_spec.specs.Sharing.{uses_of_all, used_once, unshared}
 use Rattle.echo_spec.specs.Trees.{trees_over, tree_of}
-use Rattle.echo_spec.specs.Walk.{walk_all, sort_ok, walk, walk_roots}
+use Rattle.echo_spec.specs.Walk.{walk_all, walk, walk_roots}
 use Rattle.echo_spec.specs.Render.{term, assertions_text}
-use Rattle.echo_spec.specs.Accepted.{in-or_else, in-unless, walk_number, WalkNumbers, all-number, step-number, checks-number}
-use Rattle.echo_spec.specs.Answers.{endless_with}
-use Rattle.lets.specs.Lets.{
-  uses_in,
-  shared,
-  reached,
-  binds,
-  rising,
-  let_name,
-  named,
-  named_step,
-  named_of,
-  assertion_of,
-  assertions_of,
-  let_text,
-  let_assertions_text,
-  bool_at,
-  used_as,
-  let_step,
-  let_walks_below,
-  let_walk,
-  assertion_refusal,
-  let_roots,
-  names_clear,
-  let_refusal_with,
-  let_refusal,
-  endless_let,
-}
+use Rattle.lets.specs.Lets.{uses_in, shared, reached, binds, rising, let_name, named, named_step, named_of, assertion_of, assertions_of, let_text, let_assertions_text, used_as, let_step, let_walk, assertion_refusal, let_roots, names_clear}
 
 -- ---------------------------------------------------------------- without shared operators
 

@@ -13,7 +13,7 @@ use Rattle.smtlib.specs.Scopes.{symbol_of, is_plain}
 use Rattle.smtlib.specs.Readings.{Row, operators, listed, built_in, declared, variable_names, array_names, function_names}
 use Rattle.smtlib.specs.Readings.{declared_names, Apart, Meaning, a_tree, an_array, as_meanings, bits_of, numerals_of, Names, is_variable, is_array, is_constant}
 use Rattle.smtlib.specs.Readings.{Applies, is_call, is_select, is_store, is_operator, AppliesIn, MeansIn, Means, MeansAll, ScriptMeans}
-use Rattle.smtlib.specs.ReadsUnique.{means-unique, means-all-unique, script-means-unique}
+use Rattle.smtlib.proofs.ReadsUnique.{means-unique, means-all-unique, script-means-unique}
 
 -- ---------------------------------------------------------------- declarations
 

@@ -1,0 +1,6 @@
+pub mod Accepted
+pub mod NodeLaws
+pub mod NameLaws
+pub mod SortedTrees
+pub mod EncodingLaws
+pub mod LimitExamples

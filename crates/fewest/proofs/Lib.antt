@@ -1,0 +1,3 @@
+pub mod Least
+pub mod Refused
+pub mod Always

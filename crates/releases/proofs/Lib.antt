@@ -1,0 +1,3 @@
+pub mod ReleaseLaws
+pub mod ReleaseScripts
+pub mod ReleaseOrder

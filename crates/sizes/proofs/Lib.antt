@@ -1,0 +1,5 @@
+pub mod Operands
+pub mod Operators
+pub mod Terms
+pub mod Scripts
+pub mod Count
