@@ -25,13 +25,13 @@ abbrev pub decreases-formula_node : goal.decreases-formula_node
 decreases-formula_node l = μ l.i 2
 
 abbrev pub invariant-formula_chain-loop-left : goal.invariant-formula_chain-loop-left
-invariant-formula_chain-loop-left l =     Begun (list_text l.bytes l.numbers l.tables (chain_pieces (problem_at l.bytes l.numbers).side l.j l.s l.n)) (list_text l.bytes l.numbers l.tables (chain_pieces (problem_at l.bytes l.numbers).side l.j l.s l.left)) (page l.initial.q l.initial.out) (page l.q l.out) × (l.left ≤ l.n)
+invariant-formula_chain-loop-left l = Begun (list_text l.bytes l.numbers l.tables (chain_pieces (problem_at l.bytes l.numbers).side l.j l.s l.n)) (list_text l.bytes l.numbers l.tables (chain_pieces (problem_at l.bytes l.numbers).side l.j l.s l.left)) (page l.initial.q l.initial.out) (page l.q l.out) × (l.left ≤ l.n)
 
 abbrev pub decreases-formula_chain-loop-left : goal.decreases-formula_chain-loop-left
 decreases-formula_chain-loop-left l = l.left
 
 abbrev pub invariant-formula_other-loop-k : goal.invariant-formula_other-loop-k
-invariant-formula_other-loop-k l =     Begun (pieces_text (λ v j. placed_at l.bytes l.numbers l.tables v j) (sign_of l.kind) (pieces_of l.own (problem_at l.bytes l.numbers).side l.f))
+invariant-formula_other-loop-k l = Begun (pieces_text (λ v j. placed_at l.bytes l.numbers l.tables v j) (sign_of l.kind) (pieces_of l.own (problem_at l.bytes l.numbers).side l.f))
     (pieces_text (λ v j. placed_at l.bytes l.numbers l.tables v j) (sign_of l.kind) (drop l.k (pieces_of l.own (problem_at l.bytes l.numbers).side l.f))) (page l.initial.q l.initial.out) (page l.q l.out)
     × (l.k ≤ l.m)
 
@@ -39,7 +39,7 @@ abbrev pub decreases-formula_other-loop-k : goal.decreases-formula_other-loop-k
 decreases-formula_other-loop-k l = l.m - l.k
 
 abbrev pub invariant-formula_args-loop-k : goal.invariant-formula_args-loop-k
-invariant-formula_args-loop-k l =     Begun (list_text l.bytes l.numbers l.tables (arg_pieces (problem_at l.bytes l.numbers).side l.s l.n)) (list_text l.bytes l.numbers l.tables (drop l.k (arg_pieces (problem_at l.bytes l.numbers).side l.s l.n))) (page l.initial.q l.initial.out) (page l.q l.out) × (l.k < l.n)
+invariant-formula_args-loop-k l = Begun (list_text l.bytes l.numbers l.tables (arg_pieces (problem_at l.bytes l.numbers).side l.s l.n)) (list_text l.bytes l.numbers l.tables (drop l.k (arg_pieces (problem_at l.bytes l.numbers).side l.s l.n))) (page l.initial.q l.initial.out) (page l.q l.out) × (l.k < l.n)
 
 abbrev pub decreases-formula_args-loop-k : goal.decreases-formula_args-loop-k
 decreases-formula_args-loop-k l = l.n - l.k

@@ -15,9 +15,9 @@ operands-f-requires c = shape-coded _ _ _ _ c.requires.0.ready _ c.requires.1.he
 
 pub level-own-requires : goal.level-own-requires
 level-own-requires c = record {
-      signs_value = c.requires.0.signs;
-      kind_bound = kind-of _ _ _ _ c.requires.0 _ c.requires.1 c.node_here-n.ensures;
-    }
+  signs_value = c.requires.0.signs;
+  kind_bound = kind-of _ _ _ _ c.requires.0 _ c.requires.1 c.node_here-n.ensures;
+}
 
 pub count-m-requires : goal.count-m-requires
 count-m-requires c = count_fits _ _ _ _ c.requires.0 _ c.requires.1 (c.operands-f.ensures ∙ ap (λ (x : Node). form_as x (shape x)) c.node_here-n.ensures)

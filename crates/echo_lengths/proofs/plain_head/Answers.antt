@@ -5,9 +5,9 @@ use Rattle.echo_lengths.proofs.plain_head.Goals as goal
 
 pub symbol-requires : goal.symbol-requires
 symbol-requires c = record {
-      symbols_value = c.requires.symbols;
-      kind_bound = symbol-of c.requires c.node_here-n.ensures;
-    }
+  symbols_value = c.requires.symbols;
+  kind_bound = symbol-of c.requires c.node_here-n.ensures;
+}
 
 pub returns : goal.returns
 returns c = symbol-long c.node_here-n.ensures c.symbol.ensures c.more.ensures

@@ -9,7 +9,7 @@ use Rattle.place_script.specs.Zeros.{Zeroing}
 use Rattle.place_script.proofs.call_on_zeros.Given as goal
 
 abbrev pub invariant-loop-heap : goal.invariant-loop-heap
-invariant-loop-heap l =     (ws : List ℕ) (first : List Item) → ArgumentsAt l.s l.p ws → Held l.initial.heap l.initial.nodes l.initial.bits first → Stacked l.s l.initial.heap [] → Zeroing l.s l.heap l.nodes l.bits ws first l.a
+invariant-loop-heap l = (ws : List ℕ) (first : List Item) → ArgumentsAt l.s l.p ws → Held l.initial.heap l.initial.nodes l.initial.bits first → Stacked l.s l.initial.heap [] → Zeroing l.s l.heap l.nodes l.bits ws first l.a
 
 abbrev pub decreases-loop-heap : goal.decreases-loop-heap
 decreases-loop-heap l = length l.s - l.a

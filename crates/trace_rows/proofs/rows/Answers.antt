@@ -23,9 +23,9 @@ slice_bounds-mask-end c = omega (arith, row-end (slot c.args.bytes.now 0) (slot 
 
 pub mask-m-requires : goal.mask-m-requires
 mask-m-requires c = record {
-      fact_1 = c.requires.fact_1;
-      fact_2 = rw (row_is (slot c.args.bytes.now 0) (slot c.args.bytes.now 1) (slot c.args.tables.now 0) (slot c.args.numbers.now 5) (slot c.args.tables.now 1) c.args.values.now c.args.roots.now c.args.masks.now c.args.counts.now c.args.v c.loop-j.j c.requires.fact_3.0) (c.requires.fact_2.at c.loop-j.j c.loop-j-test.true);
-    }
+  fact_1 = c.requires.fact_1;
+  fact_2 = rw (row_is (slot c.args.bytes.now 0) (slot c.args.bytes.now 1) (slot c.args.tables.now 0) (slot c.args.numbers.now 5) (slot c.args.tables.now 1) c.args.values.now c.args.roots.now c.args.masks.now c.args.counts.now c.args.v c.loop-j.j c.requires.fact_3.0) (c.requires.fact_2.at c.loop-j.j c.loop-j-test.true);
+}
 
 pub offset_bounds-masks-j : goal.offset_bounds-masks-j
 offset_bounds-masks-j c = omega (arith, c.loop-j.invariant.1.masks_length, c.loop-j.invariant.1.counts_length, c.requires.fact_3.1, c.requires.fact_3.2, c.loop-j.invariant.0, c.loop-j-test.true, c.well_formed)

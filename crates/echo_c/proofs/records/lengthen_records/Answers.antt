@@ -1,0 +1,5 @@
+use Rattle.echo_c.proofs.Laws.{as-given}
+use Rattle.echo_c.proofs.records.lengthen_records.Goals as goal
+
+pub returns : goal.returns
+returns c = as-given c.record_answer.ensures c.lengthen-r.ensures
