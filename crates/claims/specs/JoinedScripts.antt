@@ -8,8 +8,9 @@ use Rattle.echo_spec.specs.Answers.{echo_ext_answer}
 use Rattle.lets.specs.Lets.{echo_let_answer}
 use Rattle.hidden.specs.Hidden.{echo_hidden_answer}
 use Rattle.script_lines.specs.Lines.{IsScript, AllScripts, joined, following_script, Cut, scripts_of}
-use Rattle.script_lines.specs.Laws.{next-of-script, scripts-apart}
-use Rattle.script_lines.specs.Cuts.{CutOf, cut-joined, cut-whole, cut-exactly, joined-equal, next-nothing}
+use Rattle.script_lines.proofs.Laws.{next-of-script, scripts-apart}
+use Rattle.script_lines.specs.Cuts.{CutOf}
+use Rattle.script_lines.proofs.Cuts.{cut-joined, cut-whole, cut-exactly, joined-equal, next-nothing}
 use Rattle.script_lines.specs.Scanning.{found_of}
 use Rattle.script_lines.specs.declared.Found.{Found}
 use Rattle.script_lines.specs.declared.Found.TheVariants.{Script, Nothing}

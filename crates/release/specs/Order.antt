@@ -10,7 +10,7 @@ use Rattle.std.proofs.Math.ListN.{length, drop, length-drop}
 use Rattle.std.proofs.Math.Seq.{drop-length}
 use Rattle.lists.specs.Tests.{T→true}
 use Rattle.script_lines.specs.Lines.{following_script, Cut, uncut, scripts_of}
-use Rattle.script_lines.specs.Cuts.{cut-rest}
+use Rattle.script_lines.proofs.Cuts.{cut-rest}
 use Rattle.readback.specs.ScriptReader.{reading_in}
 use Rattle.releases.specs.Release.{rest_script, to_read, read_refusal, earliest, ReleaseAnswer, told, meaning_answer, read_in_order, scripts_answer, release_answer}
 use Rattle.releases.specs.ReleaseScripts.{AllRead, all_read as all_more, rest-unread, declarations_of_all}

@@ -9,7 +9,7 @@ use Rattle.lists.specs.Tests.{true→T}
 use Rattle.reading.specs.Trees.{Declarations, Reading}
 use Rattle.echo_spec.specs.Render.{render}
 use Rattle.script_lines.specs.Lines.{following_script, Cut, scripts_of}
-use Rattle.script_lines.specs.Cuts.{cut-rest}
+use Rattle.script_lines.proofs.Cuts.{cut-rest}
 use Rattle.readback.specs.Printable.{printable}
 use Rattle.readback.specs.Rebuild.{rebuild}
 use Rattle.readback.specs.ScriptReader.{reading_in}

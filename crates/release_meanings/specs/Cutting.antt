@@ -6,8 +6,8 @@ use Rattle.std.proofs.lemmas.Bool.{lt-leb}
 use Rattle.script_lines.specs.declared.Found.{Found}
 use Rattle.script_lines.specs.declared.Found.TheVariants.{Script, Nothing}
 use Rattle.script_lines.specs.Lines.{following_script, Cut, with_first, scripts_of}
-use Rattle.script_lines.specs.Laws.{next-is-script}
-use Rattle.script_lines.specs.Cuts.{cut-rest, cut-first}
+use Rattle.script_lines.proofs.Laws.{next-is-script}
+use Rattle.script_lines.proofs.Cuts.{cut-rest, cut-first}
 use Rattle.script_lines.specs.Scanning.{found_of}
 
 -- ---------------------------------------------------------------- parts of the file

@@ -7,7 +7,8 @@ use Rattle.lists.specs.Tests.{true→T}
 use Rattle.lists.specs.Places.{at-seam}
 use Rattle.reading.specs.Trees.{Declarations, Reading}
 use Rattle.script_lines.specs.Lines.{following_script, scripts_of}
-use Rattle.script_lines.specs.Cuts.{CutOf, cut-exactly}
+use Rattle.script_lines.specs.Cuts.{CutOf}
+use Rattle.script_lines.proofs.Cuts.{cut-exactly}
 use Rattle.readback.specs.ScriptReader.{reading_in}
 use Rattle.rebuilt.specs.Start.{map_at}
 use Rattle.releases.specs.Release.{Declared, script_limit, rest_script, to_read, read_refusal, declarations_in, ReleaseAnswer, told, release_answer}

@@ -9,7 +9,8 @@ use Rattle.lists.specs.Places.{at_less, at-seam}
 use Rattle.reading.specs.Trees.{Declarations, Reading}
 use Rattle.echo_spec.specs.Refusals.{unless}
 use Rattle.script_lines.specs.Lines.{following_script, scripts_of}
-use Rattle.script_lines.specs.Cuts.{CutOf, cut-exactly}
+use Rattle.script_lines.specs.Cuts.{CutOf}
+use Rattle.script_lines.proofs.Cuts.{cut-exactly}
 use Rattle.readback.specs.Rebuild.{rebuild}
 use Rattle.readback.specs.ScriptReader.{reading_in}
 use Rattle.readback.specs.ReadAnswers.{limits_passed}

@@ -9,7 +9,7 @@ use Rattle.reading.specs.Trees.{Name, Declarations, Reading}
 use Rattle.echo_spec.specs.Refusals.{unless}
 use Rattle.echo_spec.specs.EncodingLaws.{encodable-has}
 use Rattle.script_lines.specs.Lines.{IsScript, following_script, scripts_of}
-use Rattle.script_lines.specs.Laws.{next-of-script}
+use Rattle.script_lines.proofs.Laws.{next-of-script}
 use Rattle.theorems.specs.Scripts.{Sound}
 use Rattle.theorems.specs.Printed.{reading-sound}
 use Rattle.theorems.specs.ScriptLines.{reading-script}

@@ -1,11 +1,9 @@
 -- Files cut, computed.
 use Rattle.std.specs.Prelude.{ℕ, ◌≡◌, refl, List, [], ◌∷◌, ◌++◌, map}
 use Rattle.std.proofs.Math.Option.{Option, none, some}
-use Rattle.std.proofs.Common.{arith}
 use Rattle.lists.specs.Bytes.{bytes}
 use Rattle.lists.specs.Tests.{same, by-test}
 use Rattle.script_lines.specs.Lines.{other_line, lines_text, IsScript, begins, until_check, following_script, cut_up_to, scripts_of}
-use Rattle.script_lines.specs.Laws.{next-of-script}
 
 -- a definition for each: what is computed is written out
 abbrev logic : List ℕ
@@ -90,11 +88,3 @@ named-script = record {
 logic-script : IsScript logic
 unfolding lines_text other_line bytes same
 logic-script = record { lines = bytes "(set-logic QF_BV)" ∷ []; others = by-test other_line (bytes "(set-logic QF_BV)" ∷ []) tt; text = refl }
-
--- the last line twice is no script's text, since it is the last line alone
-twice : IsScript (bytes "(check-sat)\n(check-sat)\n") → ⊥
-unfolding following_script until_check begins bytes
-twice h = absurd (no_both (next-of-script (bytes "(check-sat)\n(check-sat)\n") h []))
-  where
-    no_both : ◌≡◌ {A = Option ℕ} (some 12) (some 24) → ⊥
-    no_both e = let z : ◌≡◌ {A = ℕ} 12 24 = cc in omega arith

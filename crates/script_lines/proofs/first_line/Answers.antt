@@ -1,7 +1,8 @@
 -- `first_line` meets its contract: up to the place that it has come to no check-sat line starts.
 use mathlib.Core.Path.{◌≡◌, refl, ap, sym, ◌∙◌}
 use native.Mathlib.Omega.{arith}
-use Rattle.script_lines.specs.Scanning.{ahead, ahead-here, ahead-on, starts-inside}
+use Rattle.script_lines.specs.Scanning.{ahead, starts-inside}
+use Rattle.script_lines.proofs.Scanning.{ahead-here, ahead-on}
 use Rattle.script_lines.proofs.first_line.Goals as goal
 
 pub loop-k-init : goal.loop-k-init

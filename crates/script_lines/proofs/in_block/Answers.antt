@@ -2,7 +2,7 @@
 use native.Mathlib.Omega.{arith}
 use borrow.Author.Tests.{not-true}
 use Rattle.lists.specs.Bytes.{bytes}
-use Rattle.script_lines.specs.Scanning.{block-passed}
+use Rattle.script_lines.proofs.Scanning.{block-passed}
 use Rattle.script_lines.proofs.in_block.Goals as goal
 
 pub returns-then-not-in_reach : goal.returns-then-not-in_reach

@@ -1,8 +1,6 @@
 -- `in_reach` meets its contract: at each turn the places passed do not have the byte, unless it was seen.
 use Prim.Native.Nat.{ℕ}
 use mathlib.Core.Path.{◌≡◌, sym, ◌∙◌, subst}
-use mathlib.Core.Bool.{false}
-use mathlib.Core.Logic.{⊎_elim}
 use native.Mathlib.Omega.{arith}
 use lib.Dec.{T}
 use Rattle.script_lines.specs.Scanning.{Without, without-none, without_more}

@@ -1,0 +1,4 @@
+pub mod Laws
+pub mod Cuts
+pub mod Examples
+pub mod Scanning
