@@ -50,7 +50,7 @@ slice_bounds-refusal_of-end t c =
 
 pub returns-then-v-gt0 : goal.returns-then-v-gt0
 returns-then-v-gt0 t c =
-    told-unread c.args.file.now c.requires.1 (unread-here c.args.file.now c.args.at c.args.k c.requires.0 _ c.refusal_of-v.result (stepped c.args.file.now c.args.at c.next_script.result c.requires.0.inside c.next_script.ensures c.in-Script.is) c.refusal_of-v.ensures c.if-v-gt0.true)
+    told-unread c.args.file.now c.requires.1 (unread-here c.args.file.now c.args.at c.args.k c.requires.0 _ c.refusal_of-v.result (stepped c.args.file.now c.args.at c.next_script.result c.requires.0.inside c.next_script.ensures c.in-Script.is) c.refusal_of-v.ensures (omega (arith, c.if-v-gt0.true)))
 
 pub overflow_add-at-2 : goal.overflow_add-at-2
 overflow_add-at-2 t c =
