@@ -2,166 +2,178 @@
 // Under "Ruled out" stand wrong programs that a public function's contract refuses.
 #![tactic(auto)]
 
-ghost use Rattle.std.specs.Prelude.{◌≡◌, ◌+◌, ◌*◌, ◌≤◌, ◌<◌, [], ◌∷◌, length};
+ghost use Rattle.std.specs.Prelude.{◌≡◌, ◌+◌, ◌*◌, ◌≤◌, ◌<◌, [], ◌∷◌, length, drop};
 ghost use Rattle.lists.specs.Tests.{every};
-ghost use Rattle.echo_spec.specs.Shapes.{shape_of, operand_count};
+ghost use Rattle.echo_spec.specs.Shapes as shapes;
 ghost use Rattle.echo_spec.specs.Input as input;
 ghost use Rattle.lent.specs.Records.{node_of};
 ghost use Rattle.blast_kernel.specs.Records.{unused, bit};
-ghost use Rattle.blast_kernel.specs.Codes.{code_of, shape_coded};
+ghost use Rattle.blast_kernel.specs.Kinds.{shape_in};
 
 use lent::{Node, node_at, node_count};
 use refusals::{MAX_BITS, MAX_NODE_BYTES, MAX_SIDE, RECORD};
 
-// The codes of the shapes, in the order of the definition `Shape`.
-pub const VAR: u8 = 0;
+// For the crates that are not yet written over: the shapes by their codes.
+pub mod codes;
 
-pub const CONST: u8 = 1;
+// How many kinds there are: 0 to 38.
+pub const KINDS: u8 = 39;
 
-pub const BINARY: u8 = 2;
+// The shapes of kinds: which operands a kind has and what they are.
+#[derive(Clone, Copy, Debug, PartialEq, Eq)]
+pub enum Shape {
+    Var,
+    Const,
+    Binary,
+    Rotation,
+    Extraction,
+    Concat,
+    Extension,
+    Ite,
+    Comparison,
+    Negation,
+    Connective,
+    Unary,
+    Select,
+    Call,
+    Unknown,
+}
 
-pub const ROTATION: u8 = 3;
+// A kind's shape: the table is a match, since a constant array would be stored anew at each use. Ruled out: a rotation as another binary
+// operator; a kind past the last as a call.
+impl From<u8> for Shape {
+    ghost from_gives = { λ k s. shape_in s ≡ shapes.shape_of k };
 
-pub const EXTRACTION: u8 = 4;
-
-pub const CONCAT: u8 = 5;
-
-pub const EXTENSION: u8 = 6;
-
-pub const ITE: u8 = 7;
-
-pub const COMPARISON: u8 = 8;
-
-pub const NEGATION: u8 = 9;
-
-pub const CONNECTIVE: u8 = 10;
-
-pub const UNARY: u8 = 11;
-
-pub const SELECT: u8 = 12;
-
-pub const CALL: u8 = 13;
-
-pub const UNKNOWN: u8 = 14;
-
-// A kind's shape, as its code: the table is a match, since a constant array would be stored anew at each use. Ruled out: a rotation as
-// another binary operator; a kind past the last as a call.
-pub fn shape(kind: u8) -> u8
-    ensures { result ≡ code_of (shape_of kind) }
-{
-    match kind {
-        0 => VAR, // Var
-        1 => CONST, // Const
-        2 => BINARY, // Add
-        3 => BINARY, // Sub
-        4 => BINARY, // Mul
-        5 => BINARY, // Udiv
-        6 => BINARY, // Urem
-        7 => BINARY, // And
-        8 => BINARY, // Or
-        9 => BINARY, // Xor
-        10 => BINARY, // Shl
-        11 => BINARY, // Lshr
-        12 => BINARY, // Ashr
-        13 => ROTATION, // Rotr
-        14 => EXTRACTION, // Extract
-        15 => CONCAT, // Concat
-        16 => EXTENSION, // ZeroExt
-        17 => EXTENSION, // SignExt
-        18 => ITE, // Ite
-        19 => COMPARISON, // Eq
-        20 => COMPARISON, // Ne
-        21 => COMPARISON, // Ult
-        22 => COMPARISON, // Ule
-        23 => COMPARISON, // Ugt
-        24 => COMPARISON, // Uge
-        25 => COMPARISON, // Slt
-        26 => COMPARISON, // Sle
-        27 => COMPARISON, // Sgt
-        28 => COMPARISON, // Sge
-        29 => NEGATION, // Not
-        30 => CONNECTIVE, // BoolAnd
-        31 => CONNECTIVE, // BoolOr
-        32 => UNARY, // BvNot
-        33 => UNARY, // Neg
-        34 => ROTATION, // Rotl
-        35 => BINARY, // Sdiv
-        36 => BINARY, // Srem
-        37 => SELECT, // Select
-        38 => CALL, // Call
-        _ => UNKNOWN,
+    #[tactic(auto, unfolding(echo_spec::specs::Shapes::shapes))]
+    fn from(kind: u8) -> Shape {
+        match kind {
+            0 => Shape::Var, // Var
+            1 => Shape::Const, // Const
+            2 => Shape::Binary, // Add
+            3 => Shape::Binary, // Sub
+            4 => Shape::Binary, // Mul
+            5 => Shape::Binary, // Udiv
+            6 => Shape::Binary, // Urem
+            7 => Shape::Binary, // And
+            8 => Shape::Binary, // Or
+            9 => Shape::Binary, // Xor
+            10 => Shape::Binary, // Shl
+            11 => Shape::Binary, // Lshr
+            12 => Shape::Binary, // Ashr
+            13 => Shape::Rotation, // Rotr
+            14 => Shape::Extraction, // Extract
+            15 => Shape::Concat, // Concat
+            16 => Shape::Extension, // ZeroExt
+            17 => Shape::Extension, // SignExt
+            18 => Shape::Ite, // Ite
+            19 => Shape::Comparison, // Eq
+            20 => Shape::Comparison, // Ne
+            21 => Shape::Comparison, // Ult
+            22 => Shape::Comparison, // Ule
+            23 => Shape::Comparison, // Ugt
+            24 => Shape::Comparison, // Uge
+            25 => Shape::Comparison, // Slt
+            26 => Shape::Comparison, // Sle
+            27 => Shape::Comparison, // Sgt
+            28 => Shape::Comparison, // Sge
+            29 => Shape::Negation, // Not
+            30 => Shape::Connective, // BoolAnd
+            31 => Shape::Connective, // BoolOr
+            32 => Shape::Unary, // BvNot
+            33 => Shape::Unary, // Neg
+            34 => Shape::Rotation, // Rotl
+            35 => Shape::Binary, // Sdiv
+            36 => Shape::Binary, // Srem
+            37 => Shape::Select, // Select
+            38 => Shape::Call, // Call
+            _ => Shape::Unknown,
+        }
     }
 }
 
-// How many of the four operands a shape has. Ruled out: two for an extraction; four for an unknown shape.
-pub fn operand_count(shape: u8) -> usize
-    ensures { result ≡ operand_count (shape_coded shape) }
-{
-    match shape {
-        VAR => 1,
-        CONST => 2,
-        BINARY => 2,
-        ROTATION => 2,
-        EXTRACTION => 3,
-        CONCAT => 2,
-        EXTENSION => 2,
-        ITE => 3,
-        COMPARISON => 2,
-        NEGATION => 1,
-        CONNECTIVE => 2,
-        UNARY => 1,
-        SELECT => 4,
-        CALL => 4,
-        _ => 0,
+impl Shape {
+    // How many of the four operands a shape has. Ruled out: two for an extraction; four for an unknown shape.
+    #[tactic(auto, unfolding(echo_spec::specs::Shapes::operand_count))]
+    pub fn operand_count(self) -> usize
+        ensures counted { result ≡ shapes.operand_count (shape_in self) }
+        ensures at_most_four { result ≤ 4 }
+    {
+        match self {
+            Shape::Var => 1,
+            Shape::Const => 2,
+            Shape::Binary => 2,
+            Shape::Rotation => 2,
+            Shape::Extraction => 3,
+            Shape::Concat => 2,
+            Shape::Extension => 2,
+            Shape::Ite => 3,
+            Shape::Comparison => 2,
+            Shape::Negation => 1,
+            Shape::Connective => 2,
+            Shape::Unary => 1,
+            Shape::Select => 4,
+            Shape::Call => 4,
+            Shape::Unknown => 0,
+        }
+    }
+
+    // Is it that of a variable or a constant. Ruled out: a variable alone; a call, which may have no arguments.
+    #[tactic(auto, unfolding(echo_spec::specs::Shapes::is_leaf))]
+    pub fn is_leaf(self) -> bool
+        ensures { result ≡ shapes.is_leaf (shape_in self) }
+    {
+        match self {
+            Shape::Var => true,
+            Shape::Const => true,
+            _ => false,
+        }
+    }
+
+    // Is a term of this shape a Bool, and not a bit-vector. Ruled out: an ite as a Bool; a negation as a bit-vector.
+    #[tactic(auto, unfolding(echo_spec::specs::Shapes::is_bool))]
+    pub fn is_bool(self) -> bool
+        ensures { result ≡ shapes.is_bool (shape_in self) }
+    {
+        match self {
+            Shape::Comparison => true,
+            Shape::Negation => true,
+            Shape::Connective => true,
+            _ => false,
+        }
     }
 }
 
-fn two_zero(x: u64, y: u64) -> bool
-    ensures { result ≡ every unused (x ∷ y ∷ []) }
+// Is each number 0.
+fn all_zero(operands: &[u64]) -> bool
+    ensures { result ≡ every unused operands.now }
 {
-    if x != 0 {
-        return false;
+    for x in operands {
+        if *x != 0 {
+            return false;
+        }
     }
-    y == 0
-}
-
-fn three_zero(x: u64, y: u64, z: u64) -> bool
-    ensures { result ≡ every unused (x ∷ y ∷ z ∷ []) }
-{
-    if x != 0 {
-        return false;
-    }
-    two_zero(y, z)
+    true
 }
 
 // Is the kind known, and is each operand that it does not have 0. Ruled out: kind 39 as known; a unary node whose third operand
 // alone is looked at.
+#[tactic(auto, unfolding(echo_spec::specs::Input::node_encoded))]
 pub fn node_encoded(n: Node) -> bool
     ensures { result ≡ input.node_encoded (node_of n) }
 {
-    if n.kind >= 39 {
-        return false;
-    }
-    let count = operand_count(shape(n.kind));
-    match count {
-        1 => three_zero(n.b, n.c, n.d),
-        2 => two_zero(n.c, n.d),
-        3 => n.d == 0,
-        _ => true,
-    }
+    let operands = [n.a, n.b, n.c, n.d];
+    let used = Shape::from(n.kind).operand_count();
+    n.kind < KINDS && all_zero(&operands[used..])
 }
 
 // Is every record encoded.
 fn nodes_encoded(nodes: &[u8]) -> bool
     ensures { result ≡ every input.node_encoded (input.nodes_of nodes.now) }
 {
-    let n = node_count(nodes);
-    let mut i = 0;
-    while i < n {
+    for i in 0..node_count(nodes) {
         if !node_encoded(node_at(nodes, i)) {
             return false;
         }
-        i += 1;
     }
     true
 }
@@ -171,35 +183,24 @@ fn bits_encoded(bits: &[u8]) -> bool
     ensures { result ≡ every bit bits.now }
 {
     let mut ok = true;
-    let mut i = 0;
-    while i < bits.len() {
-        if bits[i] > 1 {
-            ok = false;
-        }
-        i += 1;
+    for b in bits {
+        ok = ok & (*b <= 1);
     }
     ok
 }
 
 // Refusal 8 is where this is false. Ruled out: bytes left over after the last record; a bit of 2 past those that a node uses.
+#[tactic(auto, unfolding(echo_spec::specs::Input::encoded))]
 pub fn encoded(nodes: &[u8], bits: &[u8]) -> bool
     ensures { result ≡ input.encoded nodes.now bits.now }
 {
-    if nodes.len() % RECORD != 0 {
-        return false;
-    }
-    nodes_encoded(nodes) && bits_encoded(bits)
+    nodes.len() % RECORD == 0 && nodes_encoded(nodes) && bits_encoded(bits)
 }
 
 // The nodes' part of refusal 9. Ruled out: a limit that is itself refused; side entries without one.
+#[tactic(auto, unfolding(echo_spec::specs::Input::nodes_within))]
 pub fn nodes_within(nodes: &[u8], bits: &[u8], side: &[u64]) -> bool
     ensures { result ≡ input.nodes_within nodes.now bits.now side.now }
 {
-    if nodes.len() > MAX_NODE_BYTES {
-        return false;
-    }
-    if bits.len() > MAX_BITS {
-        return false;
-    }
-    side.len() <= MAX_SIDE
+    nodes.len() <= MAX_NODE_BYTES && bits.len() <= MAX_BITS && side.len() <= MAX_SIDE
 }

@@ -12,7 +12,7 @@ use echo_kernel::Echo;
 use echo_size::Size;
 use fewest_roots::Fewest;
 use refusals::{ARRAY_WIDTH, ENCODING, LIMIT, MALFORMED, ROOM};
-use sliver_kernel::Outcome;
+use sliver_kernel::WidthError;
 
 // What the printer answers. Number 0: the script is written, and length is its length. Any other number: a refusal, and length is 0.
 #[repr(C)]
@@ -48,31 +48,31 @@ pub fn echo_answer(r: Echo) -> EchoAnswer
 }
 
 // Ruled out: another refusal's number; the node of a refusal left out.
-pub fn width_answer(r: Outcome) -> WidthAnswer
+pub fn width_answer(r: Result<usize, WidthError>) -> WidthAnswer
     ensures { (result.number ≡ widths.number r) × (result.count ≡ widths.count r) }
 {
     match r {
-        Outcome::Accepted(n) => WidthAnswer {
+        Ok(n) => WidthAnswer {
             number: 0,
             count: n as u64,
         },
-        Outcome::Refused(node) => WidthAnswer {
+        Err(WidthError::Malformed(node)) => WidthAnswer {
             number: MALFORMED,
             count: node as u64,
         },
-        Outcome::Encoding => WidthAnswer {
+        Err(WidthError::Encoding) => WidthAnswer {
             number: ENCODING,
             count: 0,
         },
-        Outcome::Limit => WidthAnswer {
+        Err(WidthError::Limit) => WidthAnswer {
             number: LIMIT,
             count: 0,
         },
-        Outcome::Room => WidthAnswer {
+        Err(WidthError::Room) => WidthAnswer {
             number: ROOM,
             count: 0,
         },
-        Outcome::ArrayWidth => WidthAnswer {
+        Err(WidthError::ArrayWidth) => WidthAnswer {
             number: ARRAY_WIDTH,
             count: 0,
         },

@@ -1,5 +1,5 @@
 -- The claims on array widths at problems: each speaks of something. The problems have the arrays m and k, with a store into each.
-use Rattle.std.specs.Prelude.{ℕ, ◌≤◌, ◌<◌, ◌≡◌, refl, not, T, length, get_or, replicate}
+use Rattle.std.specs.Prelude.{ℕ, ◌≤◌, ◌<◌, ◌≡◌, refl, not, T, length, get_or, replicate, Ok, Err}
 use Rattle.std.proofs.Common.{sym, arith}
 use Rattle.std.proofs.Math.Path.{ap}
 use mathlib.Core.List.{List, [], ◌∷◌, ◌++◌}
@@ -13,7 +13,7 @@ use Rattle.echo_spec.specs.ArrayExamples.{two_arrays}
 use Rattle.smtlib.specs.Readings.{Reads}
 use Rattle.smtlib.specs.Sorts.{WellSorted}
 use Rattle.smtlib.specs.Grammar.{Script}
-use Rattle.sliver_kernel.specs.declared.Outcome.TheVariants.{Accepted, Refused, ArrayWidth}
+use Rattle.sliver_kernel.specs.declared.WidthError.TheVariants.{Malformed, ArrayWidth}
 use Rattle.theorems.specs.Answered.{printed}
 use Rattle.claims.specs.Claims.{Accepts, WidthContract, well-sorted, one-reading, widths-written, widths-uneven}
 use Rattle.claims.specs.ArrayClaims.{array-widths-refused, pass-widths-refused, declared-widths, other-arrays}
@@ -81,12 +81,12 @@ other-index =
 selected : List ℕ
 selected = node Var 24 0 0 0 ++ node Select 0 0 0 0
 
-passed : WidthContract (Accepted 2) selected [] [] (array_columns (24 ∷ []) (16 ∷ [])) (lent 3) (24 ∷ 16 ∷ 170 ∷ [])
+passed : WidthContract (Ok 2) selected [] [] (array_columns (24 ∷ []) (16 ∷ [])) (lent 3) (24 ∷ 16 ∷ 170 ∷ [])
 unfolding all_meet selected
 passed = refl
 
 -- the columns differ in length: the node count is told
-uneven : WidthContract (Refused 2) selected [] [] (array_columns (24 ∷ []) []) (lent 2) (0 ∷ 0 ∷ [])
+uneven : WidthContract (Err (Malformed 2)) selected [] [] (array_columns (24 ∷ []) []) (lent 2) (0 ∷ 0 ∷ [])
 unfolding all_meet selected
 uneven = refl
 
@@ -94,7 +94,7 @@ node-count : 2 ≡ length (nodes_of selected)
 node-count = widths-uneven selected [] [] (array_columns (24 ∷ []) []) (lent 2) (0 ∷ 0 ∷ []) 2 uneven (λ e. omega arith)
 
 -- a width that is too large
-too_wide : WidthContract ArrayWidth selected [] [] (array_columns (65537 ∷ []) (16 ∷ [])) (lent 2) (0 ∷ 0 ∷ [])
+too_wide : WidthContract (Err ArrayWidth) selected [] [] (array_columns (65537 ∷ []) (16 ∷ [])) (lent 2) (0 ∷ 0 ∷ [])
 unfolding all_meet selected
 too_wide = refl
 

@@ -5,7 +5,7 @@
 -- script, known beforehand (document 02, L1); `HiddenClaims`, scripts with addresses hidden (L10); `ReadClaims`, scripts read back (L6).
 -- Beside each stand instances (`Instances`, `ArrayInstances`, `SizeInstances`, `HiddenInstances`, `ReadInstances`), which show that its
 -- claims are not empty.
-use Rattle.std.specs.Prelude.{ℕ, suc, ◌-◌, ◌≤◌, ◌<◌, ◌≡◌, refl, List, [], ◌∷◌, ◌++◌, map, ◌↔◌, T, false, length, get_or, take, drop, replicate}
+use Rattle.std.specs.Prelude.{ℕ, suc, ◌-◌, ◌≤◌, ◌<◌, ◌≡◌, refl, List, [], ◌∷◌, ◌++◌, map, ◌↔◌, T, false, length, get_or, take, drop, replicate, Result, Ok, Err}
 use Rattle.std.proofs.Common.{sym, ap, ◌∙◌}
 use Rattle.std.proofs.Math.Seq.{take-append_seam}
 use Rattle.lists.specs.Bytes.{bytes}
@@ -23,8 +23,8 @@ use Rattle.echo_spec.specs.NameLaws.{NameByte, all_names}
 use Rattle.echo_spec.proofs.NameLaws.{name-byte, byte-named, word-refused, byte-refused}
 use Rattle.echo_spec.specs.Render.{symbol_of}
 use Rattle.echo_spec.specs.Answers.{Answer, ext_wf_answer, reading, echo_ext_answer}
-use Rattle.sliver_kernel.specs.declared.Outcome.{Outcome}
-use Rattle.sliver_kernel.specs.declared.Outcome.TheVariants.{Accepted, Refused as NodeRefused}
+use Rattle.sliver_kernel.specs.declared.WidthError.{WidthError}
+use Rattle.sliver_kernel.specs.declared.WidthError.TheVariants.{Malformed}
 use Rattle.sliver_kernel.proofs.ext_wf.Reads as ext-wf-code
 use Rattle.sliver_kernel.specs.Outcomes as widths
 use Rattle.refusals.specs.declared.EchoError.{EchoError}
@@ -195,7 +195,7 @@ pub widths-listed : (nodes bits side : List ℕ) (arrays : ArrayWidths) (lent : 
 widths-listed = width-listed
 
 -- The contract of `ext_wf`.
-abbrev pub WidthContract : Outcome → List ℕ → List ℕ → List ℕ → ArrayWidths → List ℕ → List ℕ → Type 0
+abbrev pub WidthContract : Result ℕ WidthError → List ℕ → List ℕ → List ℕ → ArrayWidths → List ℕ → List ℕ → Type 0
 WidthContract r nodes bits side arrays lent out = widths.answered r out ≡ ext_wf_answer nodes bits side arrays lent
 
 -- It is what the function is proved to ensure.
@@ -205,31 +205,31 @@ pub width-contract : (κs : _) (x : _) (r : _) (y : _) → ext-wf-code.Post κs 
 width-contract κs x r y h = h
 
 -- What it accepts has a width for each node, in order, at the front of the slice.
-pub widths-written : (nodes bits side : List ℕ) (arrays : ArrayWidths) (lent out : List ℕ) (n : ℕ) → WidthContract (Accepted n) nodes bits side arrays lent out
+pub widths-written : (nodes bits side : List ℕ) (arrays : ArrayWidths) (lent out : List ℕ) (n : ℕ) → WidthContract (Ok n) nodes bits side arrays lent out
     → (n ≡ length (ext_wf_of (length bits) arrays side (nodes_of nodes)))
     × (out ≡ ext_wf_of (length bits) arrays side (nodes_of nodes) ++ drop (length (ext_wf_of (length bits) arrays side (nodes_of nodes))) lent)
 widths-written nodes bits side arrays lent out n c =
     let e = c ∙ width-accepted nodes bits side arrays lent (sym (ap (λ (x : Answer). x.number) c)) in (ap (λ (x : Answer). x.count) e, ap (λ (x : Answer). x.output) e)
 
 -- The count of an acceptance is the node count, and every node has a width.
-pub widths-count : (nodes bits side : List ℕ) (arrays : ArrayWidths) (lent out : List ℕ) (n : ℕ) → WidthContract (Accepted n) nodes bits side arrays lent out
+pub widths-count : (nodes bits side : List ℕ) (arrays : ArrayWidths) (lent out : List ℕ) (n : ℕ) → WidthContract (Ok n) nodes bits side arrays lent out
     → (n ≡ length (nodes_of nodes)) × (length (ext_wf_of (length bits) arrays side (nodes_of nodes)) ≡ length (nodes_of nodes))
 widths-count nodes bits side arrays lent out n c = width-count nodes bits side arrays lent (ap (λ (x : Answer). x.number) c) (ap (λ (x : Answer). x.count) c)
 
 -- Where the two columns of the array table are of one length, the node that is told with 1 is there, and it is not well formed after the
 -- widths of those before it, which all have one.
-pub widths-node : (nodes bits side : List ℕ) (arrays : ArrayWidths) (lent out : List ℕ) (k : ℕ) → WidthContract (NodeRefused k) nodes bits side arrays lent out
+pub widths-node : (nodes bits side : List ℕ) (arrays : ArrayWidths) (lent out : List ℕ) (k : ℕ) → WidthContract (Err (Malformed k)) nodes bits side arrays lent out
     → length arrays.index ≡ length arrays.value → (k < length (nodes_of nodes)) × (k ≡ length (ext_wf_of (length bits) arrays side (nodes_of nodes)))
     × (node_wf (length bits) arrays side (ext_wf_of (length bits) arrays side (nodes_of nodes)) (get_or (nodes_of nodes) k no_node) ≡ false)
 widths-node nodes bits side arrays lent out k c e = width-refused-node nodes bits side arrays lent (ap (λ (x : Answer). x.number) c) (ap (λ (x : Answer). x.count) c) e
 
 -- Where they are not, the node count is told.
-pub widths-uneven : (nodes bits side : List ℕ) (arrays : ArrayWidths) (lent out : List ℕ) (k : ℕ) → WidthContract (NodeRefused k) nodes bits side arrays lent out
+pub widths-uneven : (nodes bits side : List ℕ) (arrays : ArrayWidths) (lent out : List ℕ) (k : ℕ) → WidthContract (Err (Malformed k)) nodes bits side arrays lent out
     → (length arrays.index ≡ length arrays.value → ⊥) → k ≡ length (nodes_of nodes)
 widths-uneven nodes bits side arrays lent out k c e = width-uneven nodes bits side arrays lent (ap (λ (x : Answer). x.number) c) (ap (λ (x : Answer). x.count) c) e
 
 -- What it refuses leaves the slice zeroed.
-pub widths-refused : (nodes bits side : List ℕ) (arrays : ArrayWidths) (lent out : List ℕ) (r : Outcome) (k : ℕ) → widths.number r ≡ suc k → WidthContract r nodes bits side arrays lent out
+pub widths-refused : (nodes bits side : List ℕ) (arrays : ArrayWidths) (lent out : List ℕ) (r : Result ℕ WidthError) (k : ℕ) → widths.number r ≡ suc k → WidthContract r nodes bits side arrays lent out
     → out ≡ replicate (length lent) 0
 widths-refused nodes bits side arrays lent out r k h c =
     ap (λ (x : Answer). x.output) c ∙ width-refused nodes bits side arrays lent k (sym (ap (λ (x : Answer). x.number) c) ∙ h)

@@ -1,5 +1,5 @@
 -- The claims at problems: each speaks of something. One problem has an array, a function with arguments and one without, and a rotation.
-use Rattle.std.specs.Prelude.{ℕ, ◌≤◌, ◌<◌, ◌≡◌, refl, List, [], ◌∷◌, ◌++◌, map, false, T, length, get_or, take, replicate}
+use Rattle.std.specs.Prelude.{ℕ, ◌≤◌, ◌<◌, ◌≡◌, refl, List, [], ◌∷◌, ◌++◌, map, false, T, length, get_or, take, replicate, Ok, Err}
 use Rattle.std.proofs.Common.{subst, arith}
 use Rattle.lists.specs.Bytes.{bytes}
 use Rattle.lists.specs.Tests.{same, same_refl}
@@ -16,7 +16,7 @@ use Rattle.echo_spec.specs.Answers.{reading, ext_wf_answer, echo_ext_answer}
 use Rattle.echo_spec.specs.Examples.{no_arrays, node, problem, var, fun, lent, eleven, all_meet}
 use Rattle.refusals.specs.declared.EchoError.TheVariants.{Room}
 use Rattle.echo_kernel.specs.declared.Echo.TheVariants.{Printed, Refused}
-use Rattle.sliver_kernel.specs.declared.Outcome.TheVariants.{Accepted, Refused as NodeRefused}
+use Rattle.sliver_kernel.specs.declared.WidthError.TheVariants.{Malformed}
 use Rattle.theorems.specs.Scripts.{script_of}
 use Rattle.theorems.specs.Answered.{Whole, printed, BeforeNames}
 use Rattle.claims.specs.Claims.{
@@ -302,11 +302,11 @@ good = node Var 8 0 0 0 ++ (node Var 8 0 0 0 ++ node Eq 0 1 0 0)
 bad : List ℕ
 bad = node Var 8 0 0 0 ++ node Not 0 0 0 0
 
-passed : WidthContract (Accepted 3) good [] [] no_arrays (lent 4) (8 ∷ 8 ∷ 1 ∷ 170 ∷ [])
+passed : WidthContract (Ok 3) good [] [] no_arrays (lent 4) (8 ∷ 8 ∷ 1 ∷ 170 ∷ [])
 unfolding all_meet good
 passed = refl
 
-stopped : WidthContract (NodeRefused 1) bad [] [] no_arrays (lent 2) (0 ∷ 0 ∷ [])
+stopped : WidthContract (Err (Malformed 1)) bad [] [] no_arrays (lent 2) (0 ∷ 0 ∷ [])
 unfolding all_meet bad
 stopped = refl
 
@@ -320,4 +320,4 @@ ill-formed : node_wf 0 no_arrays [] (ext_wf_of 0 no_arrays [] (nodes_of bad)) (g
 ill-formed = (widths-node bad [] [] no_arrays (lent 2) (0 ∷ 0 ∷ []) 1 stopped refl).2
 
 zeroed-widths : ◌≡◌ {A = List ℕ} (0 ∷ 0 ∷ []) (replicate 2 0)
-zeroed-widths = widths-refused bad [] [] no_arrays (lent 2) (0 ∷ 0 ∷ []) (NodeRefused 1) 0 refl stopped
+zeroed-widths = widths-refused bad [] [] no_arrays (lent 2) (0 ∷ 0 ∷ []) (Err (Malformed 1)) 0 refl stopped

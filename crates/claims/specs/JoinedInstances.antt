@@ -7,8 +7,7 @@ use Rattle.lists.specs.Build.{tabulate}
 use Rattle.reading.specs.Kinds.{Var, Eq}
 use Rattle.reading.specs.Trees.{Name}
 use Rattle.script_lines.specs.Lines.{IsScript, joined, begins, until_check, following_script, scripts_of}
-use Rattle.script_lines.specs.declared.Found.{Found}
-use Rattle.script_lines.specs.declared.Found.TheVariants.{Script, Nothing}
+use Rattle.std.specs.Prelude.{Option as Found, Some, None}
 use Rattle.echo_spec.specs.Input.{Problem}
 use Rattle.echo_spec.specs.Answers.{echo_ext_answer}
 use Rattle.hidden.specs.Hidden.{zeros, hidden, hidden_reading, hidden_script, echo_hidden_answer}
@@ -122,14 +121,14 @@ told-apart = cut-tells-rest (second ∷ first ∷ []) (bytes "(check-sat)") (sha
 
 -- ---------------------------------------------------------------- calls of `next_script`
 
-called : NextContract (Script 30) (first ++ second)
+called : NextContract (Some 30) (first ++ second)
 unfolding following_script until_check begins bytes
 called = refl
 
-its-length : Script 30 ≡ Script (length first)
-its-length = next-of-file first second (Script 30) empty called
+its-length : Some 30 ≡ Some (length first)
+its-length = next-of-file first second (Some 30) empty called
 
-nothing_left : (r : Found) → NextContract r [] → r ≡ Nothing
+nothing_left : (r : Found ℕ) → NextContract r [] → r ≡ None
 nothing_left = next-of-nothing
 
 -- what the printer's code left in a buffer of 40 bytes

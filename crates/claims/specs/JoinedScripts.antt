@@ -12,8 +12,7 @@ use Rattle.script_lines.proofs.Laws.{next-of-script, scripts-apart}
 use Rattle.script_lines.specs.Cuts.{CutOf}
 use Rattle.script_lines.proofs.Cuts.{cut-joined, cut-whole, cut-exactly, joined-equal, next-nothing}
 use Rattle.script_lines.specs.Scanning.{found_of}
-use Rattle.script_lines.specs.declared.Found.{Found}
-use Rattle.script_lines.specs.declared.Found.TheVariants.{Script, Nothing}
+use Rattle.std.specs.Prelude.{Option as Found, Some, None}
 use Rattle.script_lines.proofs.next_script.Reads as next-code
 use Rattle.echo_kernel.specs.declared.Echo.TheVariants.{Printed}
 use Rattle.theorems.specs.Answered.{printed, accepted-whole}
@@ -80,7 +79,7 @@ one-cut = cut-exactly
 -- ---------------------------------------------------------------- the code that cuts
 
 -- The contract of `next_script`: the length of the first script in a file, or that there is none. It asks nothing of the file.
-abbrev pub NextContract : Found → List ℕ → Type 0
+abbrev pub NextContract : Found ℕ → List ℕ → Type 0
 NextContract r file = found_of r ≡ following_script file
 
 -- It is what the function is proved to ensure.
@@ -88,20 +87,20 @@ pub next-contract : (κs : _) (x : _) (r : _) (y : _) → next-code.Post κs x r
 next-contract κs x r y h = h
 
 -- Of a file that begins with a script it answers that script's length, whatever follows.
-pub next-of-file : (s more : List ℕ) (r : Found) → PrintedScript s → NextContract r (s ++ more) → r ≡ Script (length s)
+pub next-of-file : (s more : List ℕ) (r : Found ℕ) → PrintedScript s → NextContract r (s ++ more) → r ≡ Some (length s)
 next-of-file s more r h c = by_answer r (c ∙ next-of-script s (printed-lines s h) more)
   where
-    by_answer : (r : Found) → found_of r ≡ some (length s) → r ≡ Script (length s)
-    by_answer (Script n) e = cc
-    by_answer Nothing e = cc
+    by_answer : (r : Found ℕ) → found_of r ≡ some (length s) → r ≡ Some (length s)
+    by_answer (Some n) e = cc
+    by_answer None e = cc
 
 -- Of an empty file it finds nothing.
-pub next-of-nothing : (r : Found) → NextContract r [] → r ≡ Nothing
+pub next-of-nothing : (r : Found ℕ) → NextContract r [] → r ≡ None
 next-of-nothing r c = by_answer r (c ∙ next-nothing)
   where
-    by_answer : (r : Found) → found_of r ≡ none → r ≡ Nothing
-    by_answer (Script n) e = cc
-    by_answer Nothing e = refl
+    by_answer : (r : Found ℕ) → found_of r ≡ none → r ≡ None
+    by_answer (Some n) e = cc
+    by_answer None e = refl
 
 -- The bytes that a call of the printer left in its buffer are a script in the sense of this page.
 pub bytes-are-script : (p : Problem) (lent out : List ℕ) (n : ℕ) → EchoContract (Printed n) p lent out → PrintedScript (take n out)

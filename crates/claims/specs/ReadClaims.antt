@@ -13,12 +13,12 @@ use Rattle.readback.specs.Rebuild.{rebuild}
 use Rattle.readback.specs.Records.{inputs}
 use Rattle.readback.specs.ReadAnswers.{each_with, lists_of, all_fit, sizes_of, no_sizes, limits_passed, rebuilt_refusal, ReadAnswer, read_script_answer}
 use Rattle.lent.specs.Lent.{problem_of}
-use Rattle.script_reader.specs.Outputs.{error_number, read_back}
-use Rattle.script_reader.specs.declared.Outcome.{Outcome}
-use Rattle.script_reader.specs.declared.Outcome.TheVariants.{Read, Refused}
-use Rattle.script_reader.specs.declared.ReadError.{ReadError}
-use Rattle.script_reader.specs.declared.ReadError.TheVariants.{NoScript, Limit, Room}
-use Rattle.script_reader.specs.declared.Sizes.{Sizes as ReadSizes}
+use Rattle.std.specs.Prelude.{Result, Ok, Err}
+use Rattle.script_rebuild.specs.Decided.{error_number}
+use Rattle.script_rebuild.specs.declared.ReadError.{ReadError}
+use Rattle.script_rebuild.specs.declared.ReadError.TheVariants.{NoScript, Limit, Room}
+use Rattle.script_rebuild.specs.declared.Sizes.{Sizes as ReadSizes}
+use Rattle.script_reader.specs.Outputs.{read_back}
 use Rattle.script_reader.proofs.read_script.Reads as read-script-code
 use Rattle.readback_theorems.specs.Printables.{Acceptable, ProblemScript}
 use Rattle.readback_theorems.specs.Answered.{ReadBack, read-listed, read-refused, read-accepted, read-thirteen, printed-read, refusal-none}
@@ -97,7 +97,7 @@ printed-succeeds p out lent a w =
 -- ---------------------------------------------------------------- the code
 
 -- The contract of `read_script`: its answer and the eighteen outputs afterwards. It asks nothing of the caller.
-abbrev pub ReadContract : Outcome → List ℕ → Problem → Problem → Type 0
+abbrev pub ReadContract : Result ReadSizes ReadError → List ℕ → Problem → Problem → Type 0
 ReadContract q b lent o = read_back q o ≡ read_script_answer b lent
 
 -- It is what the function is proved to ensure: x are its arguments as they are passed, y as they are when it returns.
@@ -106,11 +106,11 @@ pub read-contract : (κs : _) (x : _) (r : _) (y : _) → read-script-code.Post 
 read-contract κs x r y h = h
 
 -- A call that reads has read the script, and its outputs are those of the definition.
-pub call-reads : (z : ReadSizes) (b : List ℕ) (lent o : Problem) → ReadContract (Read z) b lent o → ReadsInto b lent × (o ≡ (read_script_answer b lent).output)
+pub call-reads : (z : ReadSizes) (b : List ℕ) (lent o : Problem) → ReadContract (Ok z) b lent o → ReadsInto b lent × (o ≡ (read_script_answer b lent).output)
 call-reads z b lent o h = (ap (λ (a : ReadAnswer). a.number) (sym h), ap (λ (a : ReadAnswer). a.output) h)
 
 -- A call that refuses tells the definition's number, and leaves zeros in every output.
-pub call-refuses : (e : ReadError) (b : List ℕ) (lent o : Problem) → ReadContract (Refused e) b lent o
+pub call-refuses : (e : ReadError) (b : List ℕ) (lent o : Problem) → ReadContract (Err e) b lent o
     → ((read_script_answer b lent).number ≡ error_number e) × (o ≡ each_with (λ _ l. zeroed l) lent lent)
 call-refuses e b lent o h = by-error e h
   where
@@ -120,7 +120,7 @@ call-refuses e b lent o h = by-error e h
     number : (n : ℕ) → n ≡ (read_script_answer b lent).number → (read_script_answer b lent).number ≡ n
     number n q = sym q
 
-    by-error : (e : ReadError) → read_back (Refused e) o ≡ read_script_answer b lent → ((read_script_answer b lent).number ≡ error_number e) × (o ≡ each_with (λ _ l. zeroed l) lent lent)
+    by-error : (e : ReadError) → read_back (Err e) o ≡ read_script_answer b lent → ((read_script_answer b lent).number ≡ error_number e) × (o ≡ each_with (λ _ l. zeroed l) lent lent)
     by-error NoScript h = let q = number 13 (ap (λ (a : ReadAnswer). a.number) h) in (q, by_number 12 q (ap (λ (a : ReadAnswer). a.output) h))
     by-error Limit h = let q = number 9 (ap (λ (a : ReadAnswer). a.number) h) in (q, by_number 8 q (ap (λ (a : ReadAnswer). a.output) h))
     by-error Room h = let q = number 10 (ap (λ (a : ReadAnswer). a.number) h) in (q, by_number 9 q (ap (λ (a : ReadAnswer). a.output) h))

@@ -7,8 +7,8 @@ use Rattle.lists.specs.Tests.{among}
 use Rattle.echo_spec.specs.Input.{nodes_of}
 use Rattle.echo_spec.specs.Answers.{Answer}
 use Rattle.theorems.specs.Answered.{text-acceptance, text-refused, text-accepted, text-listed}
-use Rattle.short_records.specs.declared.Converted.{Converted}
-use Rattle.short_records.specs.declared.Converted.TheVariants.{Done}
+use Rattle.std.specs.Prelude.{Result, Ok, Err}
+use Rattle.refusals.specs.declared.EchoError.{EchoError}
 use Rattle.short_records.specs.Short.{shortened, old_refusal, shorten_answer, lengthened, new_refusal, lengthen_answer}
 use Rattle.short_records.specs.Outcomes.{answered}
 use Rattle.short_records.specs.RoundTrips.{operands_of, old-back, new-back, shortened-length, shortened-bound, old-listed, new-listed}
@@ -107,10 +107,10 @@ new-words = shortened-words
 
 -- The contracts of the two functions: the answer and the buffer afterwards, by the bytes and the buffer that were lent. They ask nothing
 -- of the caller.
-abbrev pub ShortenContract : Converted → List ℕ → List ℕ → List ℕ → Type 0
+abbrev pub ShortenContract : Result ℕ EchoError → List ℕ → List ℕ → List ℕ → Type 0
 ShortenContract r old lent out = answered r out ≡ shorten_answer old lent
 
-abbrev pub LengthenContract : Converted → List ℕ → List ℕ → List ℕ → Type 0
+abbrev pub LengthenContract : Result ℕ EchoError → List ℕ → List ℕ → List ℕ → Type 0
 LengthenContract r new lent out = answered r out ≡ lengthen_answer new lent
 
 -- They are what the functions are proved to ensure: x are the arguments as they are passed, y as they are when the function returns.
@@ -121,7 +121,7 @@ pub lengthen-contract : (κs : _) (x : _) (r : _) (y : _) → lengthen-code.Post
 lengthen-contract κs x r y h = h
 
 -- What was done is the form of the bytes that were lent, at the front of the buffer.
-pub shorten-done : (old lent out : List ℕ) (n : ℕ) → ShortenContract (Done n) old lent out
+pub shorten-done : (old lent out : List ℕ) (n : ℕ) → ShortenContract (Ok n) old lent out
     → OldForm old × (n ≡ length (shortened old)) × (take n out ≡ shortened old) × (out ≡ shortened old ++ drop (length (shortened old)) lent)
 shorten-done old lent out n c =
     let a = (shorten-accepts old lent).0 (sym (ap (λ (x : Answer). x.number) c)) in
@@ -130,7 +130,7 @@ shorten-done old lent out n c =
     let o : out ≡ shortened old ++ drop (length (shortened old)) lent = ap (λ (x : Answer). x.output) e in
     (a.0, k, rw (k, o) (take-append_seam (shortened old) (drop (length (shortened old)) lent)), o)
 
-pub lengthen-done : (new lent out : List ℕ) (n : ℕ) → LengthenContract (Done n) new lent out
+pub lengthen-done : (new lent out : List ℕ) (n : ℕ) → LengthenContract (Ok n) new lent out
     → NewForm new × (n ≡ length (lengthened new)) × (take n out ≡ lengthened new) × (out ≡ lengthened new ++ drop (length (lengthened new)) lent)
 lengthen-done new lent out n c =
     let a = (lengthen-accepts new lent).0 (sym (ap (λ (x : Answer). x.number) c)) in
@@ -140,14 +140,14 @@ lengthen-done new lent out n c =
     (a.0, k, rw (k, o) (take-append_seam (lengthened new) (drop (length (lengthened new)) lent)), o)
 
 -- What a call of `shorten` wrote, a call of `lengthen` with room for the old bytes turns into these; and the other way about.
-pub back-to-old : (old lent out : List ℕ) (n : ℕ) (r : Converted) (lent' out' : List ℕ) → ShortenContract (Done n) old lent out
+pub back-to-old : (old lent out : List ℕ) (n : ℕ) (r : Result ℕ EchoError) (lent' out' : List ℕ) → ShortenContract (Ok n) old lent out
     → length old ≤ length lent' → LengthenContract r (take n out) lent' out' → answered r out' ≡ result_over old lent'
 back-to-old old lent out n r lent' out' c l d =
     let h = shorten-done old lent out n c in
     let b = old-back old h.0 in
     d ∙ rw h.2 (lengthens (shortened old) lent' b.0 (rw b.1 l) ∙ rw b.1 refl)
 
-pub back-to-new : (new lent out : List ℕ) (n : ℕ) (r : Converted) (lent' out' : List ℕ) → LengthenContract (Done n) new lent out
+pub back-to-new : (new lent out : List ℕ) (n : ℕ) (r : Result ℕ EchoError) (lent' out' : List ℕ) → LengthenContract (Ok n) new lent out
     → length new ≤ length lent' → ShortenContract r (take n out) lent' out' → answered r out' ≡ result_over new lent'
 back-to-new new lent out n r lent' out' c l d =
     let h = lengthen-done new lent out n c in
@@ -155,10 +155,10 @@ back-to-new new lent out n r lent' out' c l d =
     d ∙ rw h.2 (shortens (lengthened new) lent' b.0 (rw b.1 l) ∙ rw b.1 refl)
 
 -- The length that `shorten` answers, and the same bytes of two calls.
-pub shorten-length : (old lent out : List ℕ) (n : ℕ) → ShortenContract (Done n) old lent out → n ≡ length (nodes_of old) + 4 * operands_of (nodes_of old)
+pub shorten-length : (old lent out : List ℕ) (n : ℕ) → ShortenContract (Ok n) old lent out → n ≡ length (nodes_of old) + 4 * operands_of (nodes_of old)
 shorten-length old lent out n c = (shorten-done old lent out n c).1 ∙ new-length old
 
-pub same_bytes : (old lent out old' lent' out' : List ℕ) (n n' : ℕ) → ShortenContract (Done n) old lent out → ShortenContract (Done n') old' lent' out'
+pub same_bytes : (old lent out old' lent' out' : List ℕ) (n n' : ℕ) → ShortenContract (Ok n) old lent out → ShortenContract (Ok n') old' lent' out'
     → take n out ≡ take n' out' → old ≡ old'
 same_bytes old lent out old' lent' out' n n' c c' e =
     let h = shorten-done old lent out n c in

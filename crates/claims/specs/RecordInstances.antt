@@ -5,7 +5,7 @@ use Rattle.lists.specs.Tests.{same, same_refl, by-test}
 use Rattle.echo_spec.specs.Input.{nodes_of}
 use Rattle.echo_spec.specs.Examples.{lent}
 use Rattle.refusals.specs.declared.EchoError.TheVariants.{Room, ShortRecord}
-use Rattle.short_records.specs.declared.Converted.TheVariants.{Done, Refused}
+use Rattle.std.specs.Prelude.{Ok, Err}
 use Rattle.short_records.specs.Short.{shortened, shorten_answer, lengthened, lengthen_answer}
 use Rattle.short_records.specs.Outcomes.{answered}
 use Rattle.short_records.specs.RoundTrips.{operands_of}
@@ -117,11 +117,11 @@ its-words = new-words old (by-test (λ b. ltb b 256) old tt)
 
 -- ---------------------------------------------------------------- calls
 
-called : ShortenContract (Done 31) old (lent 40) (new ++ lent 9)
+called : ShortenContract (Ok 31) old (lent 40) (new ++ lent 9)
 unfolding computed old new
 called = refl
 
-called-back : LengthenContract (Done 51) new (lent 60) (old ++ lent 9)
+called-back : LengthenContract (Ok 51) new (lent 60) (old ++ lent 9)
 unfolding computed old new
 called-back = refl
 
@@ -134,27 +134,27 @@ its-old-bytes = (lengthen-done new (lent 60) (old ++ lent 9) 51 called-back).2
 counted : 31 ≡ length (nodes_of old) + 4 * operands_of (nodes_of old)
 counted = shorten-length old (lent 40) (new ++ lent 9) 31 called
 
-returned : answered (Done 51) (old ++ lent 9) ≡ result_over old (lent 60)
+returned : answered (Ok 51) (old ++ lent 9) ≡ result_over old (lent 60)
 unfolding computed old new
-returned = back-to-old old (lent 40) (new ++ lent 9) 31 (Done 51) (lent 60) (old ++ lent 9) called (lit≤ tt) called-back
+returned = back-to-old old (lent 40) (new ++ lent 9) 31 (Ok 51) (lent 60) (old ++ lent 9) called (lit≤ tt) called-back
 
-returned-new : answered (Done 31) (new ++ lent 9) ≡ result_over new (lent 40)
+returned-new : answered (Ok 31) (new ++ lent 9) ≡ result_over new (lent 40)
 unfolding computed old new
-returned-new = back-to-new new (lent 60) (old ++ lent 9) 51 (Done 31) (lent 40) (new ++ lent 9) called-back (lit≤ tt) called
+returned-new = back-to-new new (lent 60) (old ++ lent 9) 51 (Ok 31) (lent 40) (new ++ lent 9) called-back (lit≤ tt) called
 
 same-call : old ≡ old
 same-call = same_bytes old (lent 40) (new ++ lent 9) old (lent 40) (new ++ lent 9) 31 31 called called refl
 
 -- refusals: one byte short, either way; a record cut short
-short-of-room : ShortenContract (Refused Room) old (lent 30) (replicate 30 0)
+short-of-room : ShortenContract (Err Room) old (lent 30) (replicate 30 0)
 unfolding computed old
 short-of-room = refl
 
-short-of-room-back : LengthenContract (Refused Room) new (lent 50) (replicate 50 0)
+short-of-room-back : LengthenContract (Err Room) new (lent 50) (replicate 50 0)
 unfolding computed new
 short-of-room-back = refl
 
-cut : LengthenContract (Refused ShortRecord) (take 30 new) (lent 60) (replicate 60 0)
+cut : LengthenContract (Err ShortRecord) (take 30 new) (lent 60) (replicate 60 0)
 unfolding computed new
 cut = refl
 

@@ -29,13 +29,17 @@ use Rattle.releases.specs.Release.{
   release_answer,
 }
 use Rattle.releases.specs.ReleaseLaws.{Declares}
+use Rattle.releases.proofs.ReleaseScripts.{accepted-exactly, seventeen}
+use Rattle.release.specs.Told.{told_by}
+use Rattle.releases.specs.Release.{ReleaseAnswer}
 use Rattle.releases.specs.ReleaseScripts.{ScriptAt, AllRead, FirstUnread, OneMeaning as OneForEach, TwoMeanings}
-use Rattle.release.specs.declared.Outcome.{Outcome}
-use Rattle.release.specs.declared.Outcome.TheVariants.{OneMeaning, Refused}
-use Rattle.release.specs.Told.{outcome_of}
+use Rattle.std.specs.Prelude.{⊤, Result, Ok}
+use Rattle.release.specs.declared.ReleaseError.{ReleaseError}
 use Rattle.claims.specs.ReleaseClaims.{
   ReleaseContract,
+  Refused,
   RefusedFor,
+  other_meaning,
   release-accepted,
   one-meaning,
   release-refused,
@@ -87,19 +91,21 @@ nothing = cc answers
 -- ---------------------------------------------------------------- accepted
 
 -- the one script twice is accepted, and the name means the same in both
-told-accepted : (r : Outcome) → ReleaseContract r alike → (r ≡ OneMeaning) × OneForEach alike
-told-accepted r c = let e : r ≡ OneMeaning = c ∙ ap outcome_of same in (e, (release-accepted alike r c).0 e)
+told-accepted : (r : Result ⊤ ReleaseError) → ReleaseContract r alike → (r ≡ Ok tt) × OneForEach alike
+told-accepted r c = let e : r ≡ Ok tt = (release-accepted alike r c).1 one in (e, one)
+  where
+    one : OneForEach alike
+    one = (accepted-exactly alike).0 (ap (λ (a : ReleaseAnswer). a.number) same)
 
 -- where it means two things, it does not mean one
-told-apart : (r : Outcome) → ReleaseContract r apart → OneForEach apart → ⊥
+told-apart : (r : Result ⊤ ReleaseError) → ReleaseContract r apart → OneForEach apart → ⊥
 told-apart r c o =
-    let e : OneMeaning ≡ Refused 17 1 = sym ((release-accepted apart r c).1 o) ∙ c ∙ ap outcome_of two in
-    let z : ◌≡◌ {A = ℕ} 0 1 = cc in
-    omega arith
+    let z : ◌≡◌ {A = ℕ} 17 0 = sym (ap (λ (a : ReleaseAnswer). a.number) two) ∙ (accepted-exactly apart).1 o in
+    omega (arith, z)
 
 -- an empty file is accepted
-told-nothing : (r : Outcome) → ReleaseContract r [] → r ≡ OneMeaning
-told-nothing r c = c ∙ ap outcome_of nothing
+told-nothing : (r : Result ⊤ ReleaseError) → ReleaseContract r [] → r ≡ Ok tt
+told-nothing r c = (release-accepted [] r c).1 ((accepted-exactly []).0 (ap (λ (a : ReleaseAnswer). a.number) nothing))
 
 -- `idx`, with this width
 abbrev idx : ℕ → Declared
@@ -112,7 +118,7 @@ unfolding
 scripts-of = refl
 
 -- what the first script says of `idx` the second says too
-idx-means : (r : Outcome) → ReleaseContract r alike → (p q : Reading) → reading_in wide ≡ some p → reading_in wide ≡ some q → (w v : ℕ)
+idx-means : (r : Result ⊤ ReleaseError) → ReleaseContract r alike → (p q : Reading) → reading_in wide ≡ some p → reading_in wide ≡ some q → (w v : ℕ)
     → Declares p.declarations (idx w) → Declares q.declarations (idx v) → a_variable w ≡ a_variable v
 idx-means r c p q e f w v d g =
     one-meaning alike r c (told-accepted r c).0 0 1 wide wide (ap (λ (ss : List (List ℕ)). get_elem? ss 0) scripts-of) (ap (λ (ss : List (List ℕ)). get_elem? ss 1) scripts-of) p q e f (idx w) (idx v) d g refl
@@ -127,15 +133,19 @@ idx-declared = (record { declarations = record { variables = record { name = byt
 -- ---------------------------------------------------------------- refused
 
 -- the second of the two scripts is told, and disagrees with the first
-told-second : (r : Outcome) → ReleaseContract r apart → (r ≡ Refused 17 1) × TwoMeanings apart 1
-told-second r c = let e : r ≡ Refused 17 1 = c ∙ ap outcome_of two in (e, earliest-told apart r c 1 e)
+told-second : (r : Result ⊤ ReleaseError) → ReleaseContract r apart → Refused r 17 1 × TwoMeanings apart 1
+told-second r c = let e : Refused r 17 1 = (release-refused apart r c 17 1).1 (other_meaning 1 second) in (e, earliest-told apart r c 1 e)
+  where
+    second : TwoMeanings apart 1
+    second = subst (TwoMeanings apart) (ap (λ (a : ReleaseAnswer). a.script) two) (seventeen apart (ap (λ (a : ReleaseAnswer). a.number) two))
 
 -- the first of the two is not
-not_first : (r : Outcome) → ReleaseContract r apart → RefusedFor apart 17 0 → ⊥
+not_first : (r : Result ⊤ ReleaseError) → ReleaseContract r apart → RefusedFor apart 17 0 → ⊥
 not_first r c h =
-    let e : Refused 17 0 ≡ Refused 17 1 = sym ((release-refused apart r c 17 0).1 h) ∙ c ∙ ap outcome_of two in
-    let z : ◌≡◌ {A = ℕ} 0 1 = cc in
-    omega arith
+    let x = (release-refused apart r c 17 0).1 h in
+    let q = sym x.script ∙ ap (λ (a : ReleaseAnswer). a.script) (sym (ap told_by x.is) ∙ c ∙ two) in
+    let z : ◌≡◌ {A = ℕ} 0 1 = q in
+    omega (arith, z)
 
 read-or-not : read_refusal (reading_in narrow) ∷ read_refusal (reading_in wide) ∷ read_refusal (reading_in blank) ∷ [] ≡ 0 ∷ 0 ∷ 13 ∷ []
 unfolding
@@ -159,7 +169,7 @@ unfolding
 unread-cut = (refl, refl)
 
 -- a script that cannot be read is told, though two before it disagree
-told-unread : (r : Outcome) → ReleaseContract r unread → r ≡ Refused 13 2
+told-unread : (r : Result ⊤ ReleaseError) → ReleaseContract r unread → Refused r 13 2
 told-unread r c =
     unread-told unread r c 12 2 (let z = unread-cut.1 in omega (arith, z))
     (subst (λ (ss : List (List ℕ)). FirstUnread ss 13 2) (sym unread-cut.0)
@@ -177,11 +187,11 @@ unfolding
 goes-on-cut = (refl, refl)
 
 -- a byte after the last check-sat line is one more script
-told-rest : (r : Outcome) → ReleaseContract r goes_on → r ≡ Refused 13 1
+told-rest : (r : Result ⊤ ReleaseError) → ReleaseContract r goes_on → Refused r 13 1
 told-rest r c =
     let n : length (scripts_of goes_on).scripts ≡ 1 = ap length goes-on-cut.0 in
     let m = goes-on-cut.1 in
-    after-last-told goes_on r c (omega (arith, n)) (subst AllRead (sym goes-on-cut.0) read) (omega (arith, m)) ∙ ap (λ (k : ℕ). Refused 13 k) n
+    subst (λ (k : ℕ). Refused r 13 k) n (after-last-told goes_on r c (omega (arith, n)) (subst AllRead (sym goes-on-cut.0) read) (omega (arith, m)))
   where
     read : AllRead (wide ∷ [])
     read zero s g = let q : wide ≡ s = cc in subst (λ (t : List ℕ). read_refusal (reading_in t) ≡ 0) q wide_read
@@ -198,9 +208,9 @@ unfolding
 lines_cut = refl
 
 -- they are too many, before any of them is read
-told-many : (r : Outcome) → ReleaseContract r lines → r ≡ Refused 9 64
+told-many : (r : Result ⊤ ReleaseError) → ReleaseContract r lines → Refused r 9 64
 told-many r c = many-told lines r c (let z = lines_cut in omega (arith, z))
 
 -- no release is refused for want of room
-never-ten : (file : List ℕ) (r : Outcome) → ReleaseContract r file → (k : ℕ) → r ≡ Refused 10 k → ⊥
+never-ten : (file : List ℕ) (r : Result ⊤ ReleaseError) → ReleaseContract r file → (k : ℕ) → Refused r 10 k → ⊥
 never-ten file r c k e = refusal-numbers file r c 10 k e

@@ -9,7 +9,7 @@ use Rattle.echo_spec.specs.Refusals.{◌or_else◌}
 use Rattle.echo_spec.specs.Input.{Dag, shape, no_node}
 use Rattle.echo_spec.specs.Walk.{walk_all, walk, walk_roots, formula}
 use Rattle.lets.specs.Lets.{uses_in, shared, binds, assertion_refusal, let_roots}
-use Rattle.lent.specs.Lent.{Slice, problem_at, dag_at}
+use Rattle.lent.specs.Arrays.{Slice, problem_at, dag_at}
 use Rattle.blast_kernel.specs.Codes.{code_of, code-small}
 use Rattle.echo_tables.specs.Refused.{refused_at}
 use Rattle.echo_tables.specs.Asked.{Refusable}

@@ -18,7 +18,7 @@ use Rattle.echo_spec.specs.ColumnLaws.{Aligned}
 use Rattle.echo_spec.specs.Render.{term}
 use Rattle.lets.specs.Lets.{named, named_of, shared, reached, binds, rising, binding_of, assertion_of, let_text}
 use Rattle.echo_spec.specs.Sharing.{count, used_once}
-use Rattle.lent.specs.Lent.{Slice, problem_at, dag_at}
+use Rattle.lent.specs.Arrays.{Slice, problem_at, dag_at}
 use Rattle.blast_kernel.specs.Codes.{code_of, code-small}
 use Rattle.echo_bytes.specs.Page.{Page, written}
 use Rattle.echo_bytes.specs.Laws.{written_then}

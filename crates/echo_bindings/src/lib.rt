@@ -8,7 +8,7 @@
 ghost use Rattle.std.specs.Prelude.{◌≡◌, cond, [], ◌∷◌, ◌++◌, ◌+◌, ◌/◌, ◌≤◌, ◌<◌, eqb, length, get_or};
 ghost use Rattle.lists.specs.Bytes.{bytes as literal};
 ghost use Rattle.lets.specs.Lets.{binds, assertion_refusal, let_roots};
-ghost use Rattle.lent.specs.Lent.{problem_at, dag_at};
+ghost use Rattle.lent.specs.Arrays.{problem_at, dag_at};
 ghost use Rattle.echo_bytes.specs.Page.{page, start, written};
 ghost use Rattle.echo_tables.specs.Refused.{refused_at};
 ghost use Rattle.echo_reach.specs.Remainders.{Reduced, Same};

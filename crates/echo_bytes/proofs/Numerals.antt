@@ -1,6 +1,7 @@
 -- Numerals by pieces: a numeral is the numeral of what stands above its last l digits, and those; and the digits of a piece are taken,
 -- highest first, from a number with 56 bits behind the point. Assumes nothing.
-use Prim.Native.Nat.{ℕ, zero, suc, ◌+◌, ◌-◌, ◌*◌, ◌/◌, ◌%◌, ◌^◌, ◌<◌, ◌≤◌}
+use Prim.Native.Nat.{ℕ, zero, suc, ◌+◌, ◌-◌, ◌*◌, ◌/◌, ◌%◌, ◌^◌, ◌<◌, ◌≤◌, max}
+use native.Mathlib.Decide.{dec_le}
 use mathlib.Core.Path.{◌≡◌, refl, sym, ap, ◌∙◌}
 use mathlib.Core.List.{List, [], ◌∷◌, ◌++◌, append_assoc, append-nil}
 use native.Mathlib.Nat.{
@@ -76,6 +77,27 @@ decimal-padded n (suc (suc k)) c =
     let high : q ≤ n = rw e at (c.above (omega arith)) in
     let one : n / q < 10 = (div-lt_iff_lt-mul pos).1 (omega (arith, c.below)) in
     sym (decimal-split (suc k) n high ∙ ap (λ (s : List ℕ). s ++ padded (suc k) (n % q)) (decimal_digit (n / q) one))
+
+-- m is n, or 1 for 0; k is the highest power of ten that it reaches
+pub counted-digits : (n m k : ℕ) → m ≡ max n 1 → 10 ^ k ≤ m → m < 10 * 10 ^ k → n < 10 ^ 8 → DigitCount n (k + 1)
+counted-digits n m k e low high small =
+    let power : 10 ^ (k + 1) ≡ 10 ^ k * 10 = rw add-one (pow-suc 10 k) in
+    let pos : 0 < 10 ^ k = power_pos k in
+    record {
+      some = omega arith;
+      few = go (dec_le 8 k);
+      below = omega (arith, power);
+      above = λ two.
+          let ten : 10 ^ 1 ≤ 10 ^ k = pow-le-pow_right {n = 10} (zero-lt-suc 9) {i = 1} {j = k} (omega arith) in
+          let back : k + 1 - 1 ≡ k = omega arith in
+          rw back (omega arith);
+    }
+  where
+    go : Dec (8 ≤ k) → k + 1 ≤ 8
+    go (yes h) =
+        let big : 10 ^ 8 ≤ 10 ^ k = pow-le-pow_right {n = 10} (zero-lt-suc 9) {i = 8} {j = k} h in
+        absurd (omega arith)
+    go (no h) = omega arith
 
 -- ---------------------------------------------------------------- digits from behind the point
 

@@ -10,8 +10,9 @@ use Rattle.traces.specs.Trace.{TraceAnswer}
 use Rattle.echo_spec.specs.Input.{Problem}
 use Rattle.readback.specs.ReadAnswers as reading
 use Rattle.script_reader.specs.Outputs.{read_back}
-use Rattle.script_reader.specs.declared.Outcome.{Outcome}
-use Rattle.script_reader.specs.declared.Outcome.TheVariants.{Read, Refused}
+use Rattle.std.specs.Prelude.{Result, Ok, Err}
+use Rattle.script_rebuild.specs.declared.Sizes.{Sizes}
+use Rattle.script_rebuild.specs.declared.ReadError.{ReadError}
 use Rattle.read_answers.specs.Answered.{told, sizes_in, read_numbers}
 use Rattle.read_answers.specs.declared.ReadAnswer.{ReadAnswer}
 
@@ -37,11 +38,11 @@ pub trace-given : {n m k l : ℕ} {masks counts : List ℕ} {a : TraceAnswer} �
 trace-given {masks = masks} {counts = counts} e h = (λ i. rows (e.0 i) (e.1 i) masks counts) ∙ h
 
 -- a script that is read back, or is refused
-read-numbers : (q : Outcome) (o : Problem) → record { number = told q; sizes = sizes_in q; output = o } ≡ read_back q o
-read-numbers (Read z) o = refl
-read-numbers (Refused e) o = refl
+read-numbers : (q : Result Sizes ReadError) (o : Problem) → record { number = told q; sizes = sizes_in q; output = o } ≡ read_back q o
+read-numbers (Ok z) o = refl
+read-numbers (Err e) o = refl
 
-pub read-given : {a : ReadAnswer} (q : Outcome) (o : Problem) {x : reading.ReadAnswer}
+pub read-given : {a : ReadAnswer} (q : Result Sizes ReadError) (o : Problem) {x : reading.ReadAnswer}
     → (a.number ≡ told q) × (a.nodes ≡ (sizes_in q).nodes) × (a.bits ≡ (sizes_in q).bits) × (a.side ≡ (sizes_in q).side) × (a.roots ≡ (sizes_in q).roots) × (a.names ≡ (sizes_in q).names) × (a.variables ≡ (sizes_in q).variables) × (a.anames ≡ (sizes_in q).anames) × (a.arrays ≡ (sizes_in q).arrays) × (a.fnames ≡ (sizes_in q).fnames) × (a.functions ≡ (sizes_in q).functions)
     → read_back q o ≡ x → read_numbers a o ≡ x
 read-given {a} q o {x} e h =

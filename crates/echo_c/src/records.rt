@@ -3,15 +3,14 @@ ghost use Rattle.std.specs.Prelude.{◌≡◌};
 ghost use Rattle.short_records.specs.Short.{shorten_answer, lengthen_answer};
 ghost use Rattle.short_records.specs.Numbers.{converted};
 
-use short_records::numbers::{RecordAnswer, record_answer};
+use short_records::numbers::RecordAnswer;
 
 // Records of 17 bytes into shorter ones.
 #[unsafe(no_mangle)]
 pub extern "C" fn shorten_records(old: &[u8], out: &mut [u8]) -> RecordAnswer
     ensures { converted result out.new ≡ shorten_answer old.now out.old }
 {
-    let r = short_records::shorten(old, out);
-    record_answer(r)
+    RecordAnswer::from(short_records::shorten(old, out))
 }
 
 // And back.
@@ -19,6 +18,5 @@ pub extern "C" fn shorten_records(old: &[u8], out: &mut [u8]) -> RecordAnswer
 pub extern "C" fn lengthen_records(new: &[u8], out: &mut [u8]) -> RecordAnswer
     ensures { converted result out.new ≡ lengthen_answer new.now out.old }
 {
-    let r = short_records::lengthen(new, out);
-    record_answer(r)
+    RecordAnswer::from(short_records::lengthen(new, out))
 }

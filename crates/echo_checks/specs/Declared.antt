@@ -8,7 +8,7 @@ use Rattle.echo_spec.specs.Input.{Node, no_node, nodes_of, Dag, dag_of, fname_ta
 use Rattle.echo_spec.specs.Widths.{width_at}
 use Rattle.echo_spec.specs.Tables.{find_call, arguments_inside, argument_widths, signature, decl_func_ok, decl_funcs_ok}
 use Rattle.echo_spec.specs.ColumnLaws.{names-counted}
-use Rattle.lent.specs.Lent.{Slice, problem_at, dag_at}
+use Rattle.lent.specs.Arrays.{Slice, problem_at, dag_at}
 use Rattle.echo_tables.specs.declared.Found.{Found}
 use Rattle.echo_tables.specs.declared.Found.TheVariants.{At, Nothing}
 use Rattle.echo_tables.specs.Found.{found_of, or_zero, entered, Calls, entered-found}

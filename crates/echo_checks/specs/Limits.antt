@@ -4,7 +4,7 @@ use Rattle.std.proofs.Common.{ap, ◌∙◌, arith, leb→le}
 use Rattle.lists.specs.Tests.{every, by-test, and_0, and-1}
 use Rattle.lists.specs.Build.{get_or-tabulate}
 use Rattle.echo_spec.specs.Input.{Problem, nodes_within, column_within, within_limits}
-use Rattle.lent.specs.Lent.{Slice, slot, problem_at}
+use Rattle.lent.specs.Arrays.{Slice, slot, problem_at}
 
 abbrev pub columns : Problem → List (List ℕ)
 columns p =

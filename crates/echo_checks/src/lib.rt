@@ -8,7 +8,7 @@ ghost use Rattle.echo_spec.specs.Input.{column_within, arena_within, within_limi
 ghost use Rattle.echo_spec.specs.Names.{names_ok};
 ghost use Rattle.echo_spec.specs.Tables.{one_length, columns_ok, arguments_inside, argument_widths, decl_vars_ok, decl_func_ok, decl_funcs_ok};
 ghost use Rattle.echo_spec.specs.ColumnLaws.{Aligned};
-ghost use Rattle.lent.specs.Lent.{problem_at, dag_at};
+ghost use Rattle.lent.specs.Arrays.{problem_at, dag_at};
 ghost use Rattle.lent.specs.Records.{node_of};
 ghost use Rattle.echo_checks.specs.Limits.{columns, arenas};
 ghost use Rattle.echo_checks.specs.Declared.{has_width, FirstCalls};

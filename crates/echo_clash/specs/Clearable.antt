@@ -2,7 +2,7 @@
 use Rattle.std.specs.Prelude.{ℕ, ◌≤◌, ◌≡◌, List, length}
 use Rattle.echo_spec.specs.ColumnLaws.{Aligned}
 use Rattle.lets.specs.Lets.{uses_in, shared}
-use Rattle.lent.specs.Lent.{Slice, problem_at, dag_at}
+use Rattle.lent.specs.Arrays.{Slice, problem_at, dag_at}
 use Rattle.echo_sharing.specs.Flags.{Flags}
 
 -- the table has the shared nodes, of which there are no more than the limit

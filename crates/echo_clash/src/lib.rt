@@ -8,7 +8,7 @@ ghost use Rattle.std.specs.Prelude.{◌≡◌, not, ◌-◌, ◌≤◌, ◌<◌,
 ghost use Rattle.lists.specs.Tests.{same, every};
 ghost use Rattle.echo_spec.specs.Input.{names_of};
 ghost use Rattle.lets.specs.Lets.{let_name, uses_in, names_clear};
-ghost use Rattle.lent.specs.Lent.{problem_at, dag_at};
+ghost use Rattle.lent.specs.Arrays.{problem_at, dag_at};
 ghost use Rattle.echo_clash.specs.Clash.{digit, read_from, clashes as «clashes-of»};
 ghost use Rattle.echo_clash.specs.Clearable.{Clearable};
 

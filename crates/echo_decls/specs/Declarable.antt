@@ -10,7 +10,7 @@ use Rattle.lists.specs.Tests.{every, every-at, and_0, and-1}
 use Rattle.echo_spec.specs.Input.{Node, no_node, nodes_of, Dag, dag_of, fname_table}
 use Rattle.echo_spec.specs.ColumnLaws.{names-counted}
 use Rattle.echo_spec.specs.Tables.{find_call, arguments_inside, signature, decl_func_ok, decl_funcs_ok}
-use Rattle.lent.specs.Lent.{Slice, problem_at, dag_at}
+use Rattle.lent.specs.Arrays.{Slice, problem_at, dag_at}
 use Rattle.echo_tables.specs.declared.Found.{Found}
 use Rattle.echo_tables.specs.declared.Found.TheVariants.{At, Nothing}
 use Rattle.echo_tables.specs.Found.{found_of, entered, Calls, entered-found}

@@ -8,7 +8,7 @@ ghost use Rattle.std.specs.Prelude.{◌≡◌, [], ◌<◌, length, get_or};
 ghost use Rattle.echo_spec.specs.Input.{names_of};
 ghost use Rattle.echo_spec.specs.Tables.{variables_of, arrays_of, functions_of, declarations_of};
 ghost use Rattle.echo_spec.specs.Render.{texts, variable_text, array_text, function_text};
-ghost use Rattle.lent.specs.Lent.{problem_at, dag_at};
+ghost use Rattle.lent.specs.Arrays.{problem_at, dag_at};
 ghost use Rattle.echo_bytes.specs.Page.{page, start, written};
 ghost use Rattle.echo_decls.specs.Declarable.{Declarable};
 ghost use Rattle.echo_decls.specs.DeclaredLines.{variable_line, array_line, function_line, opening};

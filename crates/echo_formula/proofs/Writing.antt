@@ -34,7 +34,7 @@ use Rattle.echo_spec.specs.Input.{Node, shape, nodes_of, Dag, dag_of}
 use Rattle.echo_spec.specs.Trees.{tree_as, tree_step, tree_of}
 use Rattle.echo_spec.specs.Walk.{Operand}
 use Rattle.blast_kernel.specs.Codes.{code_of}
-use Rattle.lent.specs.Lent.{Slice, problem_at, dag_at}
+use Rattle.lent.specs.Arrays.{Slice, problem_at, dag_at}
 use Rattle.echo_bytes.specs.declared.Place.{Place}
 use Rattle.echo_bytes.specs.Page.{Page, page, written}
 use Rattle.echo_bytes.specs.Laws.{written-nil, written_then}

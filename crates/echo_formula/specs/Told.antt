@@ -1,7 +1,7 @@
 -- What is told of a node before its operands are written, the brackets around it, and the text of a list of operands.
 use Rattle.std.specs.Prelude.{ℕ, ◌≡◌, Bool, true, false, List, [], ◌∷◌, get_or}
 use Rattle.echo_spec.specs.Input.{shape, no_node, nodes_of}
-use Rattle.lent.specs.Lent.{Slice, slot}
+use Rattle.lent.specs.Arrays.{Slice, slot}
 use Rattle.echo_tables.specs.Forms.{form_as}
 use Rattle.echo_walk.specs.Ready.{node_within}
 use Rattle.echo_pieces.specs.Signs.{level_of}

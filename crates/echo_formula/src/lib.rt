@@ -4,7 +4,7 @@
 
 ghost use Rattle.std.specs.Prelude.{◌≡◌, ◌≤◌, ◌<◌, ltb, length};
 ghost use Rattle.echo_spec.specs.Input.{nodes_of};
-ghost use Rattle.lent.specs.Lent.{slot, problem_at};
+ghost use Rattle.lent.specs.Arrays.{slot, problem_at};
 ghost use Rattle.echo_bytes.specs.Page.{page, written};
 ghost use Rattle.echo_walk.specs.Operands.{OverForm};
 ghost use Rattle.echo_walk.specs.Ready.{Fine, Under, TermAt};

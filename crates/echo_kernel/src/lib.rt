@@ -4,7 +4,8 @@
 #![tactic(auto)]
 
 ghost use Rattle.std.specs.Prelude.{◌≡◌};
-ghost use Rattle.lent.specs.Lent.{problem_at, problem_of};
+ghost use Rattle.lent.specs.Arrays.{problem_at};
+ghost use Rattle.lent.specs.Lent.{problem_of};
 ghost use Rattle.echo_spec.specs.Answers.{echo_ext_answer};
 ghost use Rattle.echo_kernel.specs.Answered.{answered};
 

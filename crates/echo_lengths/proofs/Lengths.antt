@@ -16,7 +16,7 @@ use Rattle.echo_spec.specs.Input.{Node, shape, dag_of, largest}
 use Rattle.echo_spec.specs.Tables.{declarations_of}
 use Rattle.echo_spec.specs.Render.{symbol_of, logic_text, declarations_text}
 use Rattle.echo_spec.specs.Walk.{Operand}
-use Rattle.lent.specs.Lent.{Slice, problem_at, dag_at}
+use Rattle.lent.specs.Arrays.{Slice, problem_at, dag_at}
 use Rattle.lent.specs.Records.{nodes-length}
 use Rattle.blast_kernel.specs.Codes.{code-small}
 use Rattle.echo_bytes.specs.declared.Place.{Place}

@@ -5,7 +5,7 @@
 
 ghost use Rattle.std.specs.Prelude.{◌≡◌, ◌+◌, ◌%◌, ◌≤◌, ◌<◌, ltb, length};
 ghost use Rattle.echo_spec.specs.Render.{symbol_of};
-ghost use Rattle.lent.specs.Lent.{problem_at};
+ghost use Rattle.lent.specs.Arrays.{problem_at};
 ghost use Rattle.echo_walk.specs.Ready.{code_in, widths_in, node_within, text_at, Ready, Plain, Fine, Operator, TermAt};
 ghost use Rattle.echo_terms.specs.TermTable.{held};
 ghost use Rattle.echo_roots.specs.Roots.{roots_text, AllFine};
@@ -13,7 +13,7 @@ ghost use Rattle.echo_script.specs.Scripts.{plain_script};
 ghost use Rattle.echo_script.specs.Prepared.{Prepared};
 ghost use Rattle.echo_lengths.specs.LengthTable.{closings, head_length, Long, Longs};
 
-use blast_kernel::{CALL, EXTENSION, EXTRACTION, ROTATION, SELECT};
+use blast_kernel::codes::{CALL, EXTENSION, EXTRACTION, ROTATION, SELECT};
 use echo_bytes::{more, start};
 use echo_tables::{Form, operands};
 use echo_walk::{

@@ -2,7 +2,8 @@
 #![tactic(auto)]
 
 ghost use Rattle.std.specs.Prelude.{◌≡◌};
-ghost use Rattle.lent.specs.Lent.{problem_at, dag_at, problem_of};
+ghost use Rattle.lent.specs.Arrays.{problem_at, dag_at};
+ghost use Rattle.lent.specs.Lent.{problem_of};
 ghost use Rattle.echo_bytes.specs.Page.{page, start};
 ghost use Rattle.echo_spec.specs.Input.{query_of};
 ghost use Rattle.lets.specs.Lets.{names_clear, let_script, endless_let, echo_let_answer};

@@ -1,6 +1,6 @@
 -- Two lists of bytes compared stretch by stretch.
-use Rattle.std.specs.Prelude.{ℕ, zero, suc, ◌+◌, ◌≤◌, ◌<◌, ◌≡◌, refl, List, [], ◌∷◌, Bool, true, false, T, ltb, length, get_or}
-use Rattle.std.proofs.Common.{sym, ap, ◌∙◌, subst, arith, ltb-true, ltb-false}
+use Rattle.std.specs.Prelude.{ℕ, suc, ◌+◌, ◌≤◌, ◌<◌, ◌≡◌, refl, List, [], ◌∷◌, Bool, true, false, T, ltb, length, get_or}
+use Rattle.std.proofs.Common.{sym, ap, subst, arith, ltb-true, ltb-false}
 use Rattle.lists.specs.Tests.{same, same_refl, T→true}
 use Rattle.echo_names.specs.Steps.{same_not}
 

@@ -4,6 +4,7 @@ use Rattle.std.specs.Prelude.{◌≡◌, List, [], ◌∷◌, ◌++◌, Bool, tr
 use Rattle.std.proofs.Math.Path.{refl}
 use Rattle.std.proofs.Common.{ap, sym, ◌∙◌, subst, suc-mul, length-drop, drop_of_length-le, length-take-le}
 use native.Mathlib.Omega.{arith}
+use native.Mathlib.Nat.{mul-le-mul_right}
 use Rattle.std.proofs.Math.ListN.{drop}
 use Rattle.std.proofs.Math.Seq.{drop-drop}
 use Rattle.lists.specs.Tests.{same, in_list, every, and_0, and-1, T→true, true→T, same→eq}
@@ -176,3 +177,28 @@ word-inside m n at (suc c) h e =
     let k : suc c * n ≡ c * n + n = suc-mul c n in
     let b : suc c - 1 ≡ c = omega arith in
     rw b (omega arith)
+
+-- ---------------------------------------------------------------- the same, by the number of the word in its group
+
+-- word k of a group lies inside it
+pub word-at : (n k count start m : ℕ) → k < count → start + count * n ≤ m → start + k * n + n ≤ m
+word-at n k count start m h e =
+    let l : (k + 1) * n ≤ count * n = mul-le-mul_right n (omega arith) in
+    omega arith
+
+-- the words of one group from word k on, and then the other groups' words
+module _ (words x : List ℕ) (rest : List (List ℕ)) (n start count : ℕ) {whole : Bool} where
+  pub turn-first : in_list x (chunks n count (drop start words) ++ rest) ≡ whole
+      → in_list x (chunks n (count - 0) (drop (start + 0 * n) words) ++ rest) ≡ whole
+  turn-first e =
+      let a : count ≡ count - 0 = omega arith in
+      let b : start ≡ start + 0 * n = omega arith in
+      rw (← a, ← b) e
+
+  pub turn_next : (k : ℕ) → k < count → same x (take (start + k * n + n - (start + k * n)) (drop (start + k * n) words)) ≡ false
+      → in_list x (chunks n (count - k) (drop (start + k * n) words) ++ rest) ≡ whole
+      → in_list x (chunks n (count - (k + 1)) (drop (start + (k + 1) * n) words) ++ rest) ≡ whole
+  turn_next k h f e =
+      let a : count - k - 1 ≡ count - (k + 1) = omega arith in
+      let b : start + k * n + n ≡ start + (k + 1) * n = omega arith in
+      rw (← a, ← b) (word_next words x rest n (start + k * n) (count - k) (omega arith) f e)

@@ -100,7 +100,7 @@ first_of (c ∷ s) h = refl
 
 -- ---------------------------------------------------------------- one entry
 
--- a table's two columns are of one length, and so are those of the two tables before it
+-- for the crates that are not yet written over: a table's two columns are of one length, and so are those of the two tables before it
 pub record NameColumns (starts lens s1 l1 s2 l2 : List ℕ) : Type 0 where
   pub own : length starts ≡ length lens
   pub first : length s1 ≡ length l1
@@ -133,7 +133,7 @@ module _
     (h : k < length starts)
     (is : n ≡ part arena (get_or starts k 0) (get_or lens k 0))
   where
-    tests : entry_at arena starts lens a1 s1 l1 a2 s2 l2 k
+    pub tests : entry_at arena starts lens a1 s1 l1 a2 s2 l2 k
         ≡ every byte_ok n
         && (first_ok n
         && (not (in_list n reserved)

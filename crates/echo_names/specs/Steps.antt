@@ -1,6 +1,7 @@
 -- The tests of `lists`, one element further along a list: what a loop that counts up needs.
-use Rattle.std.specs.Prelude.{ℕ, ◌+◌, ◌≤◌, ◌<◌, ◌≡◌, refl, List, [], ◌∷◌, ◌++◌, Bool, true, false, ◌||◌, length, get_or, take, drop}
-use Rattle.std.proofs.Common.{add-one, drop_of_length-le, drop-cons, take-suc}
+use Rattle.std.specs.Prelude.{ℕ, ◌+◌, ◌≤◌, ◌<◌, ◌≡◌, refl, List, [], ◌∷◌, ◌++◌, Bool, true, false, ◌&&◌, ◌||◌, eqb, length, get_or, take, drop}
+use Rattle.std.specs.Cmp.Lexicographic.{pointwise}
+use Rattle.std.proofs.Common.{ap, add-one, drop_of_length-le, drop-cons, take-suc}
 use Rattle.lists.specs.Tests.{same, in_list, every, same→eq, true→T}
 
 pub drop-step : {A : Type 0} (d : A) (xs : List A) (i : ℕ) → i < length xs → drop i xs ≡ get_or xs i d ∷ drop (i + 1) xs
@@ -30,6 +31,14 @@ same_not xs ys f = go (same xs ys) refl
     go : (b : Bool) → same xs ys ≡ b → b ≡ false
     go true e = absurd (f (same→eq xs ys (true→T e)))
     go false e = refl
+
+-- what `==` of two slices of bytes gives
+pub pointwise_same : (xs ys : List ℕ) → pointwise eqb xs ys ≡ same xs ys
+unfolding same
+pointwise_same [] [] = refl
+pointwise_same [] (y ∷ ys) = refl
+pointwise_same (x ∷ xs) [] = refl
+pointwise_same (x ∷ xs) (y ∷ ys) = ap (λ (b : Bool). eqb x y && b) (pointwise_same xs ys)
 
 -- ---------------------------------------------------------------- inList
 

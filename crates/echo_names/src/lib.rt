@@ -1,13 +1,12 @@
 // Names: the part of an arena that a table's entry gives, and which names a table may declare.
-// A name is the part of its arena itself, never a copy, so `range_eq` and `word_is` of the Rust are one comparison of two slices.
+// A name is the part of its arena itself, never a copy, so `range_eq` and `word_is` of the Rust are `==` of two slices.
 #![tactic(auto)]
 
-ghost use Rattle.std.specs.Prelude.{◌≡◌, ◌++◌, false, ◌+◌, ◌≤◌, ◌<◌, length, take};
+ghost use Rattle.std.specs.Prelude.{◌≡◌, ◌++◌, ◌≤◌, ◌<◌, length, take, get_or};
 ghost use Rattle.lists.specs.Tests.{same, in_list, every};
 ghost use Rattle.echo_spec.specs.Input.{part as «part_of», names_of};
 ghost use Rattle.echo_spec.specs.Names.{byte_ok, first_ok, reserved, table_ok};
 ghost use Rattle.echo_names.specs.Groups.{total, in_table};
-ghost use Rattle.echo_names.specs.Compared.{Compared};
 ghost use Rattle.echo_names.specs.NameTables.{NameColumns, entry_at};
 
 // ---------------------------------------------------------------- parts of an arena
@@ -17,48 +16,11 @@ ghost use Rattle.echo_names.specs.NameTables.{NameColumns, entry_at};
 pub fn part<'a>(arena: &'a [u8], start: u64, len: u64) -> &'a [u8]
     ensures { result.now ≡ «part_of» arena.now start len }
 {
-    let n = arena.len();
-    let s = start as usize;
-    let l = len as usize;
-    if s > n {
-        return &arena[0..0];
-    }
-    if l > n - s {
-        return &arena[0..0];
+    let (s, l) = (start as usize, len as usize);
+    if s > arena.len() || l > arena.len() - s {
+        return &arena[..0];
     }
     &arena[s..s + l]
-}
-
-// Are the sixteen bytes from place i on the same? (All are looked at: a loop that is not left midway is done at once.)
-fn same_block(a: &[u8], b: &[u8], i: usize) -> bool
-    requires { (i + 16 ≤ length a.now) × (i + 16 ≤ length b.now) }
-    ensures { Compared a.now b.now i (i + 16) result }
-{
-    let mut ok = true;
-    let mut k = 0;
-    while k < 16 {
-        if a[i + k] != b[i + k] {
-            ok = false;
-        }
-        k += 1;
-    }
-    ok
-}
-
-// Are all bytes from place i on the same?
-fn same_rest(a: &[u8], b: &[u8], i: usize) -> bool
-    requires { (length a.now ≡ length b.now) × (i ≤ length a.now) }
-    ensures { Compared a.now b.now i (length a.now) result }
-{
-    let n = a.len();
-    let mut k = i;
-    while k < n {
-        if a[k] != b[k] {
-            return false;
-        }
-        k += 1;
-    }
-    true
 }
 
 // Are the two the same bytes?
@@ -66,70 +28,46 @@ fn same_rest(a: &[u8], b: &[u8], i: usize) -> bool
 pub fn same_bytes(a: &[u8], b: &[u8]) -> bool
     ensures { result ≡ same a.now b.now }
 {
-    let n = a.len();
-    if n != b.len() {
-        return false;
-    }
-    let mut i = 0;
-    while n - i >= 16 {
-        if !same_block(a, b, i) {
-            return false;
-        }
-        i += 16;
-    }
-    same_rest(a, b, i)
+    a == b
 }
 
 // ---------------------------------------------------------------- bytes of a name
 
 // A byte that a name may have: from 32 on, but for 127, the bar and the backslash. Bytes from 128 on are taken as they come.
+#[tactic(auto, using(std::proofs::lemmas::Bool::Decides::nat_tests), unfolding(echo_spec::specs::Names::byte_ok))]
 fn byte_ok(c: u8) -> bool
     ensures { result ≡ byte_ok c }
 {
-    if c < 32 {
-        return false;
-    }
-    if c == 127 {
-        return false;
-    }
-    if c == b'|' {
-        return false;
-    }
-    c != b'\\'
+    c >= 32 && c != 127 && c != b'|' && c != b'\\'
 }
 
 // Each byte of the name may stand in one. Ruled out: a name with a bar; one that is taken for its first byte.
 pub fn bytes_ok(name: &[u8]) -> bool
     ensures { result ≡ every byte_ok name.now }
 {
-    let mut i = 0;
-    while i < name.len() {
-        if !byte_ok(name[i]) {
+    for c in name {
+        if !byte_ok(*c) {
             return false;
         }
-        i += 1;
     }
     true
 }
 
 // There is a first byte, and it is none that SMT-LIB keeps for solvers. Ruled out: the empty name; a name that begins with @.
+#[tactic(auto, using(std::proofs::lemmas::Bool::Decides::nat_tests), unfolding(echo_spec::specs::Names::first_ok))]
 pub fn first_ok(name: &[u8]) -> bool
     ensures { result ≡ first_ok name.now }
 {
-    if name.len() == 0 {
-        return false;
+    match name {
+        [] | [b'@' | b'.', ..] => false,
+        _ => true,
     }
-    let c = name[0];
-    if c == b'@' {
-        return false;
-    }
-    c != b'.'
 }
 
 // ---------------------------------------------------------------- reserved words
 
 // The words of `reserved_0` to `reserved_4`, and those that SMT-LIB 2.7 added, last in their groups; words of one length together.
-const WORDS: [u8; 820] = *b"!_=\
+static WORDS: [u8; 820] = *b"!_=\
     as=>or\
     letparpopnotandxorite\
     echoexitpushBooltruebvor\
@@ -151,7 +89,7 @@ const WORDS: [u8; 820] = *b"!_=\
     get-unsat-assumptions";
 
 // How many words have 1 byte, 2 bytes, and so on: the groups of the table, one after the other.
-const COUNTS: [usize; 21] = [
+static COUNTS: [usize; 21] = [
     3, 3, 7, 6, 23, 26, 11, 5, 6, 5, 6, 3, 1, 4, 1, 2, 1, 1, 0, 0, 1,
 ];
 
@@ -162,31 +100,24 @@ fn find_word(name: &[u8], words: &[u8], counts: &[usize]) -> bool
     ensures { result ≡ in_table name.now words.now counts.now }
 {
     let n = name.len();
-    let mut g = 0;
     let mut start = 0;
-    'search: loop {
-        if g >= counts.len() {
-            break 'search false;
-        }
-        let size = g + 1;
-        let count = counts[g];
-        if size == n {
-            let mut at = start;
-            let mut left = count;
-            while left > 0 {
-                if same_bytes(name, &words[at..at + n]) {
-                    break 'search true;
+    'search: {
+        for (g, count) in counts.iter().enumerate() {
+            if g + 1 == n {
+                for k in 0..*count {
+                    let at = start + k * n;
+                    if same_bytes(name, &words[at..at + n]) {
+                        break 'search true;
+                    }
                 }
-                at += n;
-                left -= 1;
             }
+            start += *count * (g + 1);
         }
-        start += count * size;
-        g += 1;
+        false
     }
 }
 
-// Is the name a reserved word or a theory symbol? The table is lent, so that a search stores it once.
+// Is the name a reserved word or a theory symbol?
 // Ruled out: a table with one letter of a word wrong, or without a word that SMT-LIB 2.7 added; a search that leaves out the last word
 // of a group.
 pub fn is_reserved(name: &[u8]) -> bool
@@ -197,91 +128,84 @@ pub fn is_reserved(name: &[u8]) -> bool
 
 // ---------------------------------------------------------------- name tables
 
-// Can the two be the same: their last bytes are, or the first has none. (Most names that differ do so at the end.)
-fn last_alike(a: &[u8], b: &[u8]) -> bool
-    requires { length a.now ≡ length b.now }
-    ensures { result ≡ false → a.now ≡ b.now → ⊥ }
-{
-    let n = a.len();
-    if n == 0 {
-        return true;
-    }
-    a[n - 1] == b[n - 1]
-}
-
-// Are two names the same? What tells most names apart is looked at first, and by itself: most comparisons end there.
+// Are two names the same? What tells most names apart is looked at first, and by itself: names that differ mostly do so at the end.
 fn same_name(a: &[u8], b: &[u8]) -> bool
     ensures { result ≡ same a.now b.now }
 {
     if a.len() != b.len() {
         return false;
     }
-    if !last_alike(a, b) {
-        return false;
-    }
-    same_bytes(a, b)
+    a.last() == b.last() && a == b
 }
 
-// Is the name one of the first `upto` names of the table?
-fn table_has(arena: &[u8], starts: &[u64], lens: &[u64], upto: usize, name: &[u8]) -> bool
-    requires { (length starts.now ≡ length lens.now) × (upto ≤ length starts.now) }
-    ensures { result ≡ in_list name.now (take upto (names_of arena.now starts.now lens.now)) }
-{
-    let mut j = 0;
-    while j < upto {
-        if same_name(name, part(arena, starts[j], lens[j])) {
-            return true;
+// The names of a table: parts of its arena, each by an entry of two columns of one length.
+#[derive(Drop)]
+pub struct NameTable<'a> {
+    pub arena: &'a [u8],
+    pub starts: &'a [u64],
+    pub lens: &'a [u64],
+    ghost columns: { length starts.now ≡ length lens.now },
+}
+
+impl<'a> NameTable<'a> {
+    // The name of entry k.
+    fn name(&self, k: usize) -> &'a [u8]
+        requires { k < length self.now.starts.now }
+        ensures { result.now ≡ «part_of» self.now.arena.now (get_or self.now.starts.now k 0) (get_or self.now.lens.now k 0) }
+    {
+        part(self.arena, self.starts[k], self.lens[k])
+    }
+
+    // Is the name one of the first `upto` names?
+    fn has(&self, upto: usize, name: &[u8]) -> bool
+        requires { upto ≤ length self.now.starts.now }
+        ensures { result ≡ in_list name.now (take upto (names_of self.now.arena.now self.now.starts.now self.now.lens.now)) }
+    {
+        for j in 0..upto {
+            if same_name(name, self.name(j)) {
+                return true;
+            }
         }
-        j += 1;
+        false
     }
-    false
+
+    // Entry k, after the names before it and all names of the two tables before this one.
+    // A part that is empty, or does not lie inside its arena, has no first byte.
+    fn entry_ok(&self, first: &NameTable<'a>, second: &NameTable<'a>, k: usize) -> bool
+        requires { k < length self.now.starts.now }
+        ensures { result
+            ≡ entry_at self.now.arena.now self.now.starts.now self.now.lens.now
+            first.now.arena.now first.now.starts.now first.now.lens.now
+            second.now.arena.now second.now.starts.now second.now.lens.now k }
+    {
+        let name = self.name(k);
+        bytes_ok(name)
+            && first_ok(name)
+            && !is_reserved(name)
+            && !first.has(first.starts.len(), name)
+            && !second.has(second.starts.len(), name)
+            && !self.has(k, name)
+    }
+
+    // Does each name pass, after the names of the two tables before this one and those before it in its own?
+    // That a table's columns are of one length is for who makes it to show, where the Rust tests it here.
+    // Ruled out: names compared with their own table alone; a last name that is not looked at.
+    pub fn accepted(&self, first: &NameTable<'a>, second: &NameTable<'a>) -> bool
+        ensures { result
+            ≡ table_ok
+            (names_of first.now.arena.now first.now.starts.now first.now.lens.now ++ names_of second.now.arena.now second.now.starts.now second.now.lens.now)
+            (names_of self.now.arena.now self.now.starts.now self.now.lens.now) }
+    {
+        for k in 0..self.starts.len() {
+            if !self.entry_ok(first, second, k) {
+                return false;
+            }
+        }
+        true
+    }
 }
 
-// Entry k of a table, after the names before it in its own table and all names of the two tables before that.
-// A part that is empty, or does not lie inside its arena, has no first byte.
-fn entry_ok(
-    arena: &[u8],
-    starts: &[u64],
-    lens: &[u64],
-    a1: &[u8],
-    s1: &[u64],
-    l1: &[u64],
-    a2: &[u8],
-    s2: &[u64],
-    l2: &[u64],
-    k: usize,
-) -> bool
-    requires name_columns { NameColumns starts.now lens.now s1.now l1.now s2.now l2.now }
-    requires k_in_bounds { k < length starts.now }
-    ensures { result
-        ≡ entry_at arena.now starts.now lens.now a1.now s1.now l1.now
-        a2.now s2.now l2.now k }
-{
-    let name = part(arena, starts[k], lens[k]);
-    if !bytes_ok(name) {
-        return false;
-    }
-    if !first_ok(name) {
-        return false;
-    }
-    if is_reserved(name) {
-        return false;
-    }
-    if table_has(a1, s1, l1, s1.len(), name) {
-        return false;
-    }
-    if table_has(a2, s2, l2, s2.len(), name) {
-        return false;
-    }
-    if table_has(arena, starts, lens, k, name) {
-        return false;
-    }
-    true
-}
-
-// Does each name of a table pass, after the names of the two tables before it and those before it in its own?
-// That a table's columns are of one length is the caller's to show, where the Rust tests it here.
-// Ruled out: names compared with their own table alone; a last name that is not looked at.
+// For the crates that are not yet written over: the test of a table as a function of slices.
 pub fn table_ok(
     arena: &[u8],
     starts: &[u64],
@@ -299,12 +223,20 @@ pub fn table_ok(
         (names_of a1.now s1.now l1.now ++ names_of a2.now s2.now l2.now)
         (names_of arena.now starts.now lens.now) }
 {
-    let mut k = 0;
-    while k < starts.len() {
-        if !entry_ok(arena, starts, lens, a1, s1, l1, a2, s2, l2, k) {
-            return false;
-        }
-        k += 1;
-    }
-    true
+    let table = NameTable {
+        arena,
+        starts,
+        lens,
+    };
+    let first = NameTable {
+        arena: a1,
+        starts: s1,
+        lens: l1,
+    };
+    let second = NameTable {
+        arena: a2,
+        starts: s2,
+        lens: l2,
+    };
+    table.accepted(&first, &second)
 }

@@ -31,7 +31,7 @@ use Rattle.echo_spec.specs.Widths.{wf_as}
 use Rattle.echo_spec.specs.Trees.{constant_bits, bits_value, amount_of, variable_name}
 use Rattle.echo_spec.specs.Render.{decimal, binary_digits, quoted}
 use Rattle.blast_kernel.specs.Codes.{code_of}
-use Rattle.lent.specs.Lent.{Slice, problem_at, dag_at}
+use Rattle.lent.specs.Arrays.{Slice, problem_at, dag_at}
 use Rattle.echo_bytes.specs.Page.{Page, written}
 use Rattle.echo_lines.specs.Heads.{repeated}
 use Rattle.echo_walk.specs.Ready.{widths_in, node_within, Taken}

@@ -3,7 +3,7 @@ use Rattle.std.specs.Prelude.{ℕ, ◌≡◌, List}
 use Rattle.echo_spec.specs.Shapes.{Shape}
 use Rattle.echo_spec.specs.Input.{shape}
 use Rattle.echo_spec.specs.Trees.{tree_of}
-use Rattle.lent.specs.Lent.{Slice, problem_at, dag_at}
+use Rattle.lent.specs.Arrays.{Slice, problem_at, dag_at}
 use Rattle.echo_lines.specs.Symbols.{symbol_table}
 use Rattle.echo_walk.specs.Ready.{widths_in, node_within, Ready}
 use Rattle.echo_pieces.specs.Signs.{sign_table}

@@ -8,7 +8,7 @@ ghost use Rattle.lists.specs.Tests.{every};
 ghost use Rattle.echo_spec.specs.Shapes.{var, rotation, extraction, extension, select, call};
 ghost use Rattle.echo_spec.specs.Trees.{constant_bits};
 ghost use Rattle.echo_spec.specs.Render.{binary_digits, quoted};
-ghost use Rattle.lent.specs.Lent.{problem_at};
+ghost use Rattle.lent.specs.Arrays.{problem_at};
 ghost use Rattle.echo_bytes.specs.Page.{page, written};
 ghost use Rattle.echo_lines.specs.Heads.{repeated};
 ghost use Rattle.echo_lines.specs.Symbols.{symbol_table};
@@ -17,7 +17,7 @@ ghost use Rattle.echo_pieces.specs.Signs.{sign_of, sign_table};
 ghost use Rattle.echo_openings.specs.Openings.{plain_opening, numbered, call_opening};
 ghost use Rattle.echo_openings.specs.Signed.{Signed, opening_at, opening_of};
 
-use blast_kernel::{CALL, EXTENSION, EXTRACTION, ROTATION, SELECT, VAR};
+use blast_kernel::codes::{CALL, EXTENSION, EXTRACTION, ROTATION, SELECT, VAR};
 use echo_bytes::Place;
 use echo_pieces::{SIGNS, level, sign};
 use echo_tables::{Found, looked_up};

@@ -16,7 +16,7 @@ use Rattle.echo_spec.proofs.NodeLaws.{facts}
 use Rattle.echo_spec.specs.Walk.{Operand, vector, levels, operands_as}
 use Rattle.lets.specs.Lets.{operands_of, reached_below, reached, uses_in, shared, binds}
 use Rattle.lets.specs.ReachedLaws.{Reaches, itself, onward, low-among, reached-is}
-use Rattle.lent.specs.Lent.{Slice, problem_at, dag_at}
+use Rattle.lent.specs.Arrays.{Slice, problem_at, dag_at}
 use Rattle.lent.specs.Records.{nodes-length, nodes-at}
 use Rattle.echo_tables.specs.declared.Form.{Form}
 use Rattle.echo_tables.specs.declared.Form.TheVariants.{Leaf, One, Two, Choice, Chain, Arguments}

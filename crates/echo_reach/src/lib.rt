@@ -5,7 +5,7 @@
 ghost use Rattle.std.specs.Prelude.{◌≡◌, ◌&&◌, [], ◌∷◌, map, ◌+◌, ◌≤◌, ◌<◌, length, get_or, take, drop};
 ghost use Rattle.lists.specs.Tests.{among};
 ghost use Rattle.lets.specs.Lets.{operands_of, uses_in, shared as «shared-in», binds};
-ghost use Rattle.lent.specs.Lent.{problem_at, dag_at};
+ghost use Rattle.lent.specs.Arrays.{problem_at, dag_at};
 ghost use Rattle.echo_tables.specs.Forms.{form_operands};
 ghost use Rattle.echo_tables.specs.Uses.{FormInside};
 ghost use Rattle.echo_reach.specs.Remainders.{Reduced, Same};
@@ -111,7 +111,7 @@ fn visit(bytes: &[&[u8]; BYTES], numbers: &[&[u64]; NUMBERS], i: usize, marks: &
     let nodes = bytes[NODES];
     let side = numbers[SIDE];
     let n = node_at(nodes, i);
-    mark_form(marks, side, operands(blast_kernel::shape(n.kind), n));
+    mark_form(marks, side, operands(blast_kernel::codes::shape(n.kind), n));
 }
 
 // For each node whether it is bound in the assertion of a root that is a node: it is shared, and the root reaches it by operands. The flags may

@@ -5,7 +5,7 @@ use Rattle.lists.specs.Bytes.{bytes}
 use Rattle.echo_spec.specs.Input.{Dag}
 use Rattle.echo_spec.specs.Trees.{trees_over, tree_of}
 use Rattle.echo_spec.specs.Render.{term, assertions_text}
-use Rattle.lent.specs.Lent.{Slice}
+use Rattle.lent.specs.Arrays.{Slice}
 use Rattle.echo_walk.specs.Ready.{Fine}
 
 -- one assertion, over the texts of nodes

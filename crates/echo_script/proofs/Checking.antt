@@ -20,7 +20,7 @@ use Rattle.echo_spec.specs.Render.{render}
 use Rattle.echo_spec.specs.Answers.{script, endless_with, endless_refusal}
 use Rattle.echo_bytes.specs.declared.Place.{Place}
 use Rattle.echo_bytes.specs.Page.{Page, page, written}
-use Rattle.lent.specs.Lent.{Slice, problem_at, dag_at}
+use Rattle.lent.specs.Arrays.{Slice, problem_at, dag_at}
 use Rattle.sliver_kernel.specs.Pass.{Passed, ext-wf-short, passed-within}
 use Rattle.echo_script.specs.declared.Out.{Out}
 use Rattle.echo_script.specs.declared.Out.TheVariants.{Done, Refused}

@@ -15,7 +15,7 @@ use Rattle.echo_spec.specs.Trees.{trees_over, tree_of}
 use Rattle.echo_spec.specs.Render.{logic_text, declarations_text, assertions_text}
 use Rattle.echo_spec.specs.Walk.{formula, sort_ok, walk_all, walk, walk_roots}
 use Rattle.echo_spec.specs.Accepted.{or_else-passed}
-use Rattle.lent.specs.Lent.{Slice, problem_at, dag_at}
+use Rattle.lent.specs.Arrays.{Slice, problem_at, dag_at}
 use Rattle.lent.specs.Records.{nodes-length}
 use Rattle.blast_kernel.specs.Codes.{code_of, code-small}
 use Rattle.echo_bytes.specs.Page.{Page, page, start, written}

@@ -8,7 +8,7 @@ use Rattle.echo_spec.specs.Walk.{walk_roots, checks}
 use Rattle.echo_spec.specs.Answers.{endless_with}
 use Rattle.echo_script.specs.Scripts.{declared_checks, tables_refusal}
 use Rattle.echo_spec.specs.ColumnLaws.{Aligned}
-use Rattle.lent.specs.Lent.{Slice, problem_at, dag_at}
+use Rattle.lent.specs.Arrays.{Slice, problem_at, dag_at}
 use Rattle.echo_tables.specs.Found.{Entries}
 use Rattle.echo_tables.specs.Asked.{Marked}
 use Rattle.echo_decls.specs.Declarable.{Declarable}

@@ -4,7 +4,7 @@
 #![tactic(auto)]
 
 ghost use Rattle.std.specs.Prelude.{◌≡◌};
-ghost use Rattle.lent.specs.Lent.{problem_at};
+ghost use Rattle.lent.specs.Arrays.{problem_at};
 ghost use Rattle.echo_bytes.specs.Page.{page, start, written};
 ghost use Rattle.echo_spec.specs.Input.{query_of};
 ghost use Rattle.lent.specs.Clearing.{Zeros};

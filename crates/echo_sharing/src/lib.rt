@@ -13,7 +13,7 @@ ghost use Rattle.lent.specs.Records.{node_of};
 ghost use Rattle.echo_sharing.specs.Counts.{bumped, counted, once_in};
 ghost use Rattle.echo_sharing.specs.Flags.{Flags, SharedIn};
 
-use blast_kernel::{
+use blast_kernel::codes::{
     BINARY, CALL, COMPARISON, CONCAT, CONNECTIVE, CONST, EXTENSION, EXTRACTION, ITE, NEGATION,
     ROTATION, SELECT, UNARY, VAR,
 };
@@ -105,7 +105,7 @@ fn bump_select(uses: &mut [u8], side: &[u64], index: u64, s: u64, n: u64)
 fn bump_node(uses: &mut [u8], side: &[u64], node: Node)
     ensures { uses.new ≡ counted uses.old (uses_as side.now (node_of node) (shape (node_of node))) }
 {
-    let s = blast_kernel::shape(node.kind);
+    let s = blast_kernel::codes::shape(node.kind);
     match s {
         VAR => {}
         CONST => {}
@@ -149,7 +149,7 @@ fn count_roots(uses: &mut [u8], roots: &[u64])
 fn is_leaf(kind: u8) -> bool
     ensures { result ≡ is_leaf (shape_of kind) }
 {
-    let s = blast_kernel::shape(kind);
+    let s = blast_kernel::codes::shape(kind);
     match s {
         VAR => true,
         CONST => true,

@@ -4,7 +4,8 @@
 ghost use Rattle.std.specs.Prelude.{◌≡◌, []};
 ghost use Rattle.echo_spec.specs.Input.{query_of};
 ghost use Rattle.echo_spec.specs.Answers.{script, endless_refusal};
-ghost use Rattle.lent.specs.Lent.{problem_at, problem_of};
+ghost use Rattle.lent.specs.Arrays.{problem_at};
+ghost use Rattle.lent.specs.Lent.{problem_of};
 ghost use Rattle.echo_bytes.specs.Page.{page, start};
 ghost use Rattle.echo_script.specs.Scripts.{plain_script, tables_refusal};
 ghost use Rattle.echo_script.specs.Outcomes.{Wrote};

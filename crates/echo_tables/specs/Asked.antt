@@ -27,7 +27,7 @@ use Rattle.echo_spec.specs.Input.{Node, shape, no_node, nodes_of, Dag, aname_tab
 use Rattle.echo_spec.specs.Widths.{width_at, ext_wf_of}
 use Rattle.echo_spec.specs.Tables.{find_node, find_call}
 use Rattle.echo_spec.specs.Walk.{variable_ok, rotation_ok, args_match, call_ok, asked_as}
-use Rattle.lent.specs.Lent.{Slice, problem_at, dag_at}
+use Rattle.lent.specs.Arrays.{Slice, problem_at, dag_at}
 use Rattle.lent.specs.Clearing.{Zeros}
 use Rattle.blast_kernel.specs.Codes.{code_of}
 use Rattle.echo_tables.specs.declared.Found.{Found}

@@ -32,7 +32,7 @@ use Rattle.echo_spec.specs.Widths.{index_width_of, value_width_of, ext_wf_of}
 use Rattle.echo_spec.specs.NodeLaws.{Pairs, Formed}
 use Rattle.echo_spec.proofs.NodeLaws.{facts}
 use Rattle.echo_spec.specs.Walk.{asked_as, asked, Operand, vector, levels, walk_all, sort_ok, walk}
-use Rattle.lent.specs.Lent.{Slice, problem_at, dag_at}
+use Rattle.lent.specs.Arrays.{Slice, problem_at, dag_at}
 use Rattle.blast_kernel.specs.Codes.{code_of, code-small}
 use Rattle.echo_tables.specs.declared.Form.{Form}
 use Rattle.echo_tables.specs.declared.Form.TheVariants.{Leaf, One, Two, Choice, Chain, Arguments}

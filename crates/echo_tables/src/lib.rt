@@ -11,7 +11,7 @@ ghost use Rattle.echo_spec.specs.Refusals.{◌or_else◌};
 ghost use Rattle.echo_spec.specs.Tables.{arguments_inside};
 ghost use Rattle.echo_spec.specs.Trees.{bits_value};
 ghost use Rattle.echo_spec.specs.Walk.{args_match, variable_ok, rotation_ok, call_ok, asked_as, vector, levels, walk_all, sort_ok, walk, walk_roots};
-ghost use Rattle.lent.specs.Lent.{problem_at, dag_at};
+ghost use Rattle.lent.specs.Arrays.{problem_at, dag_at};
 ghost use Rattle.lent.specs.Records.{node_of};
 ghost use Rattle.blast_kernel.specs.Codes.{code_of};
 ghost use Rattle.echo_tables.specs.Found.{found_of, entered, Entries, Calls};
@@ -21,7 +21,7 @@ ghost use Rattle.echo_tables.specs.Refused.{refused_at};
 ghost use Rattle.echo_tables.specs.Asked.{Lookups, code_for, Marked, Markable, Marking, Refusable};
 ghost use Rattle.echo_tables.specs.Uses.{bool_number, use_of, FormInside};
 
-use blast_kernel::{
+use blast_kernel::codes::{
     BINARY, CALL, COMPARISON, CONCAT, CONNECTIVE, CONST, EXTENSION, EXTRACTION, ITE, NEGATION,
     ROTATION, SELECT, UNARY, VAR, shape,
 };

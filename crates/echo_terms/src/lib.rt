@@ -84,7 +84,7 @@ fn node_terms(t: &[u64], side: &[u64], n: Node) -> u64
     requires { FormInside side.now (form_as (node_of n) (input.shape (node_of n))) }
     ensures { result ≡ form_sum t.now 1 side.now (form_as (node_of n) (input.shape (node_of n))) }
 {
-    form_sum(t, 1, side, operands(blast_kernel::shape(n.kind), n))
+    form_sum(t, 1, side, operands(blast_kernel::codes::shape(n.kind), n))
 }
 
 // The terms of the roots' trees, together. Ruled out: a leaf that is entered twice counted once; a rotation's amount counted; a store

@@ -44,7 +44,7 @@ use Rattle.echo_tables.specs.declared.Found.{Found}
 use Rattle.echo_tables.specs.declared.Found.TheVariants.{At, Nothing}
 use Rattle.echo_tables.specs.Found.{found_of, entered, entered-found}
 use Rattle.echo_spec.specs.ColumnLaws.{Aligned}
-use Rattle.lent.specs.Lent.{Slice, problem_at, dag_at}
+use Rattle.lent.specs.Arrays.{Slice, problem_at, dag_at}
 use Rattle.echo_names.specs.NameTables.{length-names_of, get_or-names_of}
 use Rattle.echo_lines.specs.Heads.{repeated, call_head}
 use Rattle.echo_bytes.specs.Page.{Page, written}

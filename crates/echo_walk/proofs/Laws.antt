@@ -15,7 +15,7 @@ use Rattle.echo_spec.proofs.NodeLaws.{facts}
 use Rattle.echo_spec.specs.Walk.{asked, Operand, walk_all, walk}
 use Rattle.echo_spec.specs.Accepted.{or_else-passed}
 use Rattle.blast_kernel.specs.Codes.{code_of, code-small, shape_coded, coded-back}
-use Rattle.lent.specs.Lent.{Slice, problem_at, dag_at}
+use Rattle.lent.specs.Arrays.{Slice, problem_at, dag_at}
 use Rattle.lent.specs.Records.{nodes-length, nodes-at}
 use Rattle.echo_bytes.specs.declared.Place.{Place}
 use Rattle.echo_bytes.specs.Page.{Page, page, written}

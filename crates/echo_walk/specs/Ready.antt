@@ -10,7 +10,7 @@ use Rattle.echo_spec.specs.Tables.{find_node}
 use Rattle.echo_spec.specs.Walk.{asked_as, asked}
 use Rattle.echo_spec.specs.Render.{symbol_of, operator_text}
 use Rattle.echo_spec.specs.ColumnLaws.{Aligned}
-use Rattle.lent.specs.Lent.{Slice, slot, problem_at, dag_at}
+use Rattle.lent.specs.Arrays.{Slice, slot, problem_at, dag_at}
 use Rattle.echo_tables.specs.Found.{or_zero}
 use Rattle.echo_lines.specs.Symbols.{symbol_table}
 use Rattle.blast_kernel.specs.Codes.{code_of}

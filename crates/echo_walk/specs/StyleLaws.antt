@@ -32,7 +32,7 @@ use Rattle.echo_spec.specs.Trees.{constant_bits, amount_of, variable_name, trees
 use Rattle.echo_spec.specs.Walk.{operands_as}
 use Rattle.echo_spec.specs.Render.{symbol_of, binary_digits, quoted, operator_text, call_text, term, terms, stores}
 use Rattle.echo_lines.specs.Heads.{repeated, call_head}
-use Rattle.lent.specs.Lent.{Slice, problem_at, dag_at}
+use Rattle.lent.specs.Arrays.{Slice, problem_at, dag_at}
 use Rattle.echo_tables.specs.declared.Form.{Form}
 use Rattle.echo_tables.specs.declared.Form.TheVariants.{Leaf, One, Two, Choice, Chain, Arguments}
 use Rattle.echo_tables.specs.Forms.{call_form, form_as, form-operands}

@@ -17,7 +17,7 @@ ghost use Rattle.echo_spec.specs.Input.{shape as «shape_of», no_node, nodes_of
 ghost use Rattle.echo_spec.specs.Trees.{bits_value, constant_bits};
 ghost use Rattle.echo_spec.specs.Render.{symbol_of, binary_digits};
 ghost use Rattle.blast_kernel.specs.Codes.{code_of};
-ghost use Rattle.lent.specs.Lent.{problem_at, dag_at};
+ghost use Rattle.lent.specs.Arrays.{problem_at, dag_at};
 ghost use Rattle.lent.specs.Records.{node_of};
 ghost use Rattle.echo_bytes.specs.Page.{page, written};
 ghost use Rattle.echo_tables.specs.Forms.{form_as};
@@ -42,7 +42,7 @@ ghost use Rattle.echo_walk.specs.Ready.{
   TermAt,
 };
 
-use blast_kernel::{
+use blast_kernel::codes::{
     BINARY, CALL, COMPARISON, CONCAT, CONNECTIVE, CONST, EXTENSION, EXTRACTION, ITE, NEGATION,
     ROTATION, SELECT, UNARY, VAR,
 };

@@ -2,7 +2,8 @@
 #![tactic(auto)]
 
 ghost use Rattle.std.specs.Prelude.{◌≡◌, ◌<◌, length};
-ghost use Rattle.lent.specs.Lent.{problem_at, dag_at, problem_of};
+ghost use Rattle.lent.specs.Arrays.{problem_at, dag_at};
+ghost use Rattle.lent.specs.Lent.{problem_of};
 ghost use Rattle.echo_tables.specs.Asked.{Refusable};
 ghost use Rattle.echo_script.specs.Prepared.{WellFormed};
 ghost use Rattle.fewest.specs.Fewest.{fewest_roots_answer};

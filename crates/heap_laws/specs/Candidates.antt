@@ -3,7 +3,7 @@
 use Prim.Native.Nat.{ℕ, zero, suc, ◌+◌, ◌*◌, ◌-◌, ◌/◌, ◌%◌, ◌≤◌, ◌<◌}
 use Rattle.std.specs.Prelude.{◌≡◌, refl, false, not, T, eqb, drop, get_or, set}
 use Rattle.std.proofs.Math.Path.{ap, sym}
-use Rattle.std.proofs.Common.{◌∙◌, subst, arith, add-one, eqb→eq, length-append, length-drop, length-take-le, take_all, take-take, drop-cons, get_or-take, get_or-drop, ext_get_or}
+use Rattle.std.proofs.Common.{◌∙◌, subst, arith, add-one, eqb→eq, length-append, length-drop, length-take-le, take_all, drop-cons, drop_of_length-le, get_or-take, get_or-drop, ext_get_or}
 use mathlib.Core.List.{List, [], ◌∷◌, ◌++◌, append_assoc, append-nil}
 use Rattle.std.proofs.Math.Option.{some}
 use Rattle.std.proofs.Math.ListN.{length, take, get_elem?}
@@ -15,50 +15,39 @@ use Rattle.readback.specs.Reader.{up_to}
 use Rattle.readback.specs.Rebuild.{Item, a_constant, low_bits, bits_in, joined}
 use Rattle.reader_laws.specs.TermsStrict.{up-to-fails}
 use Rattle.script_tokens.specs.Reached.{between, ends_digits}
-use Rattle.heap_laws.specs.Heap.{bits_size, start_at, length_at, hash_from, hash_of, bits_at, Held}
+use Rattle.heap_laws.specs.Heap.{bits_size, constant_at, hash_from, hash_of, bits_at, Held}
+use Rattle.heap_laws.specs.declared.Heap.{Heap}
 use Rattle.heap_laws.specs.Filled.{filled, filled_none, filled_more}
 use Rattle.heap_laws.specs.Within.{within-parts}
 
 -- ---------------------------------------------------------------- hashes
 
 -- at each turn the hash so far goes on over the bits that are left
-pub hash-more : (l : List ℕ) (h at m i : ℕ) → i < m → at + m ≤ length l
-    → hash_from h (take (m - i) (drop (at + i) l)) ≡ hash_from ((h * 2 + get_or l (at + i) 0) % 281474976710656) (take (m - (i + 1)) (drop (at + (i + 1)) l))
+pub hash-more : (l : List ℕ) (h i : ℕ) → i < length l → hash_from ((h * 2 + get_or l i 0) % 281474976710656) (drop (i + 1) l) ≡ hash_from h (drop i l)
 unfolding hash_from
-hash-more l h at m i k r =
-    let e : m - i ≡ suc (m - (i + 1)) = omega arith in
-    let f : suc (at + i) ≡ at + (i + 1) = omega arith in
-    ap (λ (n : ℕ). hash_from h (take n (drop (at + i) l))) e
-    ∙ ap (λ (y : List ℕ). hash_from h (take (suc (m - (i + 1))) y)) (drop-cons l (at + i) 0 (omega arith))
-    ∙ ap (λ (n : ℕ). hash_from ((h * 2 + get_or l (at + i) 0) % 281474976710656) (take (m - (i + 1)) (drop n l))) f
+hash-more l h i k =
+    ap (λ (n : ℕ). hash_from ((h * 2 + get_or l i 0) % 281474976710656) (drop n l)) (add-one i) ∙ sym (ap (hash_from h) (drop-cons l i 0 k))
 
-pub hash-start : (l : List ℕ) (at m : ℕ) → hash_from 0 (take m (drop at l)) ≡ hash_from 0 (take (m - 0) (drop (at + 0) l))
-hash-start l at m =
-    let e : m ≡ m - 0 = omega arith in
-    let f : at ≡ at + 0 = omega arith in
-    λ i. hash_from 0 (take (e i) (drop (f i) l))
-
-pub hash-end : (l : List ℕ) (h at m i : ℕ) → m ≤ i → hash_from h (take (m - i) (drop (at + i) l)) ≡ h
+pub hash-end : (l : List ℕ) (h i : ℕ) → length l ≤ i → hash_from h (drop i l) ≡ h
 unfolding hash_from
-hash-end l h at m i k =
-    let e : m - i ≡ 0 = omega arith in
-    ap (λ (n : ℕ). hash_from h (take n (drop (at + i) l))) e
+hash-end l h i k = ap (hash_from h) (drop_of_length-le l k)
 
-module _ (l : List ℕ) (at w : ℕ) (long : at + w ≤ length l) where
-  part-long : length (take w (drop at l)) ≡ w
-  part-long = length-take-le w (drop at l) (omega (arith, length-drop at l))
+pub hash-whole : (l : List ℕ) {h : ℕ} → length l ≤ 48 → h ≡ hash_from 0 l → (h + length l) % 4093 ≡ hash_of l
+unfolding hash_of
+hash-whole l k e = (λ i. (e i + length l) % 4093) ∙ ap (λ (q : List ℕ). (hash_from 0 q + length l) % 4093) (sym (take_all 48 l k))
 
-  pub hash-whole : w ≤ 48 → {h : ℕ} → h ≡ hash_from 0 (take w (drop at l)) → (h + w) % 4093 ≡ hash_of (take w (drop at l))
-  unfolding hash_of
-  hash-whole k {h} e =
-      let p : List ℕ = take w (drop at l) in
-      (λ i. (e i + sym part-long i) % 4093) ∙ ap (λ (q : List ℕ). (hash_from 0 q + length p) % 4093) (sym (take_all 48 p (omega (arith, part-long))))
+pub hash-front : (l : List ℕ) {h : ℕ} → h ≡ hash_from 0 (take 48 l) → (h + length l) % 4093 ≡ hash_of l
+unfolding hash_of
+hash-front l e = λ i. (e i + length l) % 4093
 
-  pub hash-front : 48 < w → {h : ℕ} → h ≡ hash_from 0 (take 48 (drop at l)) → (h + w) % 4093 ≡ hash_of (take w (drop at l))
-  unfolding hash_of
-  hash-front k {h} e =
-      let p : List ℕ = take w (drop at l) in
-      (λ i. (e i + sym part-long i) % 4093) ∙ ap (λ (q : List ℕ). (hash_from 0 q + length p) % 4093) (sym (take-take 48 w (drop at l) (omega arith)))
+-- a part of the bits
+part-long : (l : List ℕ) (at w : ℕ) → at + w ≤ length l → length (take w (drop at l)) ≡ w
+part-long l at w long = length-take-le w (drop at l) (omega (arith, length-drop at l))
+
+pub part_at : (l : List ℕ) (at w : ℕ) → take (at + w - at) (drop at l) ≡ take w (drop at l)
+part_at l at w =
+    let e : at + w - at ≡ w = omega arith in
+    ap (λ (n : ℕ). take n (drop at l)) e
 
 -- ---------------------------------------------------------------- comparisons
 
@@ -74,24 +63,24 @@ pub parts-apart : (l : List ℕ) (a b w j : ℕ) → j < w → (get_or l (a + j)
 parts-apart l a b w j h f e =
     f (sym (get_or-drop a l j 0) ∙ sym (get_or-take w (drop a l) j 0 h) ∙ ap (λ (y : List ℕ). get_or y j 0) e ∙ get_or-take w (drop b l) j 0 h ∙ get_or-drop b l j 0)
 
-module _ {heap nodes bits : List ℕ} {s : List Item} (h : Held heap nodes bits s) (k : ℕ) (ds : List ℕ) (e : get_elem? s k ≡ some (a_constant ds)) where
+module _ {heap : Heap} {s : List Item} (h : Held heap s) (k : ℕ) (ds : List ℕ) (e : get_elem? s k ≡ some (a_constant ds)) where
   pub node-small : k < 2048
   node-small = omega (arith, at_less s k (a_constant ds) e, (within-parts s h.inside).nodes)
 
-  pub start_small : get_or heap (start_at + k) 0 + length ds ≤ 131072
+  pub start_small : (constant_at heap.constants k).start + length ds ≤ 131072
   start_small = omega (arith, (h.constants k ds e).end, (within-parts s h.inside).bits)
 
-  pub length-is : get_or heap (length_at + k) 0 ≡ length ds
+  pub length-is : (constant_at heap.constants k).width ≡ length ds
   length-is = (h.constants k ds e).size
 
   -- its bits stand where its cells say
-  pub bits_are : take (length ds) (drop (get_or heap (start_at + k) 0) bits) ≡ ds
+  pub bits_are : take (length ds) (drop (constant_at heap.constants k).start heap.bits) ≡ ds
   bits_are =
-      let p : ℕ = get_or heap (start_at + k) 0 in
+      let p : ℕ = (constant_at heap.constants k).start in
       let n : ℕ = length (joined bits_in s) in
       let m : p + length ds ≤ n = (h.constants k ds e).end in
-      let c : n ≤ length bits = omega (arith, h.bits-long, (within-parts s h.inside).bits) in
-      sym (front bits n p (length ds) c m) ∙ ap (λ (y : List ℕ). take (length ds) (drop p y)) h.bits_held ∙ (h.constants k ds e).bits
+      let c : n ≤ length heap.bits = omega (arith, h.bits-long, (within-parts s h.inside).bits) in
+      sym (front heap.bits n p (length ds) c m) ∙ ap (λ (y : List ℕ). take (length ds) (drop p y)) h.bits_held ∙ (h.constants k ds e).bits
     where
       front : (l : List ℕ) (n p w : ℕ) → n ≤ length l → p + w ≤ n → take w (drop p (take n l)) ≡ take w (drop p l)
       front l n p w c m =
@@ -103,15 +92,15 @@ module _ {heap nodes bits : List ℕ} {s : List Item} (h : Held heap nodes bits 
               get_or-take w (drop p (take n l)) i 0 g ∙ get_or-drop p (take n l) i 0 ∙ get_or-take n l (p + i) 0 (omega arith) ∙ sym (get_or-drop p l i 0) ∙ sym (get_or-take w (drop p l) i 0 g)
 
   -- compared with a part of the bits
-  pub compared : (at w : ℕ) → get_or heap (length_at + k) 0 ≡ w → take w (drop (get_or heap (start_at + k) 0) bits) ≡ take w (drop at bits) → ds ≡ take w (drop at bits)
-  compared at w z f = sym bits_are ∙ ap (λ (n : ℕ). take n (drop (get_or heap (start_at + k) 0) bits)) (sym length-is ∙ z) ∙ f
+  pub compared : (at w : ℕ) → (constant_at heap.constants k).width ≡ w → take w (drop (constant_at heap.constants k).start heap.bits) ≡ take w (drop at heap.bits) → ds ≡ take w (drop at heap.bits)
+  compared at w z f = sym bits_are ∙ ap (λ (n : ℕ). take n (drop (constant_at heap.constants k).start heap.bits)) (sym length-is ∙ z) ∙ f
 
-  pub compared-apart : (at w : ℕ) → get_or heap (length_at + k) 0 ≡ w → (take w (drop (get_or heap (start_at + k) 0) bits) ≡ take w (drop at bits) → ⊥) → ds ≡ take w (drop at bits) → ⊥
-  compared-apart at w z f g = f (ap (λ (n : ℕ). take n (drop (get_or heap (start_at + k) 0) bits)) (sym z ∙ length-is) ∙ bits_are ∙ g)
+  pub compared-apart : (at w : ℕ) → (constant_at heap.constants k).width ≡ w → (take w (drop (constant_at heap.constants k).start heap.bits) ≡ take w (drop at heap.bits) → ⊥) → ds ≡ take w (drop at heap.bits) → ⊥
+  compared-apart at w z f g = f (ap (λ (n : ℕ). take n (drop (constant_at heap.constants k).start heap.bits)) (sym z ∙ length-is) ∙ bits_are ∙ g)
 
   -- of another length
-  pub length-apart : (at w : ℕ) → at + w ≤ bits_size → (get_or heap (length_at + k) 0 ≡ w → ⊥) → ds ≡ take w (drop at bits) → ⊥
-  length-apart at w m f g = f (length-is ∙ ap length g ∙ part-long bits at w (omega (arith, h.bits-long)))
+  pub length-apart : (at w : ℕ) → at + w ≤ bits_size → ((constant_at heap.constants k).width ≡ w → ⊥) → ds ≡ take w (drop at heap.bits) → ⊥
+  length-apart at w m f g = f (length-is ∙ ap length g ∙ part-long heap.bits at w (omega (arith, h.bits-long)))
 
 -- ---------------------------------------------------------------- bits from digits
 

@@ -7,7 +7,9 @@ use Rattle.std.proofs.lemmas.List.{take-append-le, drop-append-le}
 use Rattle.lists.specs.Tests.{same→eq}
 use Rattle.lists.specs.Places.{at_less, at-exists, at-append, at_snoc, one_place, find_at, find-append}
 use Rattle.readback.specs.Rebuild.{Item, a_variable, a_constant, an_operator, a_select, a_call, is_constant, find_constant, bits_in, joined}
-use Rattle.heap_laws.specs.Heap.{hash_of, head_found_at, chain_at, start_at, length_at, Latest, Kept, Held}
+use Rattle.heap_laws.specs.Heap.{hash_of, constant_at, Latest, Kept, Held}
+use Rattle.heap_laws.specs.declared.Constant.{Constant}
+use Rattle.heap_laws.specs.declared.Heap.{Heap}
 use Rattle.heap_laws.specs.Within.{joined-append}
 
 -- ---------------------------------------------------------------- places of a longer list
@@ -54,11 +56,9 @@ latest-new s bs =
 -- ---------------------------------------------------------------- a constant's cells
 
 -- the same cells, and more nodes
-pub kept-grows : (heap heap' : List ℕ) (s t : List Item) (i : ℕ) (bs : List ℕ) → i < length s
-    → get_or heap' (start_at + i) 0 ≡ get_or heap (start_at + i) 0 → get_or heap' (length_at + i) 0 ≡ get_or heap (length_at + i) 0 → get_or heap' (chain_at + i) 0 ≡ get_or heap (chain_at + i) 0
-    → Kept heap s i bs → Kept heap' (s ++ t) i bs
-kept-grows heap heap' s t i bs l e f g k =
-    let p : ℕ = get_or heap (start_at + i) 0 in
+pub kept-grows : (cs cs' : List Constant) (s t : List Item) (i : ℕ) (bs : List ℕ) → i < length s → constant_at cs' i ≡ constant_at cs i → Kept cs s i bs → Kept cs' (s ++ t) i bs
+kept-grows cs cs' s t i bs l e k =
+    let p : ℕ = (constant_at cs i).start in
     let xs : List ℕ = joined bits_in s in
     let j : joined bits_in (s ++ t) ≡ xs ++ joined bits_in t = joined-append bits_in s t in
     let n : length (joined bits_in (s ++ t)) ≡ length xs + length (joined bits_in t) = ap length j ∙ length-append xs (joined bits_in t) in
@@ -68,10 +68,10 @@ kept-grows heap heap' s t i bs l e f g k =
     let b : take (length bs) (drop p (joined bits_in (s ++ t))) ≡ bs =
     ap (λ (y : List ℕ). take (length bs) (drop p y)) j ∙ ap (take (length bs)) d ∙ take-append-le (length bs) (drop p xs) (joined bits_in t) m ∙ k.bits in
     record {
-      end = omega (arith, e, n, low);
-      size = f ∙ k.size;
-      bits = ap (λ (q : ℕ). take (length bs) (drop q (joined bits_in (s ++ t)))) e ∙ b;
-      chain = subst (Latest (hash_of bs) (s ++ t) i) (sym g) (latest-grows (hash_of bs) s t i (get_or heap (chain_at + i) 0) (omega arith) k.chain);
+      end = omega (arith, ap (λ (x : Constant). x.start) e, n, low);
+      size = ap (λ (x : Constant). x.width) e ∙ k.size;
+      bits = ap (λ (x : Constant). take (length bs) (drop x.start (joined bits_in (s ++ t)))) e ∙ b;
+      chain = subst (λ (x : Constant). Latest (hash_of bs) (s ++ t) i x.before) (sym e) (latest-grows (hash_of bs) s t i (constant_at cs i).before (omega arith) k.chain);
       first = find-append (is_constant bs) 0 s t i k.first;
     }
 
@@ -90,13 +90,13 @@ pub record Sought (s : List Item) (bs : List ℕ) (c : ℕ) : Type 0 where
   pub before : (j : ℕ) → get_elem? s j ≡ some (a_constant bs) → j < c
   pub own : (k : ℕ) → c ≡ k + 1 → (k < length s) × (ds : List ℕ) × (get_elem? s k ≡ some (a_constant ds)) × (hash_of ds ≡ hash_of bs)
 
-module _ {heap nodes bits : List ℕ} {s : List Item} (h : Held heap nodes bits s) (bs : List ℕ) where
-  pub sought-first : hash_of bs < 4096 → Sought s bs (get_or heap (head_found_at + hash_of bs) 0)
+module _ {heap : Heap} {s : List Item} (h : Held heap s) (bs : List ℕ) where
+  pub sought-first : hash_of bs < 4096 → Sought s bs (get_or heap.heads (hash_of bs) 0)
   sought-first l =
       let k = h.heads (hash_of bs) l in
       record { before = λ j e. k.all j bs (at_less s j (a_constant bs) e) e refl; own = k.own }
 
-  pub sought-next : (k : ℕ) → Sought s bs (k + 1) → (get_elem? s k ≡ some (a_constant bs) → ⊥) → Sought s bs (get_or heap (chain_at + k) 0)
+  pub sought-next : (k : ℕ) → Sought s bs (k + 1) → (get_elem? s k ≡ some (a_constant bs) → ⊥) → Sought s bs (constant_at heap.constants k).before
   sought-next k w f =
       let (l, ds, e, q) = w.own k refl in
       let chain = (h.constants k ds e).chain in
@@ -109,10 +109,10 @@ module _ {heap nodes bits : List ℕ} {s : List Item} (h : Held heap nodes bits 
       }
 
   -- the chain goes down
-  pub sought-less : (k : ℕ) → Sought s bs (k + 1) → get_or heap (chain_at + k) 0 ≤ k
+  pub sought-less : (k : ℕ) → Sought s bs (k + 1) → (constant_at heap.constants k).before ≤ k
   sought-less k w =
       let (l, ds, e, q) = w.own k refl in
-      by-cell (get_or heap (chain_at + k) 0) (λ j m. ((h.constants k ds e).chain.own j m).0)
+      by-cell (constant_at heap.constants k).before (λ j m. ((h.constants k ds e).chain.own j m).0)
     where
       by-cell : (c : ℕ) → ((j : ℕ) → c ≡ j + 1 → j < k) → c ≤ k
       by-cell zero own = omega arith

@@ -2,7 +2,7 @@
 use Prim.Native.Nat.{ℕ, suc, ◌+◌, ◌*◌, ◌-◌, ◌≤◌, ◌<◌}
 use Rattle.std.specs.Prelude.{◌≡◌, List, [], ◌∷◌, ◌++◌, map, false, length, drop, set}
 use Rattle.std.proofs.Math.Path.{ap}
-use Rattle.std.proofs.Common.{sym, ◌∙◌, subst, append_assoc, append-nil, inr, arith, add-one, length-append, take-append-drop, drop_of_length-le, length-take-le, take_all, get_or-drop}
+use Rattle.std.proofs.Common.{sym, ◌∙◌, subst, append_assoc, append-nil, arith, add-one, length-append, length-set, take-append-drop, drop_of_length-le, length-take-le, take_all, get_or-drop}
 use Rattle.std.proofs.lemmas.List.{map-append, length-map}
 use Rattle.std.proofs.Math.Option.{some}
 use Rattle.std.proofs.Math.ListN.{take, get_or, get_elem?, length-drop}
@@ -10,8 +10,9 @@ use Rattle.std.proofs.Math.Seq.{take-suc, drop-cons}
 use Rattle.lists.specs.Places.{Grows, at-seam}
 use Rattle.readback.specs.Rebuild.{Item, with_constants, Ref, here, node_of}
 use Rattle.rebuilt.specs.Constants.{with-constants-grows, with-constants-has}
-use Rattle.heap_laws.specs.Heap.{within, heap_size, stack_at, stack_size, top_in, stack_in, ref_at, pending_in, settled, Held, Stacked}
-use Rattle.heap_laws.specs.Adding.{held-set}
+use Rattle.heap_laws.specs.Heap.{within, stack_size, ref_at, pending_in, settled, Held, Stacked}
+use Rattle.heap_laws.specs.declared.Heap.{Heap}
+use Rattle.heap_laws.specs.Adding.{held-stack}
 use Rattle.heap_laws.specs.Settling.{with-constants-append, pending-append, settled-grows, over-part}
 use Rattle.heap_laws.specs.Stacks.{ref-node, stacked-same, stacked-at, stacked-set}
 
@@ -24,24 +25,24 @@ abbrev pub reached : List Item → List Ref → ℕ → ℕ → List Item
 reached s refs base i = with_constants (pending_in (done_to refs base i)) s
 
 -- up to place i each operand is a node, with the constants among them placed
-pub record Going (script heap nodes bits : List ℕ) (s : List Item) (refs : List Ref) (base i : ℕ) : Type 0 where
+pub record Going (script : List ℕ) (heap : Heap) (s : List Item) (refs : List Ref) (base i : ℕ) : Type 0 where
   pub low : base ≤ i
-  pub held : Held heap nodes bits (reached s refs base i)
+  pub held : Held heap (reached s refs base i)
   pub stacked : Stacked script heap (take base refs ++ (settled (reached s refs base i) (done_to refs base i) ++ drop i refs))
 
-pub going-none : (script : List ℕ) {heap nodes bits : List ℕ} {s : List Item} {refs : List Ref} (base : ℕ) → Held heap nodes bits s → Stacked script heap refs → Going script heap nodes bits s refs base base
+pub going-none : (script : List ℕ) {heap : Heap} {s : List Item} {refs : List Ref} (base : ℕ) → Held heap s → Stacked script heap refs → Going script heap s refs base base
 unfolding pending_in with_constants
-going-none script {heap} {nodes} {bits} {s} {refs} base h w =
+going-none script {heap} {s} {refs} base h w =
     let z : base - base ≡ 0 = omega arith in
     let d : done_to refs base base ≡ [] = ap (λ (k : ℕ). take k (drop base refs)) z in
     let e : reached s refs base base ≡ s = ap (λ (l : List Ref). with_constants (pending_in l) s) d in
     record {
       low = omega arith;
-      held = subst (Held heap nodes bits) (sym e) h;
+      held = subst (Held heap) (sym e) h;
       stacked = subst (Stacked script heap) (sym ((λ i. take base refs ++ (settled (e i) (d i) ++ drop base refs)) ∙ take-append-drop base refs)) w;
     }
 
-module _ (script : List ℕ) {heap nodes bits : List ℕ} {s : List Item} {refs : List Ref} {base i : ℕ} (g : Going script heap nodes bits s refs base i) where
+module _ (script : List ℕ) {heap : Heap} {s : List Item} {refs : List Ref} {base i : ℕ} (g : Going script heap s refs base i) where
   abbrev done : List Ref
   done = done_to refs base i
 
@@ -71,7 +72,7 @@ module _ (script : List ℕ) {heap nodes bits : List ℕ} {s : List Item} {refs 
     waiting = subst (Stacked script heap) (sym (append_assoc (take base refs) (settled t done) (drop i refs)) ∙ ap (λ (q : List Ref). front ++ q) rest) g.stacked
 
     -- what stands at the place is the operand
-    pub going-ref : ref_at script (get_or heap (stack_at + i) 0) ≡ next-ref
+    pub going-ref : ref_at script (get_or heap.stack i 0) ≡ next-ref
     going-ref =
         stacked-at script waiting i next-ref
         (subst (λ (k : ℕ). get_elem? (front ++ (next-ref ∷ drop (suc i) refs)) k ≡ some next-ref) front_long (at-seam front next-ref (drop (suc i) refs)))
@@ -101,43 +102,43 @@ module _ (script : List ℕ) {heap nodes bits : List ℕ} {s : List Item} {refs 
         ∙ over-part (pending_in (done_to refs base (i + 1))) (pending_in (drop a (drop base refs))) s f
 
     -- with this operand they are held
-    pub going_more : {heap' nodes' bits' : List ℕ} (x : Ref) (m : ℕ) → x ≡ next-ref → m ≡ node_of (with_constants (pending_in (x ∷ [])) t) x → Held heap' nodes' bits' (with_constants (pending_in (x ∷ [])) t)
-        → top_in heap' ≡ top_in heap → stack_in heap' ≡ stack_in heap → Going script (set heap' (stack_at + i) (2 * m)) nodes' bits' s refs base (i + 1)
-    going_more {heap'} {nodes'} {bits'} x m q e h a b =
+    pub going_more : {heap' : Heap} (x : Ref) (m : ℕ) → x ≡ next-ref → m ≡ node_of (with_constants (pending_in (x ∷ [])) t) x → Held heap' (with_constants (pending_in (x ∷ [])) t)
+        → heap'.top ≡ heap.top → heap'.stack ≡ heap.stack → Going script (record heap' { stack = set heap'.stack i (2 * m) }) s refs base (i + 1)
+    going_more {heap'} x m q e h a b =
         let u : List Item = reached s refs base (i + 1) in
         let z : with_constants (pending_in (x ∷ [])) t ≡ u = ap (λ (r : Ref). with_constants (pending_in (r ∷ [])) t) q ∙ sym reached-more in
-        let k : Held heap' nodes' bits' u = subst (Held heap' nodes' bits') z h in
+        let k : Held heap' u = subst (Held heap') z h in
         let n : m ≡ node_of u next-ref = e ∙ (λ j. node_of (z j) (q j)) in
         let grow : Grows t u = subst (Grows t) (sym reached-more) (with-constants-grows (pending_in (next-ref ∷ [])) t) in
         let old : settled u done ≡ settled t done = settled-grows t u grow done (with-constants-has (pending_in done) s) in
         let both : settled u (done_to refs base (i + 1)) ≡ settled t done ++ (here m ∷ []) =
         ap (settled u) done_more ∙ map-append (λ r. here (node_of u r)) done (next-ref ∷ []) ∙ (λ j. old j ++ (here (sym n j) ∷ [])) in
-        let w : Stacked script (set heap' (stack_at + i) (2 * m)) (front ++ (ref_at script (2 * m) ∷ drop (suc i) refs)) =
-        stacked-set script {heap = heap'} front next-ref (drop (suc i) refs) i (2 * m) k.heap_long front_long (stacked-same script waiting {heap' = heap'} a b) in
+        let w : Stacked script (record heap' { stack = set heap'.stack i (2 * m) }) (front ++ (ref_at script (2 * m) ∷ drop (suc i) refs)) =
+        stacked-set script {heap = heap'} front next-ref (drop (suc i) refs) i (2 * m) front_long (stacked-same script waiting {heap' = heap'} a b) in
         let f : front ++ (ref_at script (2 * m) ∷ drop (suc i) refs) ≡ take base refs ++ (settled u (done_to refs base (i + 1)) ++ drop (i + 1) refs) =
         (λ j. front ++ (ref-node script m j ∷ drop (sym (add-one i) j) refs))
         ∙ append_assoc (take base refs) (settled t done) (here m ∷ drop (i + 1) refs)
         ∙ ap (λ (y : List Ref). take base refs ++ y) (sym (append_assoc (settled t done) (here m ∷ []) (drop (i + 1) refs)) ∙ ap (λ (y : List Ref). y ++ drop (i + 1) refs) (sym both)) in
         record {
           low = omega (arith, g.low);
-          held = held-set (stack_at + i) (2 * m) (inr (omega arith)) k;
-          stacked = subst (Stacked script (set heap' (stack_at + i) (2 * m))) f w;
+          held = held-stack heap'.top (set heap'.stack i (2 * m)) (length-set heap'.stack i (2 * m)) k;
+          stacked = subst (Stacked script (record heap' { stack = set heap'.stack i (2 * m) })) f w;
         }
 
   -- after the last
-  pub going-all : length refs ≤ i → Held heap nodes bits (with_constants (pending_in (drop base refs)) s)
+  pub going-all : length refs ≤ i → Held heap (with_constants (pending_in (drop base refs)) s)
       × Stacked script heap (take base refs ++ settled (with_constants (pending_in (drop base refs)) s) (drop base refs))
   going-all l =
       let d : done ≡ drop base refs = take_all (i - base) (drop base refs) (omega (arith, length-drop base refs)) in
       let e : drop i refs ≡ [] = drop_of_length-le refs l in
       let z : t ≡ with_constants (pending_in (drop base refs)) s = ap (λ (q : List Ref). with_constants (pending_in q) s) d in (
-        subst (Held heap nodes bits) z g.held,
+        subst (Held heap) z g.held,
         subst (Stacked script heap) ((λ j. take base refs ++ (settled (z j) (d j) ++ e j)) ∙ ap (λ (y : List Ref). take base refs ++ y) (append-nil (settled (with_constants (pending_in (drop base refs)) s) (drop base refs)))) g.stacked,
       )
 
 -- whatever waits, it is some operands
-pub stacked-any : (script : List ℕ) {heap : List ℕ} → length heap ≡ heap_size → top_in heap ≤ stack_size → Stacked script heap (map (ref_at script) (take (top_in heap) (stack_in heap)))
+pub stacked-any : (script : List ℕ) {heap : Heap} → length heap.stack ≡ stack_size → heap.top ≤ stack_size → Stacked script heap (map (ref_at script) (take heap.top heap.stack))
 stacked-any script {heap} long l =
-    let k : length (take (top_in heap) (stack_in heap)) ≡ top_in heap = length-take-le (top_in heap) (stack_in heap) (omega (arith, length-drop stack_at heap)) in
-    let n : length (map (ref_at script) (take (top_in heap) (stack_in heap))) ≡ top_in heap = length-map (take (top_in heap) (stack_in heap)) (ref_at script) ∙ k in
-    record { room = omega arith; top = sym n; held = ap (λ (j : ℕ). map (ref_at script) (take j (stack_in heap))) n }
+    let k : length (take heap.top heap.stack) ≡ heap.top = length-take-le heap.top heap.stack (omega arith) in
+    let n : length (map (ref_at script) (take heap.top heap.stack)) ≡ heap.top = length-map (take heap.top heap.stack) (ref_at script) ∙ k in
+    record { room = omega arith; top = sym n; held = ap (λ (j : ℕ). map (ref_at script) (take j heap.stack)) n }

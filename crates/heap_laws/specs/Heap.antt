@@ -1,4 +1,4 @@
--- The nodes that are rebuilt so far, as three arrays hold them: the records, the bits, and an array of numbers by regions.
+-- The nodes that are rebuilt so far, as the arrays of `Heap` hold them.
 use Rattle.std.specs.Prelude.{ℕ, zero, suc, ◌+◌, ◌*◌, ◌/◌, ◌%◌, ◌≤◌, ◌<◌, ◌≡◌, List, [], ◌∷◌, map, Bool, true, false, ◌&&◌, T, eqb, length, take, drop, get_or}
 use Rattle.std.proofs.Math.Option.{some}
 use Rattle.std.proofs.Math.ListN.{get_elem?}
@@ -22,6 +22,8 @@ use Rattle.readback.specs.Rebuild.{
   records_from,
 }
 use Rattle.script_tokens.specs.Reached.{ends_digits}
+use Rattle.heap_laws.specs.declared.Constant.{Constant}
+use Rattle.heap_laws.specs.declared.Heap.{Heap}
 
 -- ---------------------------------------------------------------- limits
 
@@ -29,35 +31,14 @@ use Rattle.script_tokens.specs.Reached.{ends_digits}
 unfoldable pub within : List Item → Bool
 within s = every holdable (records_from 0 0 s) && nodes_within (records_bytes (records_from 0 0 s)) (joined bits_in s) (joined side_in s)
 
--- ---------------------------------------------------------------- the array of numbers
-
--- how many nodes, bits, side entries and waiting operands there are stands at places 0 to 3; the side entries follow
-abbrev pub side_at : ℕ
-side_at = 4
-
--- of a constant, by its node: where its bits start, how many it has, and the last constant before it with the same hash
-abbrev pub start_at : ℕ
-start_at = 8196
-
-abbrev pub length_at : ℕ
-length_at = 10244
-
-abbrev pub chain_at : ℕ
-chain_at = 12292
-
--- the last constant of each hash
-abbrev pub head_found_at : ℕ
-head_found_at = 14340
+-- ---------------------------------------------------------------- the arrays
 
 -- operands that wait for the term around them to end
-abbrev pub stack_at : ℕ
-stack_at = 18436
-
 abbrev pub stack_size : ℕ
 stack_size = 16384
 
-abbrev pub heap_size : ℕ
-heap_size = 34820
+abbrev pub side_size : ℕ
+side_size = 8192
 
 abbrev pub nodes_size : ℕ
 nodes_size = 34816
@@ -66,20 +47,9 @@ nodes_size = 34816
 abbrev pub bits_size : ℕ
 bits_size = 262144
 
-abbrev pub count_in : List ℕ → ℕ
-count_in heap = get_or heap 0 0
-
-abbrev pub bit_count_in : List ℕ → ℕ
-bit_count_in heap = get_or heap 1 0
-
-abbrev pub side_count_in : List ℕ → ℕ
-side_count_in heap = get_or heap 2 0
-
-abbrev pub top_in : List ℕ → ℕ
-top_in heap = get_or heap 3 0
-
-abbrev pub stack_in : List ℕ → List ℕ
-stack_in heap = drop stack_at heap
+-- what is known of a constant, by its node
+abbrev pub constant_at : List Constant → ℕ → Constant
+constant_at cs i = get_or cs i (record { start = 0; width = 0; before = 0 })
 
 -- ---------------------------------------------------------------- hashes of constants
 
@@ -100,26 +70,29 @@ pub record Latest (h : ℕ) (s : List Item) (i c : ℕ) : Type 0 where
 -- ---------------------------------------------------------------- what the arrays hold
 
 -- node i is the constant bs
-pub record Kept (heap : List ℕ) (s : List Item) (i : ℕ) (bs : List ℕ) : Type 0 where
-  pub end : get_or heap (start_at + i) 0 + length bs ≤ length (joined bits_in s)
-  pub size : get_or heap (length_at + i) 0 ≡ length bs
-  pub bits : take (length bs) (drop (get_or heap (start_at + i) 0) (joined bits_in s)) ≡ bs
-  pub chain : Latest (hash_of bs) s i (get_or heap (chain_at + i) 0)
+pub record Kept (cs : List Constant) (s : List Item) (i : ℕ) (bs : List ℕ) : Type 0 where
+  pub end : (constant_at cs i).start + length bs ≤ length (joined bits_in s)
+  pub size : (constant_at cs i).width ≡ length bs
+  pub bits : take (length bs) (drop (constant_at cs i).start (joined bits_in s)) ≡ bs
+  pub chain : Latest (hash_of bs) s i (constant_at cs i).before
   pub first : find_constant bs s ≡ some i
 
-pub record Held (heap nodes bits : List ℕ) (s : List Item) : Type 0 where
-  pub heap_long : length heap ≡ heap_size
-  pub nodes_long : length nodes ≡ nodes_size
-  pub bits-long : length bits ≡ bits_size
+pub record Held (heap : Heap) (s : List Item) : Type 0 where
+  pub side_long : length heap.side ≡ side_size
+  pub constants_long : length heap.constants ≡ 2048
+  pub heads_long : length heap.heads ≡ 4096
+  pub stack_long : length heap.stack ≡ stack_size
+  pub nodes_long : length heap.records ≡ nodes_size
+  pub bits-long : length heap.bits ≡ bits_size
   pub inside : T (within s)
-  pub count : count_in heap ≡ length s
-  pub bit_count : bit_count_in heap ≡ length (joined bits_in s)
-  pub side_count : side_count_in heap ≡ length (joined side_in s)
-  pub records : take (17 * length s) nodes ≡ records_bytes (records_from 0 0 s)
-  pub bits_held : take (length (joined bits_in s)) bits ≡ joined bits_in s
-  pub side_held : take (length (joined side_in s)) (drop side_at heap) ≡ joined side_in s
-  pub constants : (i : ℕ) (bs : List ℕ) → get_elem? s i ≡ some (a_constant bs) → Kept heap s i bs
-  pub heads : (h : ℕ) → h < 4096 → Latest h s (length s) (get_or heap (head_found_at + h) 0)
+  pub count : heap.count ≡ length s
+  pub bit_count : heap.bit_count ≡ length (joined bits_in s)
+  pub side_count : heap.side_count ≡ length (joined side_in s)
+  pub records : take (17 * length s) heap.records ≡ records_bytes (records_from 0 0 s)
+  pub bits_held : take (length (joined bits_in s)) heap.bits ≡ joined bits_in s
+  pub side_held : take (length (joined side_in s)) heap.side ≡ joined side_in s
+  pub constants : (i : ℕ) (bs : List ℕ) → get_elem? s i ≡ some (a_constant bs) → Kept heap.constants s i bs
+  pub heads : (h : ℕ) → h < 4096 → Latest h s (length s) (get_or heap.heads h 0)
 
 -- ---------------------------------------------------------------- operands that wait
 
@@ -132,10 +105,10 @@ unfoldable pub ref_at : List ℕ → ℕ → Ref
 ref_at s c = elim (eqb (c % 2) 0) [ true ↦ here (c / 2) | false ↦ pending (bits_at s (c / 2)) ]
 
 -- the operands that wait, the first at the bottom
-pub record Stacked (script heap : List ℕ) (refs : List Ref) : Type 0 where
+pub record Stacked (script : List ℕ) (heap : Heap) (refs : List Ref) : Type 0 where
   pub room : length refs ≤ stack_size
-  pub top : top_in heap ≡ length refs
-  pub held : map (ref_at script) (take (length refs) (stack_in heap)) ≡ refs
+  pub top : heap.top ≡ length refs
+  pub held : map (ref_at script) (take (length refs) heap.stack) ≡ refs
 
 -- the constants among operands, in their order
 unfoldable pub pending_in : List Ref → List (List ℕ)

@@ -11,3 +11,4 @@ pub mod Candidates
 pub mod Going
 pub mod Start
 pub mod Examples
+pub mod Parts

@@ -8,51 +8,36 @@ use native.Mathlib.Omega.{arith}
 use Rattle.std.proofs.Math.ListN.{length, get_or, set, length-append, get_or-map}
 use Rattle.std.proofs.lemmas.List.{length-map}
 use Rattle.readback.specs.Rebuild.{Pair, flat}
-use Rattle.heap_laws.specs.Heap.{side_at, stack_at, stack_size, heap_size, stack_in, halves, pairs_back}
-use Rattle.heap_laws.specs.Filled.{filled, filled_none, filled_more, drop-filled}
+use Rattle.heap_laws.specs.Heap.{halves, pairs_back}
+use Rattle.heap_laws.specs.Filled.{filled, filled_none, filled_more}
 
--- what waits at a place is not touched by side entries
-module _ (heap : List ℕ) {heap' : List ℕ} (from : ℕ) (xs : List ℕ) (long : length heap ≡ heap_size) (room : from + length xs ≤ 8192) (e : heap' ≡ filled heap (side_at + from) xs) where
-  pub stack-kept : (k : ℕ) → get_or heap' (stack_at + k) 0 ≡ get_or (stack_in heap) k 0
-  stack-kept k =
-      sym (get_or-drop stack_at heap' k 0) ∙ ap (λ (l : List ℕ). get_or (drop stack_at l) k 0) e
-      ∙ ap (λ (l : List ℕ). get_or l k 0) (drop-filled heap (side_at + from) xs stack_at (omega arith) (omega arith))
-
-  -- a side entry more
-  pub side-more : (at v : ℕ) → at ≡ from + length xs → at < 8192 → set heap' (side_at + at) v ≡ filled heap (side_at + from) (xs ++ (v ∷ []))
-  side-more at v z l =
-      let k : side_at + at ≡ side_at + from + length xs = omega arith in
-      (λ i. set (e i) (k i) v) ∙ filled_more heap (side_at + from) xs v (omega arith)
+-- a side entry more
+pub side-more : (side : List ℕ) {side' : List ℕ} (from : ℕ) (xs : List ℕ) → side' ≡ filled side from xs → (at v : ℕ) → at ≡ from + length xs → at < length side
+    → set side' at v ≡ filled side from (xs ++ (v ∷ []))
+side-more side from xs e at v z l = (λ i. set (e i) (z i) v) ∙ filled_more side from xs v (omega arith)
 
 -- ---------------------------------------------------------------- one after the other
 
-module _ (heap : List ℕ) (from base count : ℕ) (long : length heap ≡ heap_size) (low : from + count ≤ 8192) (high : base + count ≤ stack_size) where
+module _ (side stack : List ℕ) (from base count : ℕ) (low : from + count ≤ length side) (high : base + count ≤ length stack) where
   -- those copied so far
   abbrev copied : ℕ → List ℕ
-  copied i = halves (take i (drop base (stack_in heap)))
-
-  waiting-long : length (drop base (stack_in heap)) ≡ stack_size - base
-  waiting-long = length-drop base (stack_in heap) ∙ (let a = length-drop stack_at heap in omega arith)
+  copied i = halves (take i (drop base stack))
 
   copied-long : (i : ℕ) → i ≤ count → length (copied i) ≡ i
-  copied-long i l = length-map (take i (drop base (stack_in heap))) (λ c. c / 2) ∙ length-take-le i (drop base (stack_in heap)) (omega (arith, waiting-long))
+  copied-long i l = length-map (take i (drop base stack)) (λ c. c / 2) ∙ length-take-le i (drop base stack) (omega (arith, length-drop base stack))
 
-  pub copied_none : heap ≡ filled heap (side_at + from) (copied 0)
-  copied_none = sym (filled_none heap (side_at + from))
+  pub copied_none : side ≡ filled side from (copied 0)
+  copied_none = sym (filled_none side from)
 
-  pub copied_more : (i : ℕ) {heap' : List ℕ} → i < count → heap' ≡ filled heap (side_at + from) (copied i)
-      → set heap' (side_at + from + i) (get_or heap' (stack_at + base + i) 0 / 2) ≡ filled heap (side_at + from) (copied (i + 1))
-  copied_more i {heap'} l e =
-      let wait : List ℕ = drop base (stack_in heap) in
+  pub copied_more : (i : ℕ) {side' : List ℕ} → i < count → side' ≡ filled side from (copied i) → set side' (from + i) (get_or stack (base + i) 0 / 2) ≡ filled side from (copied (i + 1))
+  copied_more i {side'} l e =
+      let wait : List ℕ = drop base stack in
       let n : length (copied i) ≡ i = copied-long i (omega arith) in
-      let a : side_at + from + i ≡ side_at + (from + i) = omega arith in
-      let b : stack_at + base + i ≡ stack_at + (base + i) = omega arith in
-      let v : get_or heap' (stack_at + (base + i)) 0 ≡ get_or wait i 0 =
-      stack-kept heap from (copied i) long (omega arith) e (base + i) ∙ sym (get_or-drop base (stack_in heap) i 0) in
-      let m : take (i + 1) wait ≡ take i wait ++ (get_or wait i 0 ∷ []) = ap (λ (k : ℕ). take k wait) (add-one i) ∙ take-suc wait i 0 (omega (arith, waiting-long)) in
+      let v : get_or stack (base + i) 0 ≡ get_or wait i 0 = sym (get_or-drop base stack i 0) in
+      let m : take (i + 1) wait ≡ take i wait ++ (get_or wait i 0 ∷ []) = ap (λ (k : ℕ). take k wait) (add-one i) ∙ take-suc wait i 0 (omega (arith, length-drop base stack)) in
       let more : copied (i + 1) ≡ copied i ++ (get_or wait i 0 / 2 ∷ []) = ap halves m ∙ map-append (λ c. c / 2) (take i wait) (get_or wait i 0 ∷ []) in
-      (λ j. set heap' (a j) ((ap (λ (k : ℕ). get_or heap' k 0) b ∙ v) j / 2)) ∙ side-more heap from (copied i) long (omega arith) e (from + i) (get_or wait i 0 / 2) (omega arith) (omega arith)
-      ∙ ap (filled heap (side_at + from)) (sym more)
+      ap (λ (k : ℕ). set side' (from + i) (k / 2)) v ∙ side-more side from (copied i) e (from + i) (get_or wait i 0 / 2) (omega arith) (omega arith)
+      ∙ ap (filled side from) (sym more)
 
 -- ---------------------------------------------------------------- by pairs
 
@@ -82,75 +67,65 @@ halves-front k l j h =
     get_or-map (λ c. c / 2) l j 0 ∙ ap (λ (c : ℕ). c / 2) (sym (get_or-take k l j 0 h)) ∙ sym (get_or-map (λ c. c / 2) (take k l) j 0)
 
 -- all but m pairs are copied
-pub record Pairing (heap heap' : List ℕ) (from base n m at : ℕ) : Type 0 where
+pub record Pairing (side side' stack : List ℕ) (from base n m at : ℕ) : Type 0 where
   pub done : List ℕ
-  pub heap_is : heap' ≡ filled heap (side_at + from) done
-  pub both : done ++ flat (pairs_back m (halves (drop base (stack_in heap)))) ≡ flat (pairs_back n (halves (drop base (stack_in heap))))
+  pub side_is : side' ≡ filled side from done
+  pub both : done ++ flat (pairs_back m (halves (drop base stack))) ≡ flat (pairs_back n (halves (drop base stack)))
   pub place : at ≡ from + length done
 
-pub pairing-none : (heap : List ℕ) (from base n : ℕ) → Pairing heap heap from base n (n - 0) (from + 2 * 0)
-pairing-none heap from base n =
+pub pairing-none : (side stack : List ℕ) (from base n : ℕ) → Pairing side side stack from base n (n - 0) (from + 2 * 0)
+pairing-none side stack from base n =
     let z : n - 0 ≡ n = omega arith in
     record {
       done = [];
-      heap_is = sym (filled_none heap (side_at + from));
-      both = ap (λ (m : ℕ). flat (pairs_back m (halves (drop base (stack_in heap))))) z;
+      side_is = sym (filled_none side from);
+      both = ap (λ (m : ℕ). flat (pairs_back m (halves (drop base stack)))) z;
       place = omega arith;
     }
 
-module _ (heap : List ℕ) (from base n : ℕ) (long : length heap ≡ heap_size) (low : from + 2 * n ≤ 8192) where
-  pairing-more : (k m at : ℕ) {heap' : List ℕ} → m ≡ suc k → at + 2 * m ≡ from + 2 * n → Pairing heap heap' from base n m at
-      → Pairing heap
-      (set (set heap' (side_at + at) (get_or heap' (stack_at + base + 2 * k) 0 / 2)) (side_at + at + 1) (get_or (set heap' (side_at + at) (get_or heap' (stack_at + base + 2 * k) 0 / 2)) (stack_at + base + 2 * k + 1) 0 / 2))
-      from base n k (at + 2)
+module _ (side stack : List ℕ) (from base n : ℕ) (low : from + 2 * n ≤ length side) where
+  -- the last two operands of the first k + 1 pairs, behind what is copied
+  pairing-more : (k m at : ℕ) {side' : List ℕ} → m ≡ suc k → at + 2 * m ≡ from + 2 * n → Pairing side side' stack from base n m at
+      → Pairing side (set (set side' at (get_or stack (base + 2 * k) 0 / 2)) (at + 1) (get_or stack (base + 2 * k + 1) 0 / 2)) stack from base n k (at + 2)
   unfolding flat pairs_back
-  pairing-more k m at {heap'} z r w =
-      let wait : List ℕ = stack_in heap in
-      let l : List ℕ = halves (drop base wait) in
+  pairing-more k m at {side'} z r w =
+      let l : List ℕ = halves (drop base stack) in
       let d : List ℕ = w.done in
-      let a : ℕ = get_or heap' (stack_at + base + 2 * k) 0 / 2 in
-      let heap₁ : List ℕ = set heap' (side_at + at) a in
-      let b : ℕ = get_or heap₁ (stack_at + base + 2 * k + 1) 0 / 2 in
+      let a : ℕ = get_or stack (base + 2 * k) 0 / 2 in
+      let b : ℕ = get_or stack (base + 2 * k + 1) 0 / 2 in
       let p : at ≡ from + length d = w.place in
-      let e₁ : heap₁ ≡ filled heap (side_at + from) (d ++ (a ∷ [])) = side-more heap from d long (omega arith) w.heap_is at a p (omega arith) in
+      let e₁ : set side' at a ≡ filled side from (d ++ (a ∷ [])) = side-more side from d w.side_is at a p (omega arith) in
       let n₁ : length (d ++ (a ∷ [])) ≡ length d + 1 = length-append d (a ∷ []) in
-      let i₂ : side_at + at + 1 ≡ side_at + (at + 1) = omega arith in
-      let e₂ : set heap₁ (side_at + at + 1) b ≡ filled heap (side_at + from) ((d ++ (a ∷ [])) ++ (b ∷ [])) =
-      ap (λ (j : ℕ). set heap₁ j b) i₂ ∙ side-more heap from (d ++ (a ∷ [])) long (omega arith) e₁ (at + 1) b (omega arith) (omega arith) in
-      let ja : stack_at + base + 2 * k ≡ stack_at + (base + 2 * k) = omega arith in
-      let jb : stack_at + base + 2 * k + 1 ≡ stack_at + (base + (2 * k + 1)) = omega arith in
-      let fa : a ≡ get_or l (2 * k) 0 =
-      ap (λ (j : ℕ). j / 2) (ap (λ (j : ℕ). get_or heap' j 0) ja ∙ stack-kept heap from d long (omega arith) w.heap_is (base + 2 * k) ∙ sym (get_or-drop base wait (2 * k) 0))
-      ∙ sym (get_or-map (λ c. c / 2) (drop base wait) (2 * k) 0) in
+      let e₂ : set (set side' at a) (at + 1) b ≡ filled side from ((d ++ (a ∷ [])) ++ (b ∷ [])) =
+      side-more side from (d ++ (a ∷ [])) e₁ (at + 1) b (omega arith) (omega arith) in
+      let jb : base + 2 * k + 1 ≡ base + (2 * k + 1) = omega arith in
+      let fa : a ≡ get_or l (2 * k) 0 = ap (λ (j : ℕ). j / 2) (sym (get_or-drop base stack (2 * k) 0)) ∙ sym (get_or-map (λ c. c / 2) (drop base stack) (2 * k) 0) in
       let fb : b ≡ get_or l (2 * k + 1) 0 =
-      ap (λ (j : ℕ). j / 2) (ap (λ (j : ℕ). get_or heap₁ j 0) jb ∙ stack-kept heap from (d ++ (a ∷ [])) long (omega arith) e₁ (base + (2 * k + 1)) ∙ sym (get_or-drop base wait (2 * k + 1) 0))
-      ∙ sym (get_or-map (λ c. c / 2) (drop base wait) (2 * k + 1) 0) in
+      ap (λ (j : ℕ). j / 2) (ap (λ (j : ℕ). get_or stack j 0) jb ∙ sym (get_or-drop base stack (2 * k + 1) 0)) ∙ sym (get_or-map (λ c. c / 2) (drop base stack) (2 * k + 1) 0) in
       let rest : List ℕ = flat (pairs_back k l) in
       record {
         done = (d ++ (a ∷ [])) ++ (b ∷ []);
-        heap_is = e₂;
+        side_is = e₂;
         both = append_assoc (d ++ (a ∷ [])) (b ∷ []) rest ∙ append_assoc d (a ∷ []) (b ∷ rest) ∙ (λ i. d ++ (fa i ∷ fb i ∷ rest))
             ∙ ap (λ (j : ℕ). d ++ flat (pairs_back j l)) (sym z) ∙ w.both;
         place = omega (arith, length-append (d ++ (a ∷ [])) (b ∷ []));
       }
 
   -- turn i copies the last pair of those left
-  pub pairing-turn : (i : ℕ) {heap' : List ℕ} → i < n → Pairing heap heap' from base n (n - i) (from + 2 * i)
-      → Pairing heap
-      (set (set heap' (side_at + (from + 2 * i)) (get_or heap' (stack_at + base + 2 * (n - 1 - i)) 0 / 2)) (side_at + (from + 2 * i) + 1)
-      (get_or (set heap' (side_at + (from + 2 * i)) (get_or heap' (stack_at + base + 2 * (n - 1 - i)) 0 / 2)) (stack_at + base + 2 * (n - 1 - i) + 1) 0 / 2))
-      from base n (n - (i + 1)) (from + 2 * (i + 1))
-  pairing-turn i {heap'} l w =
+  pub pairing-turn : (i : ℕ) {side' : List ℕ} → i < n → Pairing side side' stack from base n (n - i) (from + 2 * i)
+      → Pairing side
+      (set (set side' (from + 2 * i) (get_or stack (base + 2 * (n - 1 - i)) 0 / 2)) (from + 2 * i + 1) (get_or stack (base + 2 * (n - 1 - i) + 1) 0 / 2))
+      stack from base n (n - (i + 1)) (from + 2 * (i + 1))
+  pairing-turn i {side'} l w =
       let a : n - i ≡ suc (n - 1 - i) = omega arith in
       let b : n - 1 - i ≡ n - (i + 1) = omega arith in
       let c : from + 2 * i + 2 ≡ from + 2 * (i + 1) = omega arith in
-      let new : List ℕ = set (set heap' (side_at + (from + 2 * i)) (get_or heap' (stack_at + base + 2 * (n - 1 - i)) 0 / 2)) (side_at + (from + 2 * i) + 1)
-      (get_or (set heap' (side_at + (from + 2 * i)) (get_or heap' (stack_at + base + 2 * (n - 1 - i)) 0 / 2)) (stack_at + base + 2 * (n - 1 - i) + 1) 0 / 2) in
-      subst (Pairing heap new from base n (n - (i + 1))) c
-      (subst (λ (m : ℕ). Pairing heap new from base n m (from + 2 * i + 2)) b (pairing-more (n - 1 - i) (n - i) (from + 2 * i) a (omega arith) w))
+      let new : List ℕ = set (set side' (from + 2 * i) (get_or stack (base + 2 * (n - 1 - i)) 0 / 2)) (from + 2 * i + 1) (get_or stack (base + 2 * (n - 1 - i) + 1) 0 / 2) in
+      subst (Pairing side new stack from base n (n - (i + 1))) c
+      (subst (λ (m : ℕ). Pairing side new stack from base n m (from + 2 * i + 2)) b (pairing-more (n - 1 - i) (n - i) (from + 2 * i) a (omega arith) w))
 
-  pub pairing-all : {heap' : List ℕ} (m at : ℕ) → m ≡ 0 → Pairing heap heap' from base n m at → heap' ≡ filled heap (side_at + from) (flat (pairs_back n (halves (drop base (stack_in heap)))))
+  pub pairing-all : {side' : List ℕ} (m at : ℕ) → m ≡ 0 → Pairing side side' stack from base n m at → side' ≡ filled side from (flat (pairs_back n (halves (drop base stack))))
   unfolding flat pairs_back
   pairing-all m at z w =
-      let l : List ℕ = halves (drop base (stack_in heap)) in
-      w.heap_is ∙ ap (filled heap (side_at + from)) (sym (append-nil w.done) ∙ ap (λ (j : ℕ). w.done ++ flat (pairs_back j l)) (sym z) ∙ w.both)
+      let l : List ℕ = halves (drop base stack) in
+      w.side_is ∙ ap (filled side from) (sym (append-nil w.done) ∙ ap (λ (j : ℕ). w.done ++ flat (pairs_back j l)) (sym z) ∙ w.both)

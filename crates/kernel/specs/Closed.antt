@@ -19,9 +19,11 @@ use Rattle.echo_spec.specs.Shapes.{
   call,
   unknown,
 }
+use Rattle.blast_kernel.specs.declared.Shape as code
+use Rattle.blast_kernel.specs.declared.Shape.TheVariants.{Var, Const, Binary, Rotation, Extraction, Concat, Extension, Ite, Comparison, Negation, Connective, Unary, Select, Call, Unknown}
+use Rattle.blast_kernel.specs.Kinds.{shape_in}
 use Rattle.echo_spec.specs.Input.{ArrayWidths, array_columns, Node, shape}
 use Rattle.echo_spec.specs.Widths.{wf_as, width_as, node_wf, node_width}
-use Rattle.blast_kernel.specs.Codes.{code_of}
 
 -- the shape as `DagNode` knows it
 unfoldable pub closed : Shape → Shape
@@ -59,12 +61,12 @@ pub record CoreFormed (ws : List ℕ) (n : Node) : Type 0 where
 
 -- ---------------------------------------------------------------- laws: how a node that is no select and no call is looked at
 
--- the code is neither that of a select nor that of a call
-abbrev pub IsClosed : ℕ → Type 0
-IsClosed r = (Unit {0} × (r ≡ 12 → ⊥)) × (r ≡ 13 → ⊥)
+-- the shape is neither that of a select nor that of a call
+abbrev pub IsClosed : Shape → Type 0
+IsClosed s = (s ≡ select → ⊥) × (s ≡ call → ⊥)
 
-closed_is : (s : Shape) → IsClosed (code_of s) → closed s ≡ s
-unfolding closed code_of
+closed_is : (s : Shape) → IsClosed s → closed s ≡ s
+unfolding closed
 closed_is var h = refl
 closed_is const h = refl
 closed_is binary h = refl
@@ -77,7 +79,7 @@ closed_is comparison h = refl
 closed_is negation h = refl
 closed_is connective h = refl
 closed_is unary h = refl
-closed_is select h = absurd (h.0.1 refl)
+closed_is select h = absurd (h.0 refl)
 closed_is call h = absurd (h.1 refl)
 closed_is unknown h = refl
 
@@ -117,10 +119,28 @@ no-arrays arrays ws n select = refl
 no-arrays arrays ws n call = refl
 no-arrays arrays ws n unknown = refl
 
-pub closed-wf-is : (nbits : ℕ) (arrays : ArrayWidths) (side ws : List ℕ) (n : Node) → IsClosed (code_of (shape n)) → closed_wf nbits ws n ≡ node_wf nbits arrays side ws n
+-- the shape of a node that the code has found to be neither
+pub shape-closed : (s : code.Shape) (t : Shape) → shape_in s ≡ t → (s ≡ Select → ⊥) → (s ≡ Call → ⊥) → IsClosed t
+shape-closed Var t e f g = (λ h. cc, λ h. cc)
+shape-closed Const t e f g = (λ h. cc, λ h. cc)
+shape-closed Binary t e f g = (λ h. cc, λ h. cc)
+shape-closed Rotation t e f g = (λ h. cc, λ h. cc)
+shape-closed Extraction t e f g = (λ h. cc, λ h. cc)
+shape-closed Concat t e f g = (λ h. cc, λ h. cc)
+shape-closed Extension t e f g = (λ h. cc, λ h. cc)
+shape-closed Ite t e f g = (λ h. cc, λ h. cc)
+shape-closed Comparison t e f g = (λ h. cc, λ h. cc)
+shape-closed Negation t e f g = (λ h. cc, λ h. cc)
+shape-closed Connective t e f g = (λ h. cc, λ h. cc)
+shape-closed Unary t e f g = (λ h. cc, λ h. cc)
+shape-closed Select t e f g = absurd (f refl)
+shape-closed Call t e f g = absurd (g refl)
+shape-closed Unknown t e f g = (λ h. cc, λ h. cc)
+
+pub closed-wf-is : (nbits : ℕ) (arrays : ArrayWidths) (side ws : List ℕ) (n : Node) → IsClosed (shape n) → closed_wf nbits ws n ≡ node_wf nbits arrays side ws n
 unfolding node_wf
 closed-wf-is nbits arrays side ws n h = no-side nbits arrays side ws n (shape n) ∙ ap (wf_as nbits arrays side ws n) (closed_is (shape n) h)
 
-pub closed-width-is : (arrays : ArrayWidths) (ws : List ℕ) (n : Node) → IsClosed (code_of (shape n)) → closed_width ws n ≡ node_width arrays ws n
+pub closed-width-is : (arrays : ArrayWidths) (ws : List ℕ) (n : Node) → IsClosed (shape n) → closed_width ws n ≡ node_width arrays ws n
 unfolding node_width
 closed-width-is arrays ws n h = no-arrays arrays ws n (shape n) ∙ ap (width_as arrays ws n) (closed_is (shape n) h)

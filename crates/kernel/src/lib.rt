@@ -9,10 +9,7 @@ ghost use Rattle.echo_spec.specs.Widths as widths;
 ghost use Rattle.lent.specs.Records.{node_of};
 ghost use Rattle.kernel.specs.Closed.{closed_wf, closed_width, CoreFormed};
 
-use blast_kernel::{
-    BINARY, COMPARISON, CONCAT, CONNECTIVE, CONST, EXTENSION, EXTRACTION, ITE, NEGATION, ROTATION,
-    UNARY, VAR,
-};
+use blast_kernel::Shape;
 use lent::{Node, get};
 
 // Is i the number of an earlier node. Ruled out: the node itself; node 0 left out.
@@ -33,10 +30,11 @@ pub fn earlier_of(ws: &[u64], w: u64, i: u64) -> bool
 fn sum_fits(x: u64, y: u64) -> bool
     ensures { result ≡ leb (x + y) input.largest }
 {
-    y <= 18446744073709551615 - x
+    y <= u64::MAX - x
 }
 
 // One earlier bit-vector. Ruled out: a node of width 0; the node itself.
+#[tactic(auto, unfolding(echo_spec::specs::Widths::un_wf))]
 pub fn un_wf(ws: &[u64], a: u64) -> bool
     ensures { result ≡ widths.un_wf ws.now a }
 {
@@ -44,20 +42,15 @@ pub fn un_wf(ws: &[u64], a: u64) -> bool
 }
 
 // Two earlier bit-vectors of one width. Ruled out: two widths that differ; only the first looked at.
+#[tactic(auto, unfolding(echo_spec::specs::Widths::bin_wf))]
 pub fn bin_wf(ws: &[u64], a: u64, b: u64) -> bool
     ensures { result ≡ widths.bin_wf ws.now a b }
 {
-    if !earlier(ws, a) {
-        return false;
-    }
-    if !earlier(ws, b) {
-        return false;
-    }
-    let w = get(ws, a);
-    w > 0 && w == get(ws, b)
+    earlier(ws, a) && earlier(ws, b) && get(ws, a) > 0 && get(ws, a) == get(ws, b)
 }
 
 // Two earlier nodes of width 1. Ruled out: two nodes of width 8; only the first looked at.
+#[tactic(auto, unfolding(echo_spec::specs::Widths::bool_bin_wf))]
 pub fn bool_bin_wf(ws: &[u64], a: u64, b: u64) -> bool
     ensures { result ≡ widths.bool_bin_wf ws.now a b }
 {
@@ -66,6 +59,7 @@ pub fn bool_bin_wf(ws: &[u64], a: u64, b: u64) -> bool
 
 // One earlier bit-vector that is not too wide to be extended. (The Rust's `ext_wf` of kernel.rs, which is
 // not the pass of that name.) Ruled out: a sum that wraps; the widest sum, 2^64 - 1, refused.
+#[tactic(auto, unfolding(echo_spec::specs::Widths::extend_wf))]
 pub fn extend_wf(ws: &[u64], a: u64, by: u64) -> bool
     ensures { result ≡ widths.extend_wf ws.now a by }
 {
@@ -84,20 +78,14 @@ fn const_wf(nbits: usize, s: u64, w: u64) -> bool
     ensures { result ≡ (ltb 0 w && (input.fits64 w && leb (s + w) nbits)) }
 {
     let n = nbits as u64;
-    if w == 0 {
-        return false;
-    }
-    s <= n && w <= n - s
+    w > 0 && s <= n && w <= n - s
 }
 
 // The bits hi to lo of an earlier bit-vector.
 fn extract_wf(ws: &[u64], hi: u64, lo: u64, a: u64) -> bool
     ensures { result ≡ (widths.earlier ws.now a && (leb lo hi && ltb hi (widths.width_at ws.now a))) }
 {
-    if !earlier(ws, a) {
-        return false;
-    }
-    lo <= hi && hi < get(ws, a)
+    earlier(ws, a) && lo <= hi && hi < get(ws, a)
 }
 
 // Two earlier bit-vectors that are not too wide to be joined.
@@ -105,18 +93,7 @@ fn concat_wf(ws: &[u64], a: u64, b: u64) -> bool
     ensures { result ≡ (widths.un_wf ws.now a && (widths.un_wf ws.now b
         && leb (widths.width_at ws.now a + widths.width_at ws.now b) input.largest)) }
 {
-    if !un_wf(ws, a) {
-        return false;
-    }
-    un_wf(ws, b) && sum_fits(get(ws, a), get(ws, b))
-}
-
-// Two bit-vectors joined.
-fn concat_width(ws: &[u64], a: u64, b: u64) -> u64
-    requires { widths.width_at ws.now a + widths.width_at ws.now b ≤ input.largest }
-    ensures { result ≡ widths.width_at ws.now a + widths.width_at ws.now b }
-{
-    get(ws, a) + get(ws, b)
+    un_wf(ws, a) && un_wf(ws, b) && sum_fits(get(ws, a), get(ws, b))
 }
 
 // A Bool and two bit-vectors of one width.
@@ -128,47 +105,51 @@ fn ite_wf(ws: &[u64], c: u64, t: u64, e: u64) -> bool
 
 // Is the node well formed: no select and no call is, which are `ext_node_wf`'s. Ruled out: an extraction up to the bit past the last;
 // a constant whose last bit lies past the bits.
+#[tactic(auto, unfolding(echo_spec::specs::Widths::wf_as, crate::specs::Closed::closed))]
 pub fn node_wf(ws: &[u64], nbits: usize, n: Node) -> bool
     ensures { result ≡ closed_wf nbits ws.now (node_of n) }
 {
-    let s = blast_kernel::shape(n.kind);
-    match s {
-        VAR => has_width(n.a),
-        CONST => const_wf(nbits, n.a, n.b),
-        BINARY => bin_wf(ws, n.a, n.b),
-        ROTATION => bin_wf(ws, n.a, n.b),
-        EXTRACTION => extract_wf(ws, n.a, n.b, n.c),
-        CONCAT => concat_wf(ws, n.a, n.b),
-        EXTENSION => extend_wf(ws, n.a, n.b),
-        ITE => ite_wf(ws, n.a, n.b, n.c),
-        COMPARISON => bin_wf(ws, n.a, n.b),
-        NEGATION => earlier_of(ws, 1, n.a),
-        CONNECTIVE => bool_bin_wf(ws, n.a, n.b),
-        UNARY => un_wf(ws, n.a),
-        _ => false,
+    match Shape::from(n.kind) {
+        Shape::Var => has_width(n.a),
+        Shape::Const => const_wf(nbits, n.a, n.b),
+        Shape::Binary => bin_wf(ws, n.a, n.b),
+        Shape::Rotation => bin_wf(ws, n.a, n.b),
+        Shape::Extraction => extract_wf(ws, n.a, n.b, n.c),
+        Shape::Concat => concat_wf(ws, n.a, n.b),
+        Shape::Extension => extend_wf(ws, n.a, n.b),
+        Shape::Ite => ite_wf(ws, n.a, n.b, n.c),
+        Shape::Comparison => bin_wf(ws, n.a, n.b),
+        Shape::Negation => earlier_of(ws, 1, n.a),
+        Shape::Connective => bool_bin_wf(ws, n.a, n.b),
+        Shape::Unary => un_wf(ws, n.a),
+        Shape::Select => false,
+        Shape::Call => false,
+        Shape::Unknown => false,
     }
 }
 
 // The width of a node that `node_wf` accepted, so that no difference is below 0 and no sum is over 64 bits. Ruled out: an extraction
 // one bit narrower; a comparison as wide as its operands.
+#[tactic(auto, unfolding(echo_spec::specs::Widths::width_as, crate::specs::Closed::closed))]
 pub fn node_width(ws: &[u64], n: Node) -> u64
     requires { CoreFormed ws.now (node_of n) }
     ensures { result ≡ closed_width ws.now (node_of n) }
 {
-    let s = blast_kernel::shape(n.kind);
-    match s {
-        VAR => n.a,
-        CONST => n.b,
-        BINARY => get(ws, n.a),
-        ROTATION => get(ws, n.a),
-        EXTRACTION => n.a - n.b + 1,
-        CONCAT => concat_width(ws, n.a, n.b),
-        EXTENSION => get(ws, n.a) + n.b,
-        ITE => get(ws, n.b),
-        COMPARISON => 1,
-        NEGATION => 1,
-        CONNECTIVE => 1,
-        UNARY => get(ws, n.a),
-        _ => 0,
+    match Shape::from(n.kind) {
+        Shape::Var => n.a,
+        Shape::Const => n.b,
+        Shape::Binary => get(ws, n.a),
+        Shape::Rotation => get(ws, n.a),
+        Shape::Extraction => n.a - n.b + 1,
+        Shape::Concat => get(ws, n.a) + get(ws, n.b),
+        Shape::Extension => get(ws, n.a) + n.b,
+        Shape::Ite => get(ws, n.b),
+        Shape::Comparison => 1,
+        Shape::Negation => 1,
+        Shape::Connective => 1,
+        Shape::Unary => get(ws, n.a),
+        Shape::Select => 0,
+        Shape::Call => 0,
+        Shape::Unknown => 0,
     }
 }

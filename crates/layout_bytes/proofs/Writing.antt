@@ -1,11 +1,11 @@
 -- Numbers and inputs by the pieces that are written one after the other. Assumes nothing.
 use Prim.Native.Nat.{ℕ, ◌+◌, ◌/◌, ◌%◌, ◌^◌, ◌≤◌, ◌<◌}
-use mathlib.Core.List.{List, [], ◌∷◌, ◌++◌, append_assoc, append-nil}
+use mathlib.Core.List.{List, [], ◌∷◌, ◌++◌, map, map-append, append_assoc, append-nil}
 use mathlib.Core.Path.{◌≡◌, refl, ap, sym, ◌∙◌}
 use native.Mathlib.Numerals.{add-one}
 use native.Mathlib.Omega.{arith}
 use lib.ListN.{length, take, get_or}
-use lib.Seq.{length-take-le, take-suc}
+use lib.Seq.{take-suc, take_all}
 use Rattle.echo_bytes.specs.Page.{Page, written}
 use Rattle.echo_bytes.specs.Laws.{written_then, written-nil}
 use Rattle.layout_bytes.specs.Encoding.{le64, numbers_bytes, Input, bytes, numbers, input_bytes, inputs_bytes}
@@ -21,13 +21,9 @@ number-bytes n {h = h} l pa pb pc pd pe pf pg ph =
 
 -- ---------------------------------------------------------------- an input
 
-pub bytes-input : (xs : List ℕ) (n : ℕ) → n ≤ length xs → le64 n ++ take n xs ≡ input_bytes (bytes (take n xs))
+pub bytes-written : (p : Page) (xs : List ℕ) {q r : Page} → q ≡ written p (le64 (length xs)) → r ≡ written q xs → r ≡ written p (input_bytes (bytes xs))
 unfolding input_bytes
-bytes-input xs n l = ap (λ (m : ℕ). le64 m ++ take n xs) (sym (length-take-le n xs l))
-
-numbers-input : (xs : List ℕ) (n : ℕ) → n ≤ length xs → le64 n ++ numbers_bytes (take n xs) ≡ input_bytes (numbers (take n xs))
-unfolding input_bytes
-numbers-input xs n l = ap (λ (m : ℕ). le64 m ++ numbers_bytes (take n xs)) (sym (length-take-le n xs l))
+bytes-written p xs e f = written_then p (le64 (length xs)) xs e f
 
 numbers-append : (xs ys : List ℕ) → numbers_bytes (xs ++ ys) ≡ numbers_bytes xs ++ numbers_bytes ys
 unfolding numbers_bytes
@@ -53,10 +49,10 @@ pub loop-goes-on : (p : Page) (xs : List ℕ) (i : ℕ) {q r : Page} → i < len
     → r ≡ written p (numbers_bytes (take (i + 1) xs))
 loop-goes-on p xs i l e f = written_then p (numbers_bytes (take i xs)) (le64 (get_or xs i 0)) e f ∙ ap (written p) (numbers_more xs i l)
 
-pub numbers-written : (p : Page) (xs : List ℕ) (n : ℕ) {i : ℕ} {q r : Page} → i ≡ n → n ≤ length xs → q ≡ written p (le64 n) → r ≡ written q (numbers_bytes (take i xs))
-    → r ≡ written p (input_bytes (numbers (take n xs)))
-numbers-written p xs n {i} e l f g =
-    written_then p (le64 n) (numbers_bytes (take i xs)) f g ∙ ap (λ (k : ℕ). written p (le64 n ++ numbers_bytes (take k xs))) e ∙ ap (written p) (numbers-input xs n l)
+pub numbers-written : (p : Page) (xs : List ℕ) (i : ℕ) {q r : Page} → length xs ≤ i → q ≡ written p (le64 (length xs)) → r ≡ written q (numbers_bytes (take i xs))
+    → r ≡ written p (input_bytes (numbers xs))
+unfolding input_bytes
+numbers-written p xs i l f g = rw (take_all i xs l) at (written_then p (le64 (length xs)) (numbers_bytes (take i xs)) f g)
 
 -- ---------------------------------------------------------------- inputs
 
@@ -75,3 +71,17 @@ inputs-append (x ∷ xs) ys = append_assoc (input_bytes x) (inputs_bytes xs) (in
 
 pub inputs-then : (p : Page) (xs ys : List Input) {q r : Page} → q ≡ written p (inputs_bytes xs) → r ≡ written q (inputs_bytes ys) → r ≡ written p (inputs_bytes (xs ++ ys))
 inputs-then p xs ys e f = written_then p (inputs_bytes xs) (inputs_bytes ys) e f ∙ ap (written p) (inputs-append xs ys)
+
+-- the loop over the columns of a table, the first i of which are written
+module _ {A : Type 0} (p : Page) (x : Input) (f : A → Input) (xs : List A) where
+  pub columns_begin : {q : Page} → q ≡ written p (input_bytes x) → q ≡ written p (inputs_bytes (x ∷ map f (take 0 xs)))
+  columns_begin e = input_last p x e
+
+  pub columns_go_on : (i : ℕ) (d : A) {q r : Page} → i < length xs → q ≡ written p (inputs_bytes (x ∷ map f (take i xs)))
+      → r ≡ written q (input_bytes (f (get_or xs i d))) → r ≡ written p (inputs_bytes (x ∷ map f (take (i + 1) xs)))
+  columns_go_on i d l e g =
+      inputs-then p (x ∷ map f (take i xs)) (f (get_or xs i d) ∷ []) e (input_last _ (f (get_or xs i d)) g)
+      ∙ ap (λ (ys : List Input). written p (inputs_bytes (x ∷ ys))) (sym (rw (add-one, take-suc xs i d) (map-append f (take i xs) (get_or xs i d ∷ []))))
+
+  pub columns-end : (i : ℕ) {q : Page} → length xs ≤ i → q ≡ written p (inputs_bytes (x ∷ map f (take i xs))) → q ≡ written p (inputs_bytes (x ∷ map f xs))
+  columns-end i l e = rw (take_all i xs l) at e

@@ -11,7 +11,8 @@ use lib.Seq.{get_or-set_same, get_or-set_other}
 use Rattle.lent.specs.Lent.{problem_of}
 use Rattle.input_parts.specs.Parts.{size_of, word64, bytes_at, numbers_at, bytes_part, numbers_part, problem_from}
 use Rattle.input_parts.specs.Lying.{Lies, Inside}
-use Rattle.layout_shape.specs.declared.Shape.TheVariants.{Early, TooLarge, LeftOver, Whole}
+use Rattle.std.specs.Prelude.{⊤, Ok, Err}
+use Rattle.layout_shape.specs.declared.ShapeFault.TheVariants.{Early, TooLarge, LeftOver}
 use Rattle.layout_shape.specs.Layout.{input_at, place_of, count_of, bytes_of, numbers_of, problem_in, inputs_from, layout}
 use Rattle.layout_shape.specs.Reading.{Found, Read, Shaped}
 use Rattle.layout_shape.specs.LayoutLaws.{no-count, over-limit, no-elements, one_input, next_place}
@@ -36,7 +37,7 @@ module _ {s starts counts : List ℕ} {at k : ℕ} (h : Upto s starts counts at 
   rest-one : layout s ≡ inputs_from s k (suc (17 - k))
   rest-one = h.rest ∙ ap (inputs_from s k) (omega arith)
 
-  pub count-missing : length s - at < 8 → Shaped s (Early k) starts counts
+  pub count-missing : length s - at < 8 → Shaped s (Err (Early k)) starts counts
   count-missing a = record { same = rest-one ∙ no-count s k (17 - k) (omega (arith, h.place, h.inside)); read = l }
 
   module _ {n : ℕ} (a : 8 ≤ length s - at) (e : n ≡ word64 s at) where
@@ -46,7 +47,7 @@ module _ {s starts counts : List ℕ} {at k : ℕ} (h : Upto s starts counts at 
     count-is : n ≡ count_of s k
     count-is = e ∙ ap (word64 s) h.place
 
-    pub count-over : {most : ℕ} → most ≡ (input_at k).limit → most < n → Shaped s (TooLarge k) starts counts
+    pub count-over : {most : ℕ} → most ≡ (input_at k).limit → most < n → Shaped s (Err (TooLarge k)) starts counts
     count-over f b = record { same = rest-one ∙ over-limit s k (17 - k) there (omega (arith, f, b, count-is)); read = l }
 
     module _ {most m : ℕ} (f : most ≡ (input_at k).limit) (b : n ≤ most) (g : m ≡ size_of k * n) where
@@ -58,7 +59,7 @@ module _ {s starts counts : List ℕ} {at k : ℕ} (h : Upto s starts counts at 
           let p : m ≡ size_of k * word64 s (place_of s k) = g ∙ ap (λ (z : ℕ). size_of k * z) count-is in
           next_place s k ∙ (λ i. sym h.place i + 8 + sym p i)
 
-      pub elements-missing : length s - at - 8 < m → Shaped s (Early k) starts counts
+      pub elements-missing : length s - at - 8 < m → Shaped s (Err (Early k)) starts counts
       elements-missing d = record { same = rest-one ∙ no-elements s k (17 - k) there within (omega (arith, next-is, h.inside)); read = l }
 
       pub upto_next : m ≤ length s - at - 8 → Upto s (set starts k (at + 8)) (set counts k n) (at + (8 + m)) (k + 1)
@@ -108,13 +109,13 @@ module _ {s starts counts : List ℕ} {at k : ℕ} (h : Upto s starts counts at 
   at-end : layout s ≡ inputs_from s k 0
   at-end = h.rest ∙ ap (inputs_from s k) (omega arith)
 
-  pub bytes_left : at < length s → Shaped s LeftOver starts counts
+  pub bytes_left : at < length s → Shaped s (Err LeftOver) starts counts
   unfolding inputs_from
   bytes_left a =
       let b : place_of s k < length s = omega (arith, h.place) in
       record { same = at-end ∙ rw (lt-leb _ _ b) refl; read = tt }
 
-  pub all_read : length s ≤ at → Shaped s Whole starts counts
+  pub all_read : length s ≤ at → Shaped s (Ok tt) starts counts
   unfolding inputs_from
   all_read a =
       let b : length s ≤ place_of s k = omega (arith, h.place) in

@@ -1,7 +1,7 @@
 -- What is known of bytes that were read, and the cases of the reader as cases of the layout.
-use Rattle.std.specs.Prelude.{ℕ, suc, ◌+◌, ◌≤◌, ◌<◌, ◌≡◌, List, length, get_or}
-use Rattle.layout_shape.specs.declared.Shape.{Shape}
-use Rattle.layout_shape.specs.declared.Shape.TheVariants.{Early, TooLarge, LeftOver, Whole}
+use Rattle.std.specs.Prelude.{ℕ, suc, ◌+◌, ◌≤◌, ◌<◌, ◌≡◌, List, Result, Ok, Err, ⊤, length, get_or}
+use Rattle.layout_shape.specs.declared.ShapeFault.{ShapeFault}
+use Rattle.layout_shape.specs.declared.ShapeFault.TheVariants.{Early, TooLarge, LeftOver}
 use Rattle.layout_shape.specs.Layout.{Layout, early, too_large, left_over, given, input_at, place_of, count_of, problem_in, layout}
 
 -- input k is within its limit and ends within the bytes
@@ -19,19 +19,19 @@ pub record Found (s starts counts : List ℕ) (k : ℕ) : Type 0 where
 abbrev pub Read : List ℕ → List ℕ → List ℕ → ℕ → Type 0
 Read s starts counts n = (k : ℕ) → k < n → Found s starts counts k
 
-abbrev pub layout_of : Shape → List ℕ → Layout
-layout_of (Early k) s = early k
-layout_of (TooLarge k) s = too_large k
-layout_of LeftOver s = left_over
-layout_of Whole s = given (problem_in s)
+abbrev pub layout_of : Result ⊤ ShapeFault → List ℕ → Layout
+layout_of (Err (Early k)) s = early k
+layout_of (Err (TooLarge k)) s = too_large k
+layout_of (Err LeftOver) s = left_over
+layout_of (Ok x) s = given (problem_in s)
 
 -- what was read: all, or a fault in one of the eighteen
-abbrev pub ReadIf : Shape → List ℕ → List ℕ → List ℕ → Type 0
-ReadIf (Early k) s starts counts = k < 18
-ReadIf (TooLarge k) s starts counts = k < 18
-ReadIf LeftOver s starts counts = Unit
-ReadIf Whole s starts counts = Read s starts counts 18
+abbrev pub ReadIf : Result ⊤ ShapeFault → List ℕ → List ℕ → List ℕ → Type 0
+ReadIf (Err (Early k)) s starts counts = k < 18
+ReadIf (Err (TooLarge k)) s starts counts = k < 18
+ReadIf (Err LeftOver) s starts counts = Unit
+ReadIf (Ok x) s starts counts = Read s starts counts 18
 
-pub record Shaped (s : List ℕ) (r : Shape) (starts counts : List ℕ) : Type 0 where
+pub record Shaped (s : List ℕ) (r : Result ⊤ ShapeFault) (starts counts : List ℕ) : Type 0 where
   pub same : layout s ≡ layout_of r s
   pub read : ReadIf r s starts counts

@@ -13,7 +13,7 @@ use refusals::{MAX_ARENA, MAX_BITS, MAX_ENTRIES, MAX_NODE_BYTES, MAX_ROOTS, MAX_
 // ---------------------------------------------------------------- the inputs
 
 // The largest count of each.
-const LIMITS: [u64; INPUTS] = [
+static LIMITS: [u64; INPUTS] = [
     MAX_NODE_BYTES as u64,
     MAX_BITS as u64,
     MAX_SIDE as u64,
@@ -44,42 +44,42 @@ pub fn limit(k: usize) -> u64
 
 // ---------------------------------------------------------------- reading
 
-// What the bytes are. With the first fault goes the number of its input, from 0.
-#[derive(Clone, Copy)]
-pub enum Shape {
+// The first fault of the bytes, and the number of its input, from 0.
+#[derive(Clone, Copy, Debug, PartialEq, Eq)]
+pub enum ShapeFault {
+    // The bytes end within this input.
     Early(usize),
+    // The count of this input is over its limit.
     TooLarge(usize),
+    // Bytes follow the last input.
     LeftOver,
-    Whole,
 }
 
 // Each input in turn: the count is there, it is within its limit, the elements are there. Then nothing is left. Where the elements of
 // each begin and how many there are goes to the two tables. Ruled out: bytes after the last input let pass; a count at its limit turned away.
-pub fn read_shape(s: &[u8], starts: &mut [usize], counts: &mut [usize]) -> Shape
+pub fn read_shape(s: &[u8], starts: &mut [usize], counts: &mut [usize]) -> Result<(), ShapeFault>
     requires { (length starts.old ≡ 18) × (length counts.old ≡ 18) }
     ensures { Shaped s.now result starts.new counts.new }
 {
     let mut at = 0;
-    let mut k = 0;
-    while k < INPUTS {
+    for k in 0..INPUTS {
         if s.len() - at < 8 {
-            return Shape::Early(k);
+            return Err(ShapeFault::Early(k));
         }
         let n = input_parts::word64(s, at);
         if n > limit(k) {
-            return Shape::TooLarge(k);
+            return Err(ShapeFault::TooLarge(k));
         }
         let m = input_parts::span(k, n as usize);
         if s.len() - at - 8 < m {
-            return Shape::Early(k);
+            return Err(ShapeFault::Early(k));
         }
         starts[k] = at + 8;
         counts[k] = n as usize;
         at += 8 + m;
-        k += 1;
     }
     if at < s.len() {
-        return Shape::LeftOver;
+        return Err(ShapeFault::LeftOver);
     }
-    Shape::Whole
+    Ok(())
 }

@@ -20,16 +20,17 @@ use Rattle.readback.specs.ReadAnswers.{Sizes as Lengths, sizes_of, each_with, Re
 use Rattle.rebuilt.specs.Layout.{length-starts, length-count}
 use Rattle.script_rebuild.specs.Decided.{lengths_of, all_within}
 use Rattle.script_rebuild.specs.Deciding.{no-script, over-limit, room-there}
-use Rattle.script_reader.specs.Outputs.{error_number, sizes_from, read_back}
-use Rattle.script_reader.specs.declared.Sizes.{Sizes}
-use Rattle.script_reader.specs.declared.Outcome.{Outcome}
-use Rattle.script_reader.specs.declared.Outcome.TheVariants.{Read, Refused}
-use Rattle.script_reader.specs.declared.ReadError.{ReadError}
-use Rattle.script_reader.specs.declared.ReadError.TheVariants as error
-use Rattle.layout_writer.specs.declared.Said.{Said}
+use Rattle.script_rebuild.specs.Decided.{error_number}
+use Rattle.script_rebuild.specs.declared.Sizes.{Sizes}
+use Rattle.script_rebuild.specs.declared.ReadError.{ReadError}
+use Rattle.script_rebuild.specs.declared.ReadError.TheVariants as error
+use Rattle.script_reader.specs.Outputs.{sizes_from, read_back}
+use Rattle.std.specs.Prelude.{Result, Ok, Err}
+use Rattle.layout_writer.specs.declared.Unread.{Unread}
 use Rattle.layout_writer.specs.Laws.{Within, within}
 use Rattle.layout_writer.specs.Outputs.{first_of, Lies, rooms, said_by}
-use Rattle.layout_writer.specs.Telling.{Script, no_script, over_limit, given, unless, rebuilt, said_of, written_to, Known, Answers}
+use Rattle.layout_writer.specs.Telling.{Script, no_script, over_limit, given, unless, rebuilt, said_of, written_to, Always, Answers}
+use Rattle.problem_layout.specs.Telling.{Known}
 
 -- ---------------------------------------------------------------- columns
 
@@ -187,7 +188,7 @@ roomy p w =
 
 -- ---------------------------------------------------------------- the answer
 
-known_by : (e : ReadError) (out : List ℕ) → Known (said_by e) (length out)
+known_by : (e : ReadError) (out : List ℕ) → Known Always (said_by e) (length out)
 known_by error.NoScript out = tt
 known_by error.Limit out = tt
 known_by error.Room out = tt
@@ -212,7 +213,7 @@ module _ (b : List ℕ) (lent o : Problem) (room : lengths_of lent ≡ rooms) wh
       let p : Problem = inputs (rebuild r) in
       room-there b r q (true→T l) lent (subst (λ (ms : List ℕ). T (all_within (lengths_of p) ms)) (sym room) (roomy p (within p (limits-in r l))))
 
-  read-given : (z : Sizes) → read_back (Read z) o ≡ read_script_answer b lent → ReadAs b z o
+  read-given : (z : Sizes) → read_back (Ok z) o ≡ read_script_answer b lent → ReadAs b z o
   unfolding read_as
   read-given z h = by-reading (reading_in b) refl
     where
@@ -235,7 +236,7 @@ module _ (b : List ℕ) (lent o : Problem) (room : lengths_of lent ≡ rooms) wh
       by-reading (some r) q = by-limits r q (limits_passed (rebuild r)) refl
 
   -- a refusal is 13 or 9
-  read-refused : (out : List ℕ) (e : ReadError) → read_back (Refused e) o ≡ read_script_answer b lent → Answers (rebuilt (reading_in b)) out (said_by e) out
+  read-refused : (out : List ℕ) (e : ReadError) → read_back (Err e) o ≡ read_script_answer b lent → Answers (rebuilt (reading_in b)) out (said_by e) out
   unfolding read_as
   read-refused out e h = by-reading (reading_in b) refl
     where
@@ -268,11 +269,11 @@ module _ (b : List ℕ) (lent o : Problem) (room : lengths_of lent ≡ rooms) wh
 
 -- ---------------------------------------------------------------- of an answer that is one or the other
 
-module _ (b : List ℕ) (lent o : Problem) (room : lengths_of lent ≡ rooms) (q : Outcome) (h : read_back q o ≡ read_script_answer b lent) where
-  pub accepts-as : (z : Sizes) → q ≡ Read z → ReadAs b z o
-  accepts-as z e = read-given b lent o room z (subst (λ (x : Outcome). read_back x o ≡ read_script_answer b lent) e h)
+module _ (b : List ℕ) (lent o : Problem) (room : lengths_of lent ≡ rooms) (q : Result Sizes ReadError) (h : read_back q o ≡ read_script_answer b lent) where
+  pub accepts-as : (z : Sizes) → q ≡ Ok z → ReadAs b z o
+  accepts-as z e = read-given b lent o room z (subst (λ (x : Result Sizes ReadError). read_back x o ≡ read_script_answer b lent) e h)
 
-  pub refuses-as : (out : List ℕ) (c : ReadError) {r : Said} → q ≡ Refused c → r ≡ said_by c → Answers (rebuilt (reading_in b)) out r out
+  pub refuses-as : (out : List ℕ) (c : ReadError) {r : Result ℕ Unread} → q ≡ Err c → r ≡ said_by c → Answers (rebuilt (reading_in b)) out r out
   refuses-as out c e f =
-      subst (λ (x : Said). Answers (rebuilt (reading_in b)) out x out) (sym f)
-      (read-refused b lent o room out c (subst (λ (x : Outcome). read_back x o ≡ read_script_answer b lent) e h))
+      subst (λ (x : Result ℕ Unread). Answers (rebuilt (reading_in b)) out x out) (sym f)
+      (read-refused b lent o room out c (subst (λ (x : Result Sizes ReadError). read_back x o ≡ read_script_answer b lent) e h))

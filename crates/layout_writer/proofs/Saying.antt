@@ -12,15 +12,19 @@ use Rattle.echo_bytes.specs.declared.Place.{Place}
 use Rattle.echo_bytes.specs.Page.{Page, page, start, written}
 use Rattle.echo_bytes.specs.Laws.{need-exact, written-fits, length-written}
 use Rattle.readback.specs.ScriptReader.{reading_in}
-use Rattle.script_reader.specs.declared.Sizes.{Sizes}
+use Rattle.script_rebuild.specs.declared.Sizes.{Sizes}
 use Rattle.problem_layout.proofs.Texts.{line-in}
 use Rattle.problem_layout.specs.Telling.{Front}
-use Rattle.layout_writer.specs.declared.Said.{Said}
-use Rattle.layout_writer.specs.declared.Said.TheVariants.{Written, Room, TooLarge, TooDeep}
+use Rattle.std.specs.Prelude.{Result, Ok, Err}
+use Rattle.problem_layout.specs.declared.Told.{Told}
+use Rattle.problem_layout.specs.Telling.{shown, Shown}
+use Rattle.script_rebuild.specs.declared.ReadError.TheVariants.{Room}
+use Rattle.layout_writer.specs.declared.Unread.{Unread}
+use Rattle.layout_writer.specs.declared.Unread.TheVariants.{Refused, TooLarge, TooDeep}
 use Rattle.layout_bytes.specs.Encoding.{bytes_of_layout}
 use Rattle.layout_writer.specs.Outputs.{first_of}
 use Rattle.script_depth.specs.Nesting.{too_deep}
-use Rattle.layout_writer.specs.Telling.{Script, too_large, nested, given, longest, rebuilt, script, said_of, written_to, shown, Tells, Known, Answers, Shown}
+use Rattle.layout_writer.specs.Telling.{Script, too_large, nested, given, longest, rebuilt, script, said_of, written_to, line_of, Tells, Answers}
 use Rattle.layout_writer.proofs.Reading.{ReadAs}
 
 -- ---------------------------------------------------------------- the layout, written from the start
@@ -35,13 +39,13 @@ module _ (p : Problem) (lent out : List ℕ) {q : Place} (small : length lent < 
   as-far : out ≡ written_to (given p) lent
   as-far = ap (λ (x : Front). x.bytes) (line-in lent (bytes_of_layout p) h)
 
-  says-written : q.need ≤ length out → Answers (given p) lent (Written q.need) out
+  says-written : q.need ≤ length out → Answers (given p) lent (Ok q.need) out
   says-written l =
       let f : length (bytes_of_layout p) ≤ length lent = (need-exact lent (bytes_of_layout p) small).0 (omega (arith, need-is, same-long)) in
       let n : q.need ≡ length (bytes_of_layout p) = need-is ∙ ap (λ (x : Page). x.place.need) (written-fits lent (bytes_of_layout p) small f) in
-      record { said = ap Written n ∙ rw (said_of, le-leb (length (bytes_of_layout p)) (length lent) f) refl; output = as-far; known = l }
+      record { said = ap (λ (z : ℕ). Ok z) n ∙ rw (said_of, le-leb (length (bytes_of_layout p)) (length lent) f) refl; output = as-far; known = l }
 
-  says-room : length out < q.need → Answers (given p) lent Room out
+  says-room : length out < q.need → Answers (given p) lent (Err (Refused Room)) out
   says-room l =
       let f : length lent < length (bytes_of_layout p) = too_long in
       record { said = rw (said_of, lt-leb (length (bytes_of_layout p)) (length lent) f) refl; output = as-far; known = tt }
@@ -54,7 +58,7 @@ module _ (p : Problem) (lent out : List ℕ) {q : Place} (small : length lent < 
           by_length (no f) = omega arith
 
 -- of other bytes that are known to be this problem's
-pub answers-as : {s t : Script} {lent out : List ℕ} {r : Said} → s ≡ t → Answers t lent r out → Answers s lent r out
+pub answers-as : {s t : Script} {lent out : List ℕ} {r : Result ℕ Unread} → s ≡ t → Answers t lent r out → Answers s lent r out
 answers-as {lent = lent} {out} {r} e a = subst (λ (x : Script). Answers x lent r out) (sym e) a
 
 -- the problem that was read, written from where nothing was
@@ -63,41 +67,33 @@ module _ {b : List ℕ} {z : Sizes} {o : Problem} (a : ReadAs b z o) (lent out :
   from_start : page q out ≡ written (page start lent) (bytes_of_layout a.problem)
   from_start = h ∙ (λ i. written (page (e i) lent) (bytes_of_layout (a.first i)))
 
-  pub reads-written : q.need ≤ length out → Answers (rebuilt (reading_in b)) lent (Written q.need) out
+  pub reads-written : q.need ≤ length out → Answers (rebuilt (reading_in b)) lent (Ok q.need) out
   reads-written l = answers-as a.is (says-written a.problem lent out small from_start l)
 
-  pub reads-room : length out < q.need → Answers (rebuilt (reading_in b)) lent Room out
+  pub reads-room : length out < q.need → Answers (rebuilt (reading_in b)) lent (Err (Refused Room)) out
   reads-room l = answers-as a.is (says-room a.problem lent out small from_start l)
 
 -- ---------------------------------------------------------------- what is not read
 
-pub says-too-large : (b lent : List ℕ) → longest < length b → Answers (script b) lent TooLarge lent
+pub says-too-large : (b lent : List ℕ) → longest < length b → Answers (script b) lent (Err TooLarge) lent
 unfolding script
 says-too-large b lent l = let e : script b ≡ too_large = rw (lt-leb (length b) longest l) refl in answers-as e (record { said = refl; output = refl; known = tt })
 
-pub says-too-deep : (b lent : List ℕ) → length b ≤ longest → too_deep b ≡ true → Answers (script b) lent TooDeep lent
+pub says-too-deep : (b lent : List ℕ) → length b ≤ longest → too_deep b ≡ true → Answers (script b) lent (Err TooDeep) lent
 unfolding script
 says-too-deep b lent l t = let e : script b ≡ nested = rw (le-leb (length b) longest l, t) refl in answers-as e (record { said = refl; output = refl; known = tt })
 
-pub says-read : (b : List ℕ) {lent out : List ℕ} {r : Said} → length b ≤ longest → too_deep b ≡ false → Answers (rebuilt (reading_in b)) lent r out → Answers (script b) lent r out
+pub says-read : (b : List ℕ) {lent out : List ℕ} {r : Result ℕ Unread} → length b ≤ longest → too_deep b ≡ false → Answers (rebuilt (reading_in b)) lent r out → Answers (script b) lent r out
 unfolding script
 says-read b l t a = let e : script b ≡ rebuilt (reading_in b) = rw (le-leb (length b) longest l, t) refl in answers-as e a
 
 -- ---------------------------------------------------------------- the line, and both
 
--- in the arm of one answer
-pub shown-as : {said v : Said} {out : List ℕ} {n : ℕ} (lent : List ℕ) → said ≡ v → record { count = n; bytes = out } ≡ shown v lent → n ≤ length out
-    → Shown said lent n out
-shown-as lent e f g = record { front = f ∙ ap (λ (x : Said). shown x lent) (sym e); inside = g }
-
-pub known_as : {said v : Said} (n : ℕ) → said ≡ v → Known said n → Known v n
-known_as n e h = subst (λ (x : Said). Known x n) e h
-
-pub tells : {s lent out end : List ℕ} {said : Said} {n : ℕ} → Answers (script s) lent said out → Shown said out n end
-    → Tells s lent (record { said = said; length = n }) end
-tells a b =
+pub tells : {s lent out end : List ℕ} {said : Result ℕ Unread} {r : Told Unread} → Answers (script s) lent said out → r.said ≡ said → Shown line_of said out r.length end
+    → Tells s lent r end
+tells a e b =
     record {
-      said = a.said;
-      front = b.front ∙ (λ i. shown (a.said i) (a.output i));
+      said = e ∙ a.said;
+      front = b.front ∙ (λ i. shown line_of (a.said i) (a.output i));
       inside = b.inside;
     }

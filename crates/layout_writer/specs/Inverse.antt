@@ -22,13 +22,14 @@ use Rattle.readback_theorems.specs.Answered.{inputs-whole, inputs-script}
 use Rattle.layout_shape.specs.Layout as printer
 use Rattle.problem_layout.specs.Telling as printing
 use Rattle.problem_layout.specs.Telling.{Front, line_in}
-use Rattle.problem_layout.specs.declared.Told as printing-told
-use Rattle.layout_writer.specs.declared.Said.TheVariants.{Written}
-use Rattle.layout_writer.specs.declared.Told.{Told}
+use Rattle.std.specs.Prelude.{Result, Ok, Err}
+use Rattle.problem_layout.specs.declared.Told.{Told}
+use Rattle.problem_layout.specs.declared.Unprinted.{Unprinted}
+use Rattle.layout_writer.specs.declared.Unread.{Unread}
 use Rattle.layout_bytes.specs.Encoding.{bytes_of_layout}
 use Rattle.layout_writer.specs.Laws.{layout-back}
 use Rattle.script_depth.specs.Nesting.{too_deep}
-use Rattle.layout_writer.specs.Telling.{Script, too_large, nested, no_script, over_limit, given, unless, longest, rebuilt, script, said_of, written_to, shown, Tells}
+use Rattle.layout_writer.specs.Telling.{Script, too_large, nested, no_script, over_limit, given, unless, longest, rebuilt, script, said_of, written_to, line_of, Tells}
 
 -- ---------------------------------------------------------------- a script that is read
 
@@ -79,7 +80,7 @@ module _ (b : List ℕ) (p : Problem) where
 -- ---------------------------------------------------------------- one command after the other
 
 -- what is said of a script that is read
-written-by : (s : Script) (lent : List ℕ) (n : ℕ) → said_of s lent ≡ Written n → (p : Problem) × (s ≡ given p) × (length (bytes_of_layout p) ≤ length lent) × (n ≡ length (bytes_of_layout p))
+written-by : (s : Script) (lent : List ℕ) (n : ℕ) → said_of s lent ≡ Ok n → (p : Problem) × (s ≡ given p) × (length (bytes_of_layout p) ≤ length lent) × (n ≡ length (bytes_of_layout p))
 written-by too_large lent n e = absurd (let z : ◌≡◌ {A = ℕ} 0 1 = cc in omega arith)
 written-by nested lent n e = absurd (let z : ◌≡◌ {A = ℕ} 0 1 = cc in omega arith)
 written-by no_script lent n e = absurd (let z : ◌≡◌ {A = ℕ} 0 1 = cc in omega arith)
@@ -87,7 +88,7 @@ written-by over_limit lent n e = absurd (let z : ◌≡◌ {A = ℕ} 0 1 = cc in
 written-by (given p) lent n e = by-room (dec_le (length (bytes_of_layout p)) (length lent))
   where
     by-room : Dec (length (bytes_of_layout p) ≤ length lent) → (q : Problem) × (given p ≡ given q) × (length (bytes_of_layout q) ≤ length lent) × (n ≡ length (bytes_of_layout q))
-    by-room (yes l) = let f : Written (length (bytes_of_layout p)) ≡ Written n = rw (said_of, le-leb (length (bytes_of_layout p)) (length lent) l) at e in (p, refl, l, cc)
+    by-room (yes l) = let f : ◌≡◌ {A = Result ℕ Unread} (Ok (length (bytes_of_layout p))) (Ok n) = rw (said_of, le-leb (length (bytes_of_layout p)) (length lent) l) at e in (p, refl, l, cc)
     by-room (no l) =
         let f = rw (said_of, lt-leb (length (bytes_of_layout p)) (length lent) (omega arith)) at e in
         absurd (let z : ◌≡◌ {A = ℕ} 0 1 = cc in omega arith)
@@ -104,18 +105,18 @@ fits-front bs lent l =
 
 -- THE COMMANDS ARE EACH OTHER'S INVERSE: what `read_problem` shows of a script that it reads, `print_problem` shows as the script, where its
 -- buffer is long enough; that of the program is.
-pub piped : {b lent out lent₂ out₂ : List ℕ} {r : Told} {r₂ : printing-told.Told} {n : ℕ} → Tells b lent r out → r.said ≡ Written n
+pub piped : {b lent out lent₂ out₂ : List ℕ} {r : Told Unread} {r₂ : Told Unprinted} {n : ℕ} → Tells b lent r out → r.said ≡ Ok n
     → printing.Tells (take r.length out) lent₂ r₂ out₂ → length b ≤ length lent₂ → take r₂.length out₂ ≡ b
 piped {b} {lent} {out} {lent₂} {out₂} {r} {r₂} {n} t e t₂ l =
     let (p, g, fits, m) = written-by (script b) lent n (sym t.said ∙ e) in
     let f : front_of r.length out ≡ front_of n (written_to (given p) lent) =
-    t.front ∙ (λ i. shown ((sym t.said ∙ e) i) (written_to (g i) lent)) in
+    t.front ∙ (λ i. printing.shown line_of ((sym t.said ∙ e) i) (written_to (g i) lent)) in
     let wide : written_to (given p) lent ≡ bytes_of_layout p ++ drop (length (bytes_of_layout p)) lent = ap (λ (x : Front). x.bytes) (fits-front (bytes_of_layout p) lent fits) in
     let s : take r.length out ≡ bytes_of_layout p =
     (λ i. take (f i).count (f i).bytes) ∙ (λ i. take (m i) (wide i)) ∙ take-append_seam (bytes_of_layout p) (drop (length (bytes_of_layout p)) lent) in
     let a = script-back b p g lent₂ l in
     let y : printer.layout (take r.length out) ≡ printer.given p = ap printer.layout s ∙ problem-back b p g in
     let f₂ : front_of r₂.length out₂ ≡ front_of (length b) (b ++ drop (length b) lent₂) =
-    t₂.front ∙ (λ i. printing.shown (printing.said_of (y i) lent₂) (printing.printed_to (y i) lent₂))
-    ∙ (λ i. printing.shown (printing.said_by (a i).number (a i).count) (a i).output) in
+    t₂.front ∙ (λ i. printing.shown printing.line_of (printing.said_of (y i) lent₂) (printing.printed_to (y i) lent₂))
+    ∙ (λ i. printing.shown printing.line_of (printing.said_by (a i).number (a i).count) (a i).output) in
     (λ i. take (f₂ i).count (f₂ i).bytes) ∙ take-append_seam b (drop (length b) lent₂)

@@ -1,11 +1,10 @@
 -- The outputs of `read_script` as a problem: what lies at their front.
-use Rattle.std.specs.Prelude.{ℕ, ◌≤◌, List, [], ◌∷◌, length, take}
+use Rattle.std.specs.Prelude.{ℕ, ◌≤◌, List, [], ◌∷◌, Result, Err, length, take}
 use Rattle.echo_spec.specs.Input.{Problem}
-use Rattle.script_reader.specs.declared.Sizes.{Sizes}
-use Rattle.script_reader.specs.declared.ReadError.{ReadError}
-use Rattle.script_reader.specs.declared.ReadError.TheVariants as error
-use Rattle.layout_writer.specs.declared.Said.{Said}
-use Rattle.layout_writer.specs.declared.Said.TheVariants.{NoScript, Limit, Room}
+use Rattle.script_rebuild.specs.declared.Sizes.{Sizes}
+use Rattle.script_rebuild.specs.declared.ReadError.{ReadError}
+use Rattle.layout_writer.specs.declared.Unread.{Unread}
+use Rattle.layout_writer.specs.declared.Unread.TheVariants.{Refused}
 
 -- as many elements of each as are told
 abbrev pub first_of : Sizes → Problem → Problem
@@ -55,7 +54,5 @@ pub record Lies (z : Sizes) (o : Problem) : Type 0 where
 abbrev pub rooms : List ℕ
 rooms = 34816 ∷ 131072 ∷ 8192 ∷ 256 ∷ 16384 ∷ 512 ∷ 512 ∷ 512 ∷ 512 ∷ 16384 ∷ 512 ∷ 512 ∷ 512 ∷ 512 ∷ 16384 ∷ 512 ∷ 512 ∷ 512 ∷ []
 
-abbrev pub said_by : ReadError → Said
-said_by error.NoScript = NoScript
-said_by error.Limit = Limit
-said_by error.Room = Room
+abbrev pub said_by : ReadError → Result ℕ Unread
+said_by e = Err (Refused e)

@@ -1,5 +1,5 @@
 -- What `read_problem` answers to every input, and what it leaves in the buffer.
-use Rattle.std.specs.Prelude.{ℕ, ◌≤◌, Bool, true, false, not, List, ◌≡◌, leb, length}
+use Rattle.std.specs.Prelude.{ℕ, ◌≤◌, Bool, true, false, not, List, Result, Ok, Err, ◌≡◌, leb, length}
 use Rattle.std.proofs.Math.Option.{Option, none, some}
 use Rattle.reading.specs.Trees.{Reading}
 use Rattle.echo_spec.specs.Input.{Problem}
@@ -7,10 +7,11 @@ use Rattle.readback.specs.Rebuild.{rebuild}
 use Rattle.readback.specs.Records.{inputs}
 use Rattle.readback.specs.ScriptReader.{reading_in}
 use Rattle.readback.specs.ReadAnswers.{limits_passed}
-use Rattle.problem_layout.specs.Telling.{Front, line_in}
-use Rattle.layout_writer.specs.declared.Said.{Said}
-use Rattle.layout_writer.specs.declared.Said.TheVariants.{Written, NoScript, Limit, Room, TooLarge, TooDeep}
-use Rattle.layout_writer.specs.declared.Told.{Told}
+use Rattle.problem_layout.specs.Telling.{line_in, shown, Known}
+use Rattle.problem_layout.specs.declared.Told.{Told}
+use Rattle.script_rebuild.specs.declared.ReadError.TheVariants.{NoScript, Limit, Room}
+use Rattle.layout_writer.specs.declared.Unread.{Unread}
+use Rattle.layout_writer.specs.declared.Unread.TheVariants.{Refused, TooLarge, TooDeep}
 use Rattle.layout_bytes.specs.Encoding.{bytes_of_layout}
 use Rattle.script_depth.specs.Nesting.{too_deep}
 use Rattle.layout_writer.specs.Lines.{no_script_line, limit_line, room_line, too_large_line, too_deep_line}
@@ -44,12 +45,12 @@ script b = unless (leb (length b) longest) too_large (unless (not (too_deep b)) 
 -- ---------------------------------------------------------------- what is said
 
 -- `lent` is the buffer before: the layout goes to its front, as far as it fits
-abbrev pub said_of : Script → List ℕ → Said
-said_of too_large lent = TooLarge
-said_of nested lent = TooDeep
-said_of no_script lent = NoScript
-said_of over_limit lent = Limit
-said_of (given p) lent = elim (leb (length (bytes_of_layout p)) (length lent)) [ true ↦ Written (length (bytes_of_layout p)) | false ↦ Room ]
+abbrev pub said_of : Script → List ℕ → Result ℕ Unread
+said_of too_large lent = Err TooLarge
+said_of nested lent = Err TooDeep
+said_of no_script lent = Err (Refused NoScript)
+said_of over_limit lent = Err (Refused Limit)
+said_of (given p) lent = elim (leb (length (bytes_of_layout p)) (length lent)) [ true ↦ Ok (length (bytes_of_layout p)) | false ↦ Err (Refused Room) ]
 
 abbrev pub written_to : Script → List ℕ → List ℕ
 written_to too_large lent = lent
@@ -60,39 +61,28 @@ written_to (given p) lent = (line_in (bytes_of_layout p) lent).bytes
 
 -- ---------------------------------------------------------------- what is shown
 
--- the layout, which was written, or a line
-abbrev pub shown : Said → List ℕ → Front
-shown (Written n) out = record { count = n; bytes = out }
-shown NoScript out = line_in no_script_line out
-shown Limit out = line_in limit_line out
-shown Room out = line_in room_line out
-shown TooLarge out = line_in too_large_line out
-shown TooDeep out = line_in too_deep_line out
+-- the line where there is no layout
+abbrev pub line_of : Unread → List ℕ
+line_of (Refused NoScript) = no_script_line
+line_of (Refused Limit) = limit_line
+line_of (Refused Room) = room_line
+line_of TooLarge = too_large_line
+line_of TooDeep = too_deep_line
+
+-- each has one
+abbrev pub Always : Unread → Type 0
+Always u = Unit
 
 -- ---------------------------------------------------------------- the contracts
 
 -- THE COMMAND's: what it says, the bytes to be shown and the whole buffer are those of the definitions
-pub record Tells (input lent : List ℕ) (r : Told) (out : List ℕ) : Type 0 where
+pub record Tells (input lent : List ℕ) (r : Told Unread) (out : List ℕ) : Type 0 where
   pub said : r.said ≡ said_of (script input) lent
-  pub front : record { count = r.length; bytes = out } ≡ shown (said_of (script input) lent) (written_to (script input) lent)
+  pub front : record { count = r.length; bytes = out } ≡ shown line_of (said_of (script input) lent) (written_to (script input) lent)
   pub inside : r.length ≤ length out
 
--- a layout lies within the buffer
-abbrev pub Known : Said → ℕ → Type 0
-Known (Written n) room = n ≤ room
-Known NoScript room = Unit
-Known Limit room = Unit
-Known Room room = Unit
-Known TooLarge room = Unit
-Known TooDeep room = Unit
-
 -- before the line
-pub record Answers (s : Script) (lent : List ℕ) (r : Said) (out : List ℕ) : Type 0 where
+pub record Answers (s : Script) (lent : List ℕ) (r : Result ℕ Unread) (out : List ℕ) : Type 0 where
   pub said : r ≡ said_of s lent
   pub output : out ≡ written_to s lent
-  pub known : Known r (length out)
-
--- the line itself
-pub record Shown (said : Said) (lent : List ℕ) (n : ℕ) (out : List ℕ) : Type 0 where
-  pub front : record { count = n; bytes = out } ≡ shown said lent
-  pub inside : n ≤ length out
+  pub known : Known Always r (length out)

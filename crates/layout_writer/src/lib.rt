@@ -7,16 +7,17 @@ ghost use Rattle.readback.specs.ScriptReader.{reading_in};
 ghost use Rattle.lent.specs.Lent.{problem_of};
 ghost use Rattle.echo_bytes.specs.Page.{page, written};
 ghost use Rattle.layout_bytes.specs.Encoding.{bytes_of_layout};
-ghost use Rattle.layout_writer.specs.Lines.{no_script_line, limit_line, room_line, too_large_line, too_deep_line};
 ghost use Rattle.script_rebuild.specs.Decided.{lengths_of};
-ghost use Rattle.layout_writer.specs.Outputs.{Lies, first_of, rooms, said_by};
-ghost use Rattle.layout_writer.specs.Telling.{rebuilt, script, Known, Answers, Shown, Tells};
+ghost use Rattle.layout_writer.specs.Outputs.{Lies, first_of, rooms};
+ghost use Rattle.layout_writer.specs.Telling.{rebuilt, script, line_of, Always, Answers, Tells};
+ghost use Rattle.layout_writer.specs.declared.Unread.TheVariants.{Refused};
 
 use echo_bytes::Place;
-use layout_bytes::{put_functions, put_nodes, put_table};
+use layout_bytes::{put_nodes, put_table};
+use problem_layout::{Line, Told, tell};
 use refusals::{MAX_ARENA, MAX_BITS, MAX_ENTRIES, MAX_NODE_BYTES, MAX_ROOTS, MAX_SIDE};
 use script_depth::too_deep;
-use script_reader::{Outcome, ReadError, Sizes};
+use script_reader::{ReadError, Sizes};
 
 // ---------------------------------------------------------------- the inputs
 
@@ -48,37 +49,42 @@ fn put_problem(
     ensures { page result out.new ≡ written (page p out.old) (bytes_of_layout (first_of z (problem_of nodes.now bits.now side.now roots.now names.now name_start.now name_len.now var_node.now var_width.now anames.now aname_start.now aname_len.now index_width.now value_width.now fnames.now fname_start.now fname_len.now func_width.now))) }
 {
     let q = put_nodes(
-        nodes, z.nodes, bits, z.bits, side, z.side, roots, z.roots, p, out,
+        &nodes[..z.nodes],
+        &bits[..z.bits],
+        &side[..z.side],
+        &roots[..z.roots],
+        p,
+        out,
     );
     let s = put_table(
-        names,
-        z.names,
-        z.variables,
-        name_start,
-        name_len,
-        var_node,
-        var_width,
+        &names[..z.names],
+        &[
+            &name_start[..z.variables],
+            &name_len[..z.variables],
+            &var_node[..z.variables],
+            &var_width[..z.variables],
+        ],
         q,
         out,
     );
     let t = put_table(
-        anames,
-        z.anames,
-        z.arrays,
-        aname_start,
-        aname_len,
-        index_width,
-        value_width,
+        &anames[..z.anames],
+        &[
+            &aname_start[..z.arrays],
+            &aname_len[..z.arrays],
+            &index_width[..z.arrays],
+            &value_width[..z.arrays],
+        ],
         s,
         out,
     );
-    put_functions(
-        fnames,
-        z.fnames,
-        z.functions,
-        fname_start,
-        fname_len,
-        func_width,
+    put_table(
+        &fnames[..z.fnames],
+        &[
+            &fname_start[..z.functions],
+            &fname_len[..z.functions],
+            &func_width[..z.functions],
+        ],
         t,
         out,
     )
@@ -86,30 +92,23 @@ fn put_problem(
 
 // ---------------------------------------------------------------- reading
 
-// What became of the script.
+// Why there is no problem.
 #[derive(Clone, Copy)]
-pub enum Said {
-    // The problem is written, and this is how many bytes it has.
-    Written(usize),
-    // The bytes are no problem's script.
-    NoScript,
-    // The problem is over a limit, or has a number that its record cannot hold.
-    Limit,
-    // The problem is longer than the buffer.
-    Room,
+pub enum Unread {
+    // The bytes are no problem's script; or the problem is over a limit, or has a number that its record cannot hold; or it is longer than
+    // the buffer.
+    Refused(ReadError),
     // The script has more bytes than are read.
     TooLarge,
     // The script is nested more deeply than any problem's within the limits.
     TooDeep,
 }
 
-fn refused(e: ReadError) -> Said
-    ensures { result ≡ said_by e }
-{
-    match e {
-        ReadError::NoScript => Said::NoScript,
-        ReadError::Limit => Said::Limit,
-        ReadError::Room => Said::Room,
+impl From<ReadError> for Unread {
+    ghost from_gives = { λ e u. u ≡ Refused e };
+
+    fn from(e: ReadError) -> Unread {
+        Unread::Refused(e)
     }
 }
 
@@ -135,7 +134,7 @@ fn read_into(
     fname_len: &mut [u64; MAX_ENTRIES],
     func_width: &mut [u64; MAX_ENTRIES],
     out: &mut [u8],
-) -> Said
+) -> Result<usize, Unread>
     requires { lengths_of (problem_of nodes.old bits.old side.old roots.old names.old name_start.old name_len.old var_node.old var_width.old anames.old aname_start.old aname_len.old index_width.old value_width.old fnames.old fname_start.old fname_len.old func_width.old) ≡ rooms }
     ensures { Answers (rebuilt (reading_in script.now)) out.old result out.new }
 {
@@ -161,8 +160,8 @@ fn read_into(
         func_width,
     );
     match read {
-        Outcome::Refused(e) => refused(e),
-        Outcome::Read(z) => {
+        Err(e) => Err(Unread::from(e)),
+        Ok(z) => {
             let p = put_problem(
                 z,
                 nodes,
@@ -188,14 +187,14 @@ fn read_into(
             );
             let n = p.need;
             if n <= out.len() {
-                return Said::Written(n);
+                return Ok(n);
             }
-            Said::Room
+            Err(Unread::Refused(ReadError::Room))
         }
     }
 }
 
-fn read_back(script: &[u8], out: &mut [u8]) -> Said
+fn read_back(script: &[u8], out: &mut [u8]) -> Result<usize, Unread>
     ensures { Answers (rebuilt (reading_in script.now)) out.old result out.new }
 {
     let mut nodes = [0u8; MAX_NODE_BYTES];
@@ -245,114 +244,63 @@ fn read_back(script: &[u8], out: &mut [u8]) -> Said
 // The longest script that is read.
 pub const LONGEST: usize = 2097152;
 
-fn answer(input: &[u8], out: &mut [u8]) -> Said
+fn answer(input: &[u8], out: &mut [u8]) -> Result<usize, Unread>
     ensures { Answers (script input.now) out.old result out.new }
 {
     if input.len() > LONGEST {
-        return Said::TooLarge;
+        return Err(Unread::TooLarge);
     }
     if too_deep(input) {
-        return Said::TooDeep;
+        return Err(Unread::TooDeep);
     }
     read_back(input, out)
 }
 
 // ---------------------------------------------------------------- lines
 
-fn no_script_line(p: Place, out: &mut [u8]) -> Place
-    ensures { page result out.new ≡ written (page p out.old) no_script_line }
+fn refused_text(e: ReadError) -> &'static [u8]
+    ensures { result.now ≡ line_of (Refused e) }
 {
-    p.word(
-        out,
-        b"refused: 13 NoScript: the bytes are no problem's script\n",
-    )
-}
-
-fn limit_line(p: Place, out: &mut [u8]) -> Place
-    ensures { page result out.new ≡ written (page p out.old) limit_line }
-{
-    p.word(
-        out,
-        b"refused: 9 Limit: an input is over its limit, or a number is too large for its record\n",
-    )
-}
-
-fn room_line(p: Place, out: &mut [u8]) -> Place
-    ensures { page result out.new ≡ written (page p out.old) room_line }
-{
-    p.word(
-        out,
-        b"refused: 10 Room: nothing is wrong with the script, but its problem is longer than the buffer for it\n",
-    )
-}
-
-fn too_large_line(p: Place, out: &mut [u8]) -> Place
-    ensures { page result out.new ≡ written (page p out.old) too_large_line }
-{
-    p.word(
-        out,
-        b"input: too large: the script has more bytes than its limit, 2097152\n",
-    )
-}
-
-fn too_deep_line(p: Place, out: &mut [u8]) -> Place
-    ensures { page result out.new ≡ written (page p out.old) too_deep_line }
-{
-    p.word(
-        out,
-        b"input: too deep: the script has more brackets open at once than its limit, 6146\n",
-    )
-}
-
-// The line that tells what is said, at the front of the buffer, or as much of it as the buffer holds. A problem has none. The answer is
-// how many bytes stand at the front of the buffer to be shown.
-fn tell(said: Said, out: &mut [u8]) -> usize
-    requires { Known said (length out.old) }
-    ensures { Shown said out.old result out.new }
-{
-    let p = echo_bytes::start();
-    match said {
-        Said::Written(n) => n,
-        Said::NoScript => {
-            let q = no_script_line(p, out);
-            q.at
+    match e {
+        ReadError::NoScript => b"refused: 13 NoScript: the bytes are no problem's script\n",
+        ReadError::Limit => {
+            b"refused: 9 Limit: an input is over its limit, or a number is too large for its record\n"
         }
-        Said::Limit => {
-            let q = limit_line(p, out);
-            q.at
-        }
-        Said::Room => {
-            let q = room_line(p, out);
-            q.at
-        }
-        Said::TooLarge => {
-            let q = too_large_line(p, out);
-            q.at
-        }
-        Said::TooDeep => {
-            let q = too_deep_line(p, out);
-            q.at
+        ReadError::Room => {
+            b"refused: 10 Room: nothing is wrong with the script, but its problem is longer than the buffer for it\n"
         }
     }
 }
 
-// What is said, and how many bytes at the front of the buffer show it.
-#[derive(Clone, Copy)]
-pub struct Told {
-    pub said: Said,
-    pub length: usize,
+fn text_of(e: Unread) -> &'static [u8]
+    ensures { result.now ≡ line_of e }
+{
+    match e {
+        Unread::Refused(e) => refused_text(e),
+        Unread::TooLarge => {
+            b"input: too large: the script has more bytes than its limit, 2097152\n"
+        }
+        Unread::TooDeep => {
+            b"input: too deep: the script has more brackets open at once than its limit, 6146\n"
+        }
+    }
+}
+
+impl Line for Unread {
+    ghost text = { line_of };
+
+    ghost known = { Always };
+
+    fn line(self, p: Place, out: &mut [u8]) -> Place {
+        p.word(out, text_of(self))
+    }
 }
 
 // THE COMMAND. Any bytes may come in, and any buffer: the problem or the line goes to its front. A problem that does not fit is refused with
 // 10, and a line that does not fit is cut. Ruled out beside its edits: a count of bytes where one of numbers belongs; the columns of two
 // tables exchanged.
-pub fn read_problem(input: &[u8], out: &mut [u8]) -> Told
+pub fn read_problem(input: &[u8], out: &mut [u8]) -> Told<Unread>
     ensures { Tells input.now out.old result out.new }
 {
-    let said = answer(input, out);
-    let n = tell(said, out);
-    Told {
-        said: said,
-        length: n,
-    }
+    tell(answer(input, out), out)
 }

@@ -1,33 +1,22 @@
--- A loop that clears a lent slice, one place a turn. Assumes nothing.
-use Rattle.std.specs.Prelude.{ℕ, zero, suc, ◌+◌, ◌≤◌, ◌<◌, ◌≡◌, refl, List, ◌++◌, length, get_or, drop, set, replicate}
-use Rattle.std.proofs.Common.{ap, ◌∙◌, append-nil, arith, length-set}
-use Rattle.std.proofs.lemmas.List.Edits.{fill_none, fill_more}
+-- A loop that clears a lent slice, one place a turn, and what was cleared. Assumes nothing.
+use Rattle.std.specs.Prelude.{ℕ, zero, suc, ◌+◌, ◌<◌, ◌≡◌, refl, List, [], ◌∷◌, ◌++◌, length, get_or, drop, set, replicate}
+use Rattle.std.proofs.Common.{ap, ◌∙◌, add-one, append-nil, arith}
 use Rattle.std.proofs.Math.Seq.{drop-length}
 use Rattle.echo_spec.specs.Answers.{zeroed}
 
--- the first i places are 0 and the others as they were
-pub record Cleared (lent out : List ℕ) (i : ℕ) : Type 0 where
-  pub size : length out ≡ length lent
-  pub within : i ≤ length lent
-  pub now : out ≡ replicate i 0 ++ drop i lent
+-- one place more has the value v, and the places after it are as they were
+pub fill_next : {X : Type 0} (v : X) (lent : List X) (i : ℕ) → i < length lent
+    → set (replicate i v ++ drop i lent) i v ≡ replicate (i + 1) v ++ drop (i + 1) lent
+fill_next {X = X} v lent i h = rw add-one (next lent i h)
+  where
+    next : (xs : List X) (k : ℕ) → k < length xs → set (replicate k v ++ drop k xs) k v ≡ replicate (suc k) v ++ drop (suc k) xs
+    next [] k l = absurd (omega arith)
+    next (x ∷ xs) zero l = refl
+    next (x ∷ xs) (suc k) l = ap (λ (t : List X). v ∷ t) (next xs k (omega arith))
 
-pub clear-start : (lent : List ℕ) → Cleared lent lent 0
-clear-start lent = record { size = ap length (fill_none lent 0); within = omega arith; now = fill_none lent 0 }
-
-module _ {lent out : List ℕ} {i : ℕ} (h : Cleared lent out i) where
-  pub clear_next : i < length out → Cleared lent (set out i 0) (i + 1)
-  clear_next l =
-      let m : i < length lent = omega (arith, h.size) in
-      record {
-        size = length-set out i 0 ∙ h.size;
-        within = omega arith;
-        now = ap (λ (o : List ℕ). set o i 0) h.now ∙ fill_more i 0 lent m;
-      }
-
-  pub clear-ends : length out ≤ i → out ≡ zeroed lent
-  clear-ends l =
-      let e : i ≡ length lent = omega (arith, h.size, h.within) in
-      h.now ∙ rw (e, drop-length) (append-nil (zeroed lent))
+-- all places have it
+pub fill-ends : {X : Type 0} (v : X) (lent : List X) → replicate (length lent) v ++ drop (length lent) lent ≡ replicate (length lent) v
+fill-ends v lent = rw drop-length (append-nil (replicate (length lent) v))
 
 -- a table that is 0 at each place, and past its end
 pub record Zeros (t : List ℕ) : Type 0 where

@@ -1,45 +1,33 @@
--- The problem behind the slices that are lent: one by one to an entry point, in two arrays to everything inside. The places in the arrays
--- are those that the constants of the code name; no other file says them.
-use Rattle.std.specs.Prelude.{ℕ, ◌≡◌, refl, List, [], ◌∷◌, get_or}
-use Rattle.std.specs.Borrow.{Bor}
+-- The problem behind the slices that are lent: one by one to an entry point for C, by name to everything inside.
+use Rattle.std.specs.Prelude.{ℕ, List}
 use Rattle.echo_spec.specs.Input.{Problem, Dag, dag_of, Query, query_of}
+use Rattle.lent.specs.declared.Problem.{Problem as Lent}
 
-abbrev pub Slice : Type 0
-Slice = Bor (List ℕ)
-
--- the empty slice that a place past the end stands for
-abbrev pub bare : Slice
-bare = record { ref_ptr = (0, 0); now = [] }
-
--- the elements of the slice at place k
-abbrev pub slot : List Slice → ℕ → List ℕ
-slot l k = (get_or l k bare).now
-
--- of the array of bytes and the array of numbers
-abbrev pub problem_at : List Slice → List Slice → Problem
-problem_at b n = record {
-  nodes = slot b 0;
-  bits = slot b 1;
-  side = slot n 0;
-  roots = slot n 1;
-  names = slot b 2;
-  name_start = slot n 2;
-  name_len = slot n 3;
-  var_node = slot n 4;
-  var_width = slot n 5;
-  anames = slot b 3;
-  aname_start = slot n 6;
-  aname_len = slot n 7;
-  index_width = slot n 8;
-  value_width = slot n 9;
-  fnames = slot b 4;
-  fname_start = slot n 10;
-  fname_len = slot n 11;
-  func_width = slot n 12;
+-- what the slices hold
+abbrev pub problem_at : Lent → Problem
+problem_at p = record {
+  nodes = p.nodes.now;
+  bits = p.bits.now;
+  side = p.side.now;
+  roots = p.roots.now;
+  names = p.names.now;
+  name_start = p.name_start.now;
+  name_len = p.name_len.now;
+  var_node = p.var_node.now;
+  var_width = p.var_width.now;
+  anames = p.anames.now;
+  aname_start = p.aname_start.now;
+  aname_len = p.aname_len.now;
+  index_width = p.index_width.now;
+  value_width = p.value_width.now;
+  fnames = p.fnames.now;
+  fname_start = p.fname_start.now;
+  fname_len = p.fname_len.now;
+  func_width = p.func_width.now;
 }
 
-abbrev pub dag_at : List Slice → List Slice → Dag
-dag_at b n = dag_of (problem_at b n)
+abbrev pub dag_at : Lent → Dag
+dag_at p = dag_of (problem_at p)
 
 -- of the lists in the order in which an entry point takes them
 abbrev pub problem_of : List ℕ → List ℕ → List ℕ → List ℕ → List ℕ → List ℕ → List ℕ → List ℕ
@@ -65,10 +53,3 @@ problem_of nodes bits side roots names ns nl vn vw anames an al ai av fnames fn 
   fname_len = fl;
   func_width = fw;
 }
-
--- the arrays that an entry point makes hold the problem of its lists
-pub same-problem : (nodes bits names anames fnames side roots ns nl vn vw an al ai av fn fl fw : Slice)
-    → problem_at (nodes ∷ bits ∷ names ∷ anames ∷ fnames ∷ []) (side ∷ roots ∷ ns ∷ nl ∷ vn ∷ vw ∷ an ∷ al ∷ ai ∷ av ∷ fn ∷ fl ∷ fw ∷ [])
-    ≡ problem_of nodes.now bits.now side.now roots.now names.now ns.now nl.now vn.now vw.now anames.now an.now al.now ai.now av.now fnames.now
-    fn.now fl.now fw.now
-same-problem nodes bits names anames fnames side roots ns nl vn vw an al ai av fn fl fw = refl

@@ -1,16 +1,149 @@
-// A problem as it is lent: its slices stand in two arrays, one of bytes and one of numbers, at the places that the constants name. Beside
-// it what all readers of lent slices need: a number at a place, a record of 17 bytes taken apart, a slice cleared.
+// A problem as it is lent: its eighteen slices by name. Beside it what all readers of lent slices need: a number at a place, a record of
+// 17 bytes taken apart, a slice cleared.
 // Under "Ruled out" stand wrong programs that a public function's contract refuses.
 #![tactic(auto)]
 
-ghost use Rattle.std.specs.Prelude.{◌≡◌, ◌+◌, ◌*◌, ◌≤◌, ◌<◌, length, get_or};
+ghost use Rattle.std.specs.Prelude.{◌≡◌, ◌+◌, ◌*◌, ◌≤◌, ◌<◌, length, get_or, replicate};
 ghost use Rattle.echo_spec.specs.Input as input;
 ghost use Rattle.echo_spec.specs.Answers.{zeroed};
 ghost use Rattle.lent.specs.Records.{node_of};
 
 use refusals::RECORD;
 
-// ---------------------------------------------------------------- the places
+// ---------------------------------------------------------------- the problem
+
+// What an entry point is lent: the nodes, their bits and side entries, the roots, and the tables of variables, arrays and functions, each an
+// arena of names and columns of one length.
+#[derive(Clone, Copy)]
+pub struct Problem<'a> {
+    pub nodes: &'a [u8],
+    pub bits: &'a [u8],
+    pub side: &'a [u64],
+    pub roots: &'a [u64],
+    pub names: &'a [u8],
+    pub name_start: &'a [u64],
+    pub name_len: &'a [u64],
+    pub var_node: &'a [u64],
+    pub var_width: &'a [u64],
+    pub anames: &'a [u8],
+    pub aname_start: &'a [u64],
+    pub aname_len: &'a [u64],
+    pub index_width: &'a [u64],
+    pub value_width: &'a [u64],
+    pub fnames: &'a [u8],
+    pub fname_start: &'a [u64],
+    pub fname_len: &'a [u64],
+    pub func_width: &'a [u64],
+}
+
+// ---------------------------------------------------------------- numbers
+
+// 32 bits from place i on, least significant byte first. Ruled out: the most significant byte first; the byte after place i as the lowest.
+pub fn word32(s: &[u8], i: usize) -> u64
+    requires { i + 4 ≤ length s.now }
+    ensures { (result ≡ input.word32 s.now i) × (result < 4294967296) }
+{
+    let lowest = u64::from(s[i]);
+    let second = u64::from(s[i + 1]);
+    let third = u64::from(s[i + 2]);
+    let highest = u64::from(s[i + 3]);
+    lowest + 256 * second + 65536 * third + 16777216 * highest
+}
+
+// Entry i, or 0 past the end. Ruled out: the last entry where i lies past it; the entry after i.
+pub fn get(s: &[u64], i: u64) -> u64
+    ensures { result ≡ get_or s.now i 0 }
+{
+    s.get(i as usize).copied().unwrap_or(0)
+}
+
+// ---------------------------------------------------------------- node records
+
+// A record: its kind and its four operands, as wide as the widths and side entries that they are compared with.
+#[derive(Clone, Copy, Debug, PartialEq, Eq)]
+pub struct Node {
+    pub kind: u8,
+    pub a: u64,
+    pub b: u64,
+    pub c: u64,
+    pub d: u64,
+}
+
+// The node past the last one.
+const NO_NODE: Node = Node {
+    kind: 255,
+    a: 0,
+    b: 0,
+    c: 0,
+    d: 0,
+};
+
+// How many whole records there are. Ruled out: the count of bytes; one record more where bytes are left over.
+pub fn node_count(nodes: &[u8]) -> usize
+    ensures { result ≡ length (input.nodes_of nodes.now) }
+{
+    nodes.len() / RECORD
+}
+
+// Record i. Ruled out: the highest byte of an operand first; the record before it.
+pub fn node_at(nodes: &[u8], i: usize) -> Node
+    requires { 17 * i + 17 ≤ length nodes.now }
+    ensures { node_of result ≡ input.node_at nodes.now i }
+{
+    let at = RECORD * i;
+    Node {
+        kind: nodes[at],
+        a: word32(nodes, at + 1),
+        b: word32(nodes, at + 5),
+        c: word32(nodes, at + 9),
+        d: word32(nodes, at + 13),
+    }
+}
+
+// Node x, or the node past the last one. Ruled out: the first node in its place; the last.
+pub fn node_of(nodes: &[u8], x: u64) -> Node
+    ensures { node_of result ≡ get_or (input.nodes_of nodes.now) x input.no_node }
+{
+    let i = x as usize;
+    if i < node_count(nodes) {
+        node_at(nodes, i)
+    } else {
+        NO_NODE
+    }
+}
+
+// ---------------------------------------------------------------- what was lent, cleared
+
+// What a cleared slice has at each place.
+pub trait Zero: Copy {
+    ghost ZERO: { Self };
+
+    const ZERO: Self;
+}
+
+impl Zero for u8 {
+    ghost ZERO = { 0 };
+
+    const ZERO: u8 = 0;
+}
+
+impl Zero for u64 {
+    ghost ZERO = { 0 };
+
+    const ZERO: u64 = 0;
+}
+
+// All of what was lent becomes 0. Ruled out: the last place left as it was; a blank in place of 0; only as many cleared as were written.
+pub fn clear<T: Zero>(out: &mut [T])
+    ensures { out.new ≡ replicate (length out.old) T.ZERO }
+{
+    for x in out.iter_mut() {
+        *x = T::ZERO;
+    }
+}
+
+// For the crates that are not yet written over: a problem as two arrays of slices, one of bytes and one of numbers, at the places that these constants name
+// (`specs/Arrays`), and functions for what the language has.
 
 // Of the slices of bytes, and how many there are.
 pub const NODES: usize = 0;
@@ -54,29 +187,11 @@ pub const FUNC_WIDTH: usize = 12;
 
 pub const NUMBERS: usize = 13;
 
-// ---------------------------------------------------------------- numbers
-
 // A byte as a number. Ruled out: a number that is not the byte; one of 256.
 pub fn wide(x: u8) -> u64
     ensures { (result ≡ x) × (result < 256) }
 {
     x as u64
-}
-
-// 32 bits from place i on, least significant byte first. Ruled out: the most significant byte first; the byte after place i as the lowest.
-pub fn word32(s: &[u8], i: usize) -> u64
-    requires { i + 4 ≤ length s.now }
-    ensures { (result ≡ input.word32 s.now i) × (result < 4294967296) }
-{
-    wide(s[i]) + 256 * wide(s[i + 1]) + 65536 * wide(s[i + 2]) + 16777216 * wide(s[i + 3])
-}
-
-// Entry i, or 0 past the end. Ruled out: the last entry where i lies past it; the entry after i.
-pub fn get(s: &[u64], i: u64) -> u64
-    ensures { result ≡ get_or s.now i 0 }
-{
-    let k = i as usize;
-    if k < s.len() { s[k] } else { 0 }
 }
 
 // How many numbers there are. Ruled out: one fewer; a slice taken out of an array, of which nothing is known.
@@ -93,77 +208,16 @@ pub fn size(s: &[u8]) -> usize
     s.len()
 }
 
-// ---------------------------------------------------------------- node records
-
-// A record: its kind and its four operands, as wide as the widths and side entries that they are compared with.
-#[derive(Clone, Copy)]
-pub struct Node {
-    pub kind: u8,
-    pub a: u64,
-    pub b: u64,
-    pub c: u64,
-    pub d: u64,
-}
-
-// How many whole records there are. Ruled out: the count of bytes; one record more where bytes are left over.
-pub fn node_count(nodes: &[u8]) -> usize
-    ensures { result ≡ length (input.nodes_of nodes.now) }
-{
-    nodes.len() / RECORD
-}
-
-// Record i. Ruled out: the highest byte of an operand first; the record before it.
-pub fn node_at(nodes: &[u8], i: usize) -> Node
-    requires { 17 * i + 17 ≤ length nodes.now }
-    ensures { node_of result ≡ input.node_at nodes.now i }
-{
-    let at = RECORD * i;
-    Node {
-        kind: nodes[at],
-        a: word32(nodes, at + 1),
-        b: word32(nodes, at + 5),
-        c: word32(nodes, at + 9),
-        d: word32(nodes, at + 13),
-    }
-}
-
-// Node x, or the node past the last one. Ruled out: the first node in its place; the last.
-pub fn node_of(nodes: &[u8], x: u64) -> Node
-    ensures { node_of result ≡ get_or (input.nodes_of nodes.now) x input.no_node }
-{
-    let i = x as usize;
-    if i < node_count(nodes) {
-        return node_at(nodes, i);
-    }
-    Node {
-        kind: 255,
-        a: 0,
-        b: 0,
-        c: 0,
-        d: 0,
-    }
-}
-
-// ---------------------------------------------------------------- what was lent, cleared
-
-// All of what was lent becomes 0. Ruled out: the last byte left as it was; a blank in place of 0.
+// All of what was lent becomes 0.
 pub fn clear_bytes(out: &mut [u8])
     ensures { out.new ≡ zeroed out.old }
 {
-    let mut i = 0;
-    while i < out.len() {
-        out[i] = 0;
-        i += 1;
-    }
+    clear(out)
 }
 
-// Likewise of numbers. Ruled out: the first number left as it was; only as many cleared as were written.
+// Likewise of numbers.
 pub fn clear_numbers(out: &mut [u64])
     ensures { out.new ≡ zeroed out.old }
 {
-    let mut k = 0;
-    while k < out.len() {
-        out[k] = 0;
-        k += 1;
-    }
+    clear(out)
 }

@@ -27,7 +27,7 @@ use Rattle.lets.specs.Lets.{uses_in, shared, binds, assertion_of, assertions_of,
 use Rattle.lets.specs.Numbers.{endless_number}
 use Rattle.lets.proofs.Numbers.{endless-let-number}
 use Rattle.lets.proofs.Plain.{binds-none, text-plain, roots-plain, clear-unshared}
-use Rattle.lent.specs.Lent.{Slice, problem_at, dag_at}
+use Rattle.lent.specs.Arrays.{Slice, problem_at, dag_at}
 use Rattle.lent.specs.Records.{nodes-length}
 use Rattle.echo_bytes.specs.declared.Place.{Place}
 use Rattle.echo_bytes.specs.Page.{Page, page, start, written}

@@ -4,7 +4,7 @@
 #![tactic(auto)]
 
 ghost use Rattle.std.specs.Prelude.{◌≡◌, ◌≤◌, length};
-ghost use Rattle.lent.specs.Lent.{problem_at, dag_at};
+ghost use Rattle.lent.specs.Arrays.{problem_at, dag_at};
 ghost use Rattle.echo_bytes.specs.Page.{page, start, written};
 ghost use Rattle.lets.specs.Lets.{let_roots};
 ghost use Rattle.echo_bindings.specs.Checking.{uses_at};

@@ -1,5 +1,5 @@
 -- The assertions of a script, placed one after the other, and their nodes.
-use Rattle.std.specs.Prelude.{ℕ, ◌+◌, ◌*◌, ◌≤◌, ◌<◌, ◌≡◌, false, ◌⊎◌, drop, set}
+use Rattle.std.specs.Prelude.{ℕ, ◌+◌, ◌*◌, ◌≤◌, ◌<◌, ◌≡◌, false, ◌⊎◌, drop, set, Result, Ok, Err}
 use Rattle.std.proofs.Math.Path.{refl, ap, sym, subst}
 use Rattle.std.proofs.Common.{◌∙◌, inl, inr, arith, add-one, length-set, take-suc-set}
 use mathlib.Core.List.{List, [], ◌∷◌, ◌++◌, map}
@@ -16,45 +16,48 @@ use Rattle.reader_laws.specs.TermsStrict.{impossible, took-both}
 use Rattle.header_laws.specs.Body.{last_line, AssertionsAt}
 use Rattle.header_laws.specs.Assertions.{NextAssertion, assertion-next, assertion-last}
 use Rattle.heap_laws.specs.Heap.{within, Held, Stacked}
+use Rattle.heap_laws.specs.declared.Heap.{Heap}
 use Rattle.place_laws.specs.Room.{Room, room-before, no_room, put-grows, put-all-grows}
 use Rattle.place_laws.specs.SoFar.{SoFar, so-far-start, so-far-next, so-far-end}
 use Rattle.script_entries.specs.Entries.{Known}
-use Rattle.script_place.specs.declared.Placed.TheVariants.{Node}
+use Rattle.script_place.specs.declared.Unread.{Unread}
+use Rattle.script_place.specs.declared.Unread.TheVariants.{NoScript, Limit}
+use Rattle.script_place.specs.declared.Operand.TheVariants.{Node}
+use Rattle.script_names.specs.declared.Table.{Table}
+use Rattle.script_header.specs.declared.Header.{Header}
 use Rattle.script_place.specs.Terms.{Term, State, PlacedAs}
-use Rattle.place_script.specs.declared.Roots.{Roots}
-use Rattle.place_script.specs.declared.Roots.TheVariants.{No, Over, Are}
 
 -- the nodes so far, before the assertions ts from place `from` on
-pub record Asserted (s t h heap nodes bits : List ℕ) (from : ℕ) (D : Declarations) (ts : List Tree) (first : List Item) : Type 0 where
+pub record Asserted (s : List ℕ) (t : Table) (h : Header) (heap : Heap) (from : ℕ) (D : Declarations) (ts : List Tree) (first : List Item) : Type 0 where
   pub known : Known s t h D
-  pub held : Held heap nodes bits first
+  pub held : Held heap first
   pub stacked : Stacked s heap []
   pub variables : length D.variables ≤ length first
   pub assertions : AssertionsAt s D from ts
 
 -- all are placed and these are their nodes, or there are too many
-abbrev pub RootsTo : List ℕ → List ℕ → List ℕ → List ℕ → List ℕ → Declarations → List Tree → List Item → Roots → Type 0
-RootsTo s heap nodes bits roots D ts first No = Unit
-RootsTo s heap nodes bits roots D ts first Over = (within (put_all D (trees_from ts) first).items ≡ false) ⊎ (256 < length ts)
-RootsTo s heap nodes bits roots D ts first (Are n) =
-    Held heap nodes bits (put_all D (trees_from ts) first).items × (take (length ts) roots ≡ map (node_of (put_all D (trees_from ts) first).items) (put_all D (trees_from ts) first).refs)
+abbrev pub RootsTo : List ℕ → Heap → List ℕ → Declarations → List Tree → List Item → Result ℕ Unread → Type 0
+RootsTo s heap roots D ts first (Err NoScript) = Unit
+RootsTo s heap roots D ts first (Err Limit) = (within (put_all D (trees_from ts) first).items ≡ false) ⊎ (256 < length ts)
+RootsTo s heap roots D ts first (Ok n) =
+    Held heap (put_all D (trees_from ts) first).items × (take (length ts) roots ≡ map (node_of (put_all D (trees_from ts) first).items) (put_all D (trees_from ts) first).refs)
 
 -- k assertions are placed, and the next stands at place p
-pub record Asserting (s t h heap nodes bits roots : List ℕ) (D : Declarations) (ts : List Tree) (first : List Item) (k p : ℕ) : Type 0 where
+pub record Asserting (s : List ℕ) (t : Table) (h : Header) (heap : Heap) (roots : List ℕ) (D : Declarations) (ts : List Tree) (first : List Item) (k p : ℕ) : Type 0 where
   pub known : Known s t h D
   pub now : List Item
   pub os : List (Option TreeSort)
   pub left : List Tree
   pub far : SoFar D (trees_from ts) first now (map here (take k roots)) os (trees_from left)
-  pub held : Held heap nodes bits now
+  pub held : Held heap now
   pub stacked : Stacked s heap []
   pub variables : length D.variables ≤ length now
   pub assertions : AssertionsAt s D p left
   pub count : k + length left ≡ length ts
   pub long : length roots ≡ 256
 
-pub asserting-start : {s t h heap nodes bits : List ℕ} {from : ℕ} {D : Declarations} {ts : List Tree} {first : List Item} (roots : List ℕ) → length roots ≡ 256 → Asserted s t h heap nodes bits from D ts first
-    → Asserting s t h heap nodes bits roots D ts first 0 from
+pub asserting-start : {s : List ℕ} {t : Table} {h : Header} {heap : Heap} {from : ℕ} {D : Declarations} {ts : List Tree} {first : List Item} (roots : List ℕ) → length roots ≡ 256 → Asserted s t h heap from D ts first
+    → Asserting s t h heap roots D ts first 0 from
 asserting-start {D = D} {ts} {first} roots l a = record {
   known = a.known;
   now = first;
@@ -75,7 +78,7 @@ last-no-assertion : expect (bytes "(assert ") last_line ≡ none
 unfolding expect bytes
 last-no-assertion = refl
 
-module _ {s t h heap nodes bits roots : List ℕ} {D : Declarations} {ts : List Tree} {first : List Item} {k p : ℕ} (a : Asserting s t h heap nodes bits roots D ts first k p) where
+module _ {s : List ℕ} {t : Table} {h : Header} {heap : Heap} {roots : List ℕ} {D : Declarations} {ts : List Tree} {first : List Item} {k p : ℕ} (a : Asserting s t h heap roots D ts first k p) where
   -- what stands there, by what is left
   by_left : (l : List Tree) → AssertionsAt s D p l
       → (expect (bytes "(assert ") (drop p s) ≡ none → l ≡ []) × ((q : List ℕ) → expect (bytes "(assert ") (drop p s) ≡ took [] q → (u : Tree) × (us : List Tree) × (l ≡ u ∷ us))
@@ -89,14 +92,14 @@ module _ {s t h heap nodes bits roots : List ℕ} {D : Declarations} {ts : List 
   here-nodes q [] = refl
   here-nodes q (x ∷ xs) = ap (λ (l : List ℕ). x ∷ l) (here-nodes q xs)
 
-  pub asserting-end : expect (bytes "(assert ") (drop p s) ≡ none → (n : ℕ) → RootsTo s heap nodes bits roots D ts first (Are n)
+  pub asserting-end : expect (bytes "(assert ") (drop p s) ≡ none → (n : ℕ) → RootsTo s heap roots D ts first (Ok n)
   unfolding trees_from
   asserting-end f _ =
       let e : a.left ≡ [] = (by_left a.left a.assertions).0 f in
       let z : SoFar D (trees_from ts) first a.now (map here (take k roots)) a.os noTrees = subst (λ (l : List Tree). SoFar D (trees_from ts) first a.now (map here (take k roots)) a.os (trees_from l)) e a.far in
       let (y, _) = so-far-end D (trees_from ts) first a.now (map here (take k roots)) a.os z in
       let n : k ≡ length ts = (let c = a.count in let d = ap length e in omega arith) in (
-        subst (λ (o : PutAll). Held heap nodes bits o.items) (sym y) a.held,
+        subst (λ (o : PutAll). Held heap o.items) (sym y) a.held,
         ap (λ (m : ℕ). take m roots) (sym n) ∙ sym (here-nodes (put_all D (trees_from ts) first).items (take k roots)) ∙ ap (map (node_of (put_all D (trees_from ts) first).items)) (ap (λ (o : PutAll). o.refs) (sym y)),
       )
 
@@ -131,7 +134,7 @@ module _ {s t h heap nodes bits roots : List ℕ} {D : Declarations} {ts : List 
       read = subst (λ (y : List ℕ). read_term (2 * length next_one.one.inside + 2) D y ≡ took one next_one.one.after) inside_is next_one.one.term;
     }
 
-    abbrev pub assertion_state : State D s heap nodes bits 0
+    abbrev pub assertion_state : State D s heap 0
     assertion_state = record {
       items = a.now;
       held = a.held;
@@ -159,12 +162,12 @@ module _ {s t h heap nodes bits roots : List ℕ} {D : Declarations} {ts : List 
     pub assertion-many : k ≡ 256 → (within (put_all D (trees_from ts) first).items ≡ false) ⊎ (256 < length ts)
     assertion-many e = inr (let c = a.count in let d = ap length left_is in omega arith)
 
-    module _ (heap' nodes' bits' : List ℕ) (i w e : ℕ) (x : PlacedAs assertion_term assertion_state heap' nodes' bits' (Node i w e)) (f : k < 256) (z : ℕ) (y : z ≤ length s)
+    module _ (heap' : Heap) (i w e : ℕ) (x : PlacedAs assertion_term assertion_state heap' (Ok (record { operand = Node i; width = w; end = e }))) (f : k < 256) (z : ℕ) (y : z ≤ length s)
         (closes : expect (bytes ")\n") (drop e s) ≡ took [] (drop z s)) where
       rest-is : next_one.rest ≡ drop z s
       rest-is = (took-both {A = List ℕ} [] [] next_one.rest (drop z s) (sym next_one.one.closes ∙ ap (expect (bytes ")\n")) x.0.ends ∙ closes)).1
 
-      pub assertion-next-one : Asserting s t h heap' nodes' bits' (set roots k i) D ts first (k + 1) z
+      pub assertion-next-one : Asserting s t h heap' (set roots k i) D ts first (k + 1) z
       assertion-next-one =
           let long = a.long in
           let m = grows-length a.now (put D one a.now).items (put-grows D one a.now) in

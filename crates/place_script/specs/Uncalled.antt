@@ -1,5 +1,5 @@
 -- The functions that no assertion calls, each called on zeros, one after the other.
-use Rattle.std.specs.Prelude.{ℕ, suc, ◌+◌, ◌≤◌, ◌<◌, ◌≡◌, refl, Bool, true, false, eqb}
+use Rattle.std.specs.Prelude.{ℕ, suc, ◌+◌, ◌≤◌, ◌<◌, ◌≡◌, refl, Bool, true, false, eqb, Option, Some, None, ⊤}
 use Rattle.std.proofs.Math.Path.{ap}
 use Rattle.std.proofs.Common.{sym, ◌∙◌, subst, arith, add-one, eq-eqb, ne_eqb, drop-cons}
 use mathlib.Core.List.{List, [], ◌∷◌, map}
@@ -10,6 +10,7 @@ use Rattle.readback.specs.Rebuild.{Item, with_constants, ended, zeros, calls_any
 use Rattle.rebuilt.specs.Built.{no-function, function_at}
 use Rattle.rebuilt.specs.Constants.{with-constants-grows}
 use Rattle.heap_laws.specs.Heap.{within, Held, Stacked}
+use Rattle.heap_laws.specs.declared.Heap.{Heap}
 use Rattle.heap_laws.specs.Within.{over-grows}
 use Rattle.script_calls.specs.Flags.{flag, Flagged}
 use Rattle.place_script.specs.Zeros.{zeros_call, HeldTo}
@@ -59,21 +60,21 @@ pub flagged-as : (D : Declarations) (ts : Trees) (l : List ℕ) (s : List Item) 
 flagged-as D ts l s f n = flags_of ts l D.functions 0 s (λ i h. let z : 0 + i ≡ i = omega arith in ap (λ (j : ℕ). get_or l j 0) z ∙ f.flags i (omega arith) h)
 
 -- the first k functions are through
-pub record Uncalling (s flags heap nodes bits : List ℕ) (D : Declarations) (first : List Item) (k : ℕ) : Type 0 where
+pub record Uncalling (s flags : List ℕ) (heap : Heap) (D : Declarations) (first : List Item) (k : ℕ) : Type 0 where
   pub now : List Item
   pub same : unflagged flags 0 D.functions first ≡ unflagged flags k (drop k D.functions) now
-  pub held : Held heap nodes bits now
+  pub held : Held heap now
   pub stacked : Stacked s heap []
 
-pub uncalling-start : {s flags heap nodes bits : List ℕ} (D : Declarations) {first : List Item} → Held heap nodes bits first → Stacked s heap [] → Uncalling s flags heap nodes bits D first 0
+pub uncalling-start : {s flags : List ℕ} {heap : Heap} (D : Declarations) {first : List Item} → Held heap first → Stacked s heap [] → Uncalling s flags heap D first 0
 uncalling-start D {first} h k = record { now = first; same = refl; held = h; stacked = k }
 
-module _ {s flags heap nodes bits : List ℕ} {D : Declarations} {first : List Item} {k : ℕ} (u : Uncalling s flags heap nodes bits D first k) where
-  pub uncalling-end : length D.functions ≤ k → HeldTo s heap nodes bits (unflagged flags 0 D.functions first) true
+module _ {s flags : List ℕ} {heap : Heap} {D : Declarations} {first : List Item} {k : ℕ} (u : Uncalling s flags heap D first k) where
+  pub uncalling-end : length D.functions ≤ k → HeldTo s heap (unflagged flags 0 D.functions first) (Some tt)
   unfolding unflagged
   uncalling-end l =
       let e : unflagged flags 0 D.functions first ≡ u.now = u.same ∙ ap (λ (fs : List Function). unflagged flags k fs u.now) (lib.ListN.drop_of_length-le D.functions l) in
-      (subst (λ (t : List Item). Held heap nodes bits t) (sym e) u.held, u.stacked)
+      (subst (λ (t : List Item). Held heap t) (sym e) u.held, u.stacked)
 
   module _ (l : k < length D.functions) where
     abbrev here_function : Function
@@ -87,7 +88,7 @@ module _ {s flags heap nodes bits : List ℕ} {D : Declarations} {first : List I
         ∙ ap (λ (n : ℕ). unflagged flags n (drop n D.functions) (after_function b k here_function u.now)) (sym (add-one k))
 
     -- a function that is flagged
-    pub function-called : (get_or flags k 0 ≡ 0 → ⊥) → Uncalling s flags heap nodes bits D first (k + 1)
+    pub function-called : (get_or flags k 0 ≡ 0 → ⊥) → Uncalling s flags heap D first (k + 1)
     function-called h = record { now = u.now; same = step_is false (ne_eqb (get_or flags k 0) 0 h); held = u.held; stacked = u.stacked }
 
     module _ (h : get_or flags k 0 ≡ 0) (ws : List ℕ) (width : ℕ) (p : here_function.arguments ≡ ws) (q : here_function.width ≡ width) where
@@ -97,14 +98,14 @@ module _ {s flags heap nodes bits : List ℕ} {D : Declarations} {first : List I
       call-is : zeros_call k width ws u.now ≡ call_on_zeros k here_function u.now
       call-is = (λ i. zeros_call k (sym q i) (sym p i) u.now) ∙ zeros-call k here_function u.now
 
-      pub function-zeros : (heap' nodes' bits' : List ℕ) (b : Bool) → b ≡ true → HeldTo s heap' nodes' bits' (zeros_call k width ws u.now) b → Uncalling s flags heap' nodes' bits' D first (k + 1)
-      function-zeros heap' nodes' bits' b e x =
-          let (y, z) = subst (HeldTo s heap' nodes' bits' (zeros_call k width ws u.now)) e x in
-          record { now = call_on_zeros k here_function u.now; same = step-zeros; held = subst (λ (t : List Item). Held heap' nodes' bits' t) call-is y; stacked = z }
+      pub function-zeros : (heap' : Heap) (b : Option ⊤) (v : ⊤) → b ≡ Some v → HeldTo s heap' (zeros_call k width ws u.now) b → Uncalling s flags heap' D first (k + 1)
+      function-zeros heap' b v e x =
+          let (y, z) = subst (HeldTo s heap' (zeros_call k width ws u.now)) e x in
+          record { now = call_on_zeros k here_function u.now; same = step-zeros; held = subst (λ (t : List Item). Held heap' t) call-is y; stacked = z }
 
-      pub function-over : (heap' nodes' bits' : List ℕ) (b : Bool) → b ≡ false → HeldTo s heap' nodes' bits' (zeros_call k width ws u.now) b → within (unflagged flags 0 D.functions first) ≡ false
-      function-over heap' nodes' bits' b e x =
-          let y : within (zeros_call k width ws u.now) ≡ false = subst (HeldTo s heap' nodes' bits' (zeros_call k width ws u.now)) e x in
+      pub function-over : (heap' : Heap) (b : Option ⊤) → b ≡ None → HeldTo s heap' (zeros_call k width ws u.now) b → within (unflagged flags 0 D.functions first) ≡ false
+      function-over heap' b e x =
+          let y : within (zeros_call k width ws u.now) ≡ false = subst (HeldTo s heap' (zeros_call k width ws u.now)) e x in
           subst (λ (t : List Item). within t ≡ false) (sym step-zeros)
           (over-grows (call_on_zeros k here_function u.now) (unflagged flags (k + 1) (drop (k + 1) D.functions) (call_on_zeros k here_function u.now))
           (unflagged-grows flags (k + 1) (drop (k + 1) D.functions) (call_on_zeros k here_function u.now)) (subst (λ (t : List Item). within t ≡ false) call-is y))

@@ -1,6 +1,6 @@
 -- A call on zeros, its arguments one after the other.
 use Prim.Native.Nat.{ℕ, ◌+◌, ◌≤◌, ◌<◌}
-use Rattle.std.specs.Prelude.{◌≡◌, refl, Bool, true, false}
+use Rattle.std.specs.Prelude.{◌≡◌, refl, false, Option, Some, None, ⊤}
 use Rattle.std.proofs.Math.Path.{ap, sym, subst}
 use Rattle.std.proofs.Common.{◌∙◌, arith}
 use mathlib.Core.List.{List, [], ◌∷◌, ◌++◌, map, append-nil, append_assoc}
@@ -9,15 +9,13 @@ use Rattle.lists.specs.Tests.{no→false}
 use Rattle.lists.specs.Places.{Grows, grows-snoc, grows-trans, at_less}
 use Rattle.readback.specs.Rebuild.{Item, a_constant, a_call, with_constant, with_constants, Ref, here, pending, node_of, ended, low_bits, pendings, zeros, side_in, joined}
 use Rattle.rebuilt.specs.Constants.{Has, HasAll, with-constants-grows, with-constants-has, node-of-constant}
-use Rattle.heap_laws.specs.Heap.{within, top_in, stack_in, stack_size, Held, Stacked}
+use Rattle.heap_laws.specs.Heap.{within, stack_size, Held, Stacked}
+use Rattle.heap_laws.specs.declared.Heap.{Heap}
 use Rattle.heap_laws.specs.Within.{joined_snoc, within-parts, over-grows}
 use Rattle.heap_laws.specs.Settling.{with-constants-append, node-grows, low_zeros}
 use Rattle.heap_laws.specs.Stacks.{stacked-same, stacked-cut}
 use Rattle.script_tokens.specs.declared.Number.{Number}
-use Rattle.script_tokens.specs.declared.Number.TheVariants.{No, Is}
 use Rattle.script_entries.specs.Entries.{ArgumentsAt, NextArgument}
-use Rattle.script_heap.specs.declared.Settled.{Settled}
-use Rattle.script_heap.specs.declared.Settled.TheVariants.{Over, At}
 use Rattle.script_heap.specs.Told.{Told, Pushed, ConstantTold}
 
 -- the nodes with a call of function g on zeros of these widths
@@ -25,13 +23,14 @@ unfoldable pub zeros_call : ℕ → ℕ → List ℕ → List Item → List Item
 zeros_call g width ws s = (ended (map zeros ws) (λ node. a_call g width (pendings node (map zeros ws))) s).items
 
 -- these nodes are held, or they are too many
-abbrev pub HeldTo : List ℕ → List ℕ → List ℕ → List ℕ → List Item → Bool → Type 0
-HeldTo s heap nodes bits t true = Held heap nodes bits t × Stacked s heap []
-HeldTo s heap nodes bits t false = within t ≡ false
+abbrev pub HeldTo : List ℕ → Heap → List Item → Option ⊤ → Type 0
+HeldTo s heap t (Some _) = Held heap t × Stacked s heap []
+HeldTo s heap t None = within t ≡ false
 
--- an answer is one of the two
-pub apart : {C : Type 0} (r : Settled) (m : ℕ) → r ≡ Over → r ≡ At m → C
-apart r m e f = absurd (let z : ◌≡◌ {A = ℕ} 0 1 = cc in omega arith)
+-- whether the node was added
+abbrev pub added : Option ℕ → Option ⊤
+added None = None
+added (Some m) = Some tt
 
 abbrev Zeros : List ℕ → List (List ℕ)
 Zeros ws = map zeros ws
@@ -53,26 +52,26 @@ map-here [] ys = refl
 map-here (x ∷ xs) ys = ap (λ (l : List Ref). here x ∷ l) (map-here xs ys)
 
 -- the arguments `done` have their nodes, and the sorts of the others stand at place a
-pub record Zeroing (s heap nodes bits : List ℕ) (ws : List ℕ) (first : List Item) (a : ℕ) : Type 0 where
+pub record Zeroing (s : List ℕ) (heap : Heap) (ws : List ℕ) (first : List Item) (a : ℕ) : Type 0 where
   pub done : List ℕ
   pub left : List ℕ
   pub split : ws ≡ done ++ left
-  pub held : Held heap nodes bits (with_constants (Zeros done) first)
+  pub held : Held heap (with_constants (Zeros done) first)
   pub stacked : Stacked s heap (map here (pendings (node_of (with_constants (Zeros done) first)) (Zeros done)))
   pub sorts : ArgumentsAt s a left
 
-pub zeroing-start : {s heap nodes bits ws : List ℕ} {first : List Item} {a : ℕ} → ArgumentsAt s a ws → Held heap nodes bits first → Stacked s heap [] → Zeroing s heap nodes bits ws first a
+pub zeroing-start : {s : List ℕ} {heap : Heap} {ws : List ℕ} {first : List Item} {a : ℕ} → ArgumentsAt s a ws → Held heap first → Stacked s heap [] → Zeroing s heap ws first a
 unfolding with_constants
 zeroing-start {ws = ws} x h k = record { done = []; left = ws; split = refl; held = h; stacked = k; sorts = x }
 
-module _ {s heap nodes bits ws : List ℕ} {first : List Item} {a : ℕ} (z : Zeroing s heap nodes bits ws first a) where
+module _ {s : List ℕ} {heap : Heap} {ws : List ℕ} {first : List Item} {a : ℕ} (z : Zeroing s heap ws first a) where
   abbrev pub now : List Item
   now = with_constants (Zeros z.done) first
 
   pub place-low : a ≤ length s
   place-low = z.sorts.begin
 
-  pub top-low : top_in heap ≤ stack_size
+  pub top-low : heap.top ≤ stack_size
   top-low = let r = z.stacked.room in let t = z.stacked.top in omega arith
 
   -- ---------------------------------------------------------------- one argument more
@@ -95,40 +94,40 @@ module _ {s heap nodes bits ws : List ℕ} {first : List Item} {a : ℕ} (z : Ze
       (grows-snoc (with_constants (Zeros ws) first) _)
 
   -- what `next_argument` told
-  next-none : NextArgument s a z.left No → z.left ≡ []
+  next-none : NextArgument s a z.left None → z.left ≡ []
   next-none h = by_left z.left h
     where
-      by_left : (l : List ℕ) → NextArgument s a l No → l ≡ []
+      by_left : (l : List ℕ) → NextArgument s a l None → l ≡ []
       by_left [] h = refl
       by_left (w ∷ l) h = absurd h
 
-  next-some : (w e : ℕ) → NextArgument s a z.left (Is w e) → (l : List ℕ) × (z.left ≡ w ∷ l) × (a < e) × (e ≤ length s) × ArgumentsAt s e l
+  next-some : (w e : ℕ) → NextArgument s a z.left (Some (record { value = w; end = e })) → (l : List ℕ) × (z.left ≡ w ∷ l) × (a < e) × (e ≤ length s) × ArgumentsAt s e l
   next-some w e h = by_left z.left h
     where
-      by_left : (l : List ℕ) → NextArgument s a l (Is w e) → (m : List ℕ) × (l ≡ w ∷ m) × (a < e) × (e ≤ length s) × ArgumentsAt s e m
+      by_left : (l : List ℕ) → NextArgument s a l (Some (record { value = w; end = e })) → (m : List ℕ) × (l ≡ w ∷ m) × (a < e) × (e ≤ length s) × ArgumentsAt s e m
       by_left [] h = absurd h
       by_left (v ∷ l) (p, q, r, x) = (l, ap (λ (y : ℕ). y ∷ l) (sym r), p, q, x)
 
-  module _ (r : Number) (told : NextArgument s a z.left r) where
-    argument : (w e : ℕ) → r ≡ Is w e → (l : List ℕ) × (z.left ≡ w ∷ l) × (a < e) × (e ≤ length s) × ArgumentsAt s e l
+  module _ (r : Option Number) (told : NextArgument s a z.left r) where
+    argument : (w e : ℕ) → r ≡ Some (record { value = w; end = e }) → (l : List ℕ) × (z.left ≡ w ∷ l) × (a < e) × (e ≤ length s) × ArgumentsAt s e l
     argument w e q = next-some w e (subst (NextArgument s a z.left) q told)
 
-    pub argument-on : (w e : ℕ) → r ≡ Is w e → (a < e) × (e ≤ length s)
+    pub argument-on : (w e : ℕ) → r ≡ Some (record { value = w; end = e }) → (a < e) × (e ≤ length s)
     argument-on w e q = let (_, _, x, y, _) = argument w e q in (x, y)
 
-    module _ (w e : ℕ) (q : r ≡ Is w e) (heap₁ nodes₁ bits₁ : List ℕ) (x : Settled) (h : ConstantTold heap heap₁ nodes₁ bits₁ (low_bits w 0) now x) where
-      zero-told : Told heap heap₁ nodes₁ bits₁ (top_in heap) (with_constant (zeros w) now) (node_of (with_constant (zeros w) now) (pending (zeros w))) x
-      zero-told = subst (λ (bs : List ℕ). ConstantTold heap heap₁ nodes₁ bits₁ bs now x) (low_zeros w) h
+    module _ (w e : ℕ) (q : r ≡ Some (record { value = w; end = e })) (heap₁ : Heap) (x : Option ℕ) (h : ConstantTold heap heap₁ (low_bits w 0) now x) where
+      zero-told : Told heap heap₁ heap.top (with_constant (zeros w) now) (node_of (with_constant (zeros w) now) (pending (zeros w))) x
+      zero-told = subst (λ (bs : List ℕ). ConstantTold heap heap₁ bs now x) (low_zeros w) h
 
-      pub zero-over : (g width : ℕ) → x ≡ Over → within (zeros_call g width ws first) ≡ false
+      pub zero-over : (g width : ℕ) → x ≡ None → within (zeros_call g width ws first) ≡ false
       zero-over g width f =
           let (l, k, _, _, _) = argument w e q in
-          let b : within (with_constant (zeros w) now) ≡ false = subst (λ (y : Settled). Told heap heap₁ nodes₁ bits₁ (top_in heap) (with_constant (zeros w) now) (node_of (with_constant (zeros w) now) (pending (zeros w))) y) f zero-told in
+          let b : within (with_constant (zeros w) now) ≡ false = subst (λ (y : Option ℕ). Told heap heap₁ heap.top (with_constant (zeros w) now) (node_of (with_constant (zeros w) now) (pending (zeros w))) y) f zero-told in
           over-grows (with_constants (Zeros (z.done ++ (w ∷ []))) first) (zeros_call g width ws first) (whole-grows g width w l k) (subst (λ (t : List Item). within t ≡ false) (one_more w) b)
 
-      module _ (m : ℕ) (f : x ≡ At m) where
-        abbrev told_at : (m ≡ node_of (with_constant (zeros w) now) (pending (zeros w))) × Held heap₁ nodes₁ bits₁ (with_constant (zeros w) now) × (top_in heap₁ ≡ top_in heap) × (stack_in heap₁ ≡ stack_in heap)
-        told_at = subst (λ (y : Settled). Told heap heap₁ nodes₁ bits₁ (top_in heap) (with_constant (zeros w) now) (node_of (with_constant (zeros w) now) (pending (zeros w))) y) f zero-told
+      module _ (m : ℕ) (f : x ≡ Some m) where
+        abbrev told_at : (m ≡ node_of (with_constant (zeros w) now) (pending (zeros w))) × Held heap₁ (with_constant (zeros w) now) × (heap₁.top ≡ heap.top) × (heap₁.stack ≡ heap.stack)
+        told_at = subst (λ (y : Option ℕ). Told heap heap₁ heap.top (with_constant (zeros w) now) (node_of (with_constant (zeros w) now) (pending (zeros w))) y) f zero-told
 
         now₁ : List Item
         now₁ = with_constants (Zeros (z.done ++ (w ∷ []))) first
@@ -141,9 +140,9 @@ module _ {s heap nodes bits ws : List ℕ} {first : List Item} {a : ℕ} (z : Ze
         has_last [] t k = k.0
         has_last (y ∷ xs) t k = has_last xs t k.1
 
-        held₁ : Held heap₁ nodes₁ bits₁ now₁
+        held₁ : Held heap₁ now₁
         unfolding now₁
-        held₁ = subst (λ (t : List Item). Held heap₁ nodes₁ bits₁ t) (one_more w) told_at.1
+        held₁ = subst (λ (t : List Item). Held heap₁ t) (one_more w) told_at.1
 
         m-is : m ≡ node_of now₁ (pending (zeros w))
         unfolding now₁
@@ -171,29 +170,29 @@ module _ {s heap nodes bits ws : List ℕ} {first : List Item} {a : ℕ} (z : Ze
             sym (ap (λ (cs : List (List ℕ)). map here (pendings (node_of now₁) cs)) (map-zeros z.done (w ∷ [])) ∙ ap (map here) (pendings-append (node_of now₁) (Zeros z.done) (zeros w ∷ []))
             ∙ map-here (pendings (node_of now₁) (Zeros z.done)) (node_of now₁ (pending (zeros w)) ∷ []) ∙ ap (λ (n : ℕ). map here (pendings (node_of now₁) (Zeros z.done)) ++ (here n ∷ [])) (sym m-is))
 
-        module _ (heap₂ : List ℕ) (keeps : (nodes bits : List ℕ) (t : List Item) → Held heap₁ nodes bits t → Held heap₂ nodes bits t)
-            (b : Bool) (pushes : (nodes bits : List ℕ) (t : List Item) (script : List ℕ) (refs : List Ref) → Held heap₁ nodes bits t → Stacked script heap₁ refs → Pushed script heap₂ refs (here m) b) where
-          pub zero-next : b ≡ true → Zeroing s heap₂ nodes₁ bits₁ ws first e
+        module _ (heap₂ : Heap) (keeps : (t : List Item) → Held heap₁ t → Held heap₂ t)
+            (b : Option ⊤) (pushes : (t : List Item) (script : List ℕ) (refs : List Ref) → Held heap₁ t → Stacked script heap₁ refs → Pushed script heap₂ refs (here m) b) where
+          pub zero-next : (u : ⊤) → b ≡ Some u → Zeroing s heap₂ ws first e
           unfolding now₁
-          zero-next y =
+          zero-next u y =
               let (l, k, _, _, n) = argument w e q in
               record {
                 done = z.done ++ (w ∷ []);
                 left = l;
                 split = split-next w l k;
-                held = keeps nodes₁ bits₁ now₁ held₁;
+                held = keeps now₁ held₁;
                 stacked = subst (λ (rs : List Ref). Stacked s heap₂ rs) refs-next
-                    (subst (λ (c : Bool). Pushed s heap₂ (map here (pendings (node_of now₁) (Zeros z.done))) (here m) c) y (pushes nodes₁ bits₁ now₁ s (map here (pendings (node_of now₁) (Zeros z.done))) held₁ stacked₁));
+                    (subst (λ (c : Option ⊤). Pushed s heap₂ (map here (pendings (node_of now₁) (Zeros z.done))) (here m) c) y (pushes now₁ s (map here (pendings (node_of now₁) (Zeros z.done))) held₁ stacked₁));
                 sorts = n;
               }
 
           -- more arguments than side entries
-          pub zero-full : (g width : ℕ) → b ≡ false → within (zeros_call g width ws first) ≡ false
+          pub zero-full : (g width : ℕ) → b ≡ None → within (zeros_call g width ws first) ≡ false
           unfolding zeros_call ended side_in
           zero-full g width y =
               let (l, k, _, _, _) = argument w e q in
               let c : length (map here (pendings (node_of now₁) (Zeros z.done))) ≡ stack_size =
-              subst (λ (c : Bool). Pushed s heap₂ (map here (pendings (node_of now₁) (Zeros z.done))) (here m) c) y (pushes nodes₁ bits₁ now₁ s (map here (pendings (node_of now₁) (Zeros z.done))) held₁ stacked₁) in
+              subst (λ (c : Option ⊤). Pushed s heap₂ (map here (pendings (node_of now₁) (Zeros z.done))) (here m) c) y (pushes now₁ s (map here (pendings (node_of now₁) (Zeros z.done))) held₁ stacked₁) in
               let d : length z.done ≡ stack_size =
               sym (length-map (pendings (node_of now₁) (Zeros z.done)) here ∙ length-map (Zeros z.done) (λ bs. node_of now₁ (pending bs)) ∙ length-map z.done zeros) ∙ c in
               let f : length ws ≡ length z.done + length z.left = ap length z.split ∙ length-append z.done z.left in
@@ -205,7 +204,7 @@ module _ {s heap nodes bits ws : List ℕ} {first : List Item} {a : ℕ} (z : Ze
 
     -- ---------------------------------------------------------------- the call itself
 
-    module _ (q : r ≡ No) where
+    module _ (q : r ≡ None) where
       all_done : ws ≡ z.done
       all_done = z.split ∙ ap (λ (l : List ℕ). z.done ++ l) (next-none (subst (NextArgument s a z.left) q told)) ∙ append-nil z.done
 
@@ -216,14 +215,10 @@ module _ {s heap nodes bits ws : List ℕ} {first : List Item} {a : ℕ} (z : Ze
       unfolding zero-nodes
       zero-stack = z.stacked
 
-      pub zeros-called : (g width : ℕ) (heap' nodes' bits' : List ℕ) (x : Settled) (b : Bool) → Told heap heap' nodes' bits' 0 (now ++ (a_call g width zero-nodes ∷ [])) (length now) x
-          → (x ≡ Over → b ≡ false) → ((m : ℕ) → x ≡ At m → b ≡ true) → HeldTo s heap' nodes' bits' (zeros_call g width ws first) b
+      pub zeros-called : (g width : ℕ) (heap' : Heap) (x : Option ℕ) → Told heap heap' 0 (now ++ (a_call g width zero-nodes ∷ [])) (length now) x → HeldTo s heap' (zeros_call g width ws first) (added x)
       unfolding zero-nodes zeros_call ended
-      zeros-called g width heap' nodes' bits' x b h f k =
-          subst (λ (l : List ℕ). HeldTo s heap' nodes' bits' (zeros_call g width l first) b) (sym all_done) (by_answer x h f k)
+      zeros-called g width heap' x h = subst (λ (l : List ℕ). HeldTo s heap' (zeros_call g width l first) (added x)) (sym all_done) (by_answer x h)
         where
-          by_answer : (x : Settled) → Told heap heap' nodes' bits' 0 (now ++ (a_call g width zero-nodes ∷ [])) (length now) x → (x ≡ Over → b ≡ false) → ((m : ℕ) → x ≡ At m → b ≡ true)
-              → HeldTo s heap' nodes' bits' (zeros_call g width z.done first) b
-          by_answer Over h f k = subst (HeldTo s heap' nodes' bits' (zeros_call g width z.done first)) (sym (f refl)) h
-          by_answer (At m) (_, c, d, e) f k =
-              subst (HeldTo s heap' nodes' bits' (zeros_call g width z.done first)) (sym (k m refl)) (c, stacked-cut s z.stacked 0 d e (omega arith))
+          by_answer : (x : Option ℕ) → Told heap heap' 0 (now ++ (a_call g width zero-nodes ∷ [])) (length now) x → HeldTo s heap' (zeros_call g width z.done first) (added x)
+          by_answer None h = h
+          by_answer (Some m) (_, c, d, e) = (c, stacked-cut s z.stacked 0 d e (omega arith))

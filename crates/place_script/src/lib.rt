@@ -6,211 +6,137 @@ ghost use Rattle.std.specs.Prelude.{◌≡◌, List, [], ℕ, ◌+◌, ◌≤◌
 ghost use Rattle.reading.specs.Trees.{Tree, Declarations};
 ghost use Rattle.readback.specs.Rebuild.{Item};
 ghost use Rattle.heap_laws.specs.Heap.{Held, Stacked};
-ghost use Rattle.script_entries.specs.Entries.{names_of, Known, ArgumentsAt};
-ghost use Rattle.script_heap.specs.declared.Settled.TheVariants.{Over, At};
+ghost use Rattle.script_entries.specs.Entries.{names_of, Declares, ArgumentsAt};
 ghost use Rattle.place_script.specs.Variables.{VariablesTo};
 ghost use Rattle.place_script.specs.Zeros.{zeros_call, HeldTo};
 ghost use Rattle.place_script.specs.Uncalled.{unflagged};
 ghost use Rattle.place_script.specs.Scripts.{Ready, ScriptTo, RootsIn};
 ghost use Rattle.place_script.specs.Placing.{PlacedRoots};
 
+use heap_laws::Heap;
 use script_check::last_line;
-use script_entries::{function_at, next_argument, variable_at};
-use script_heap::{BITS, HEAP, NODES, Settled, add_call, add_variable, push_node, settle_number};
-use script_names::TABLE;
-use script_place::{Placed, place};
-use script_tokens::{Number, Step, literal};
-
-// How many roots a script has, all nodes of which are placed; or that the bytes are no script; or that they are over a limit.
-#[derive(Clone, Copy)]
-pub enum Roots {
-    No,
-    Over,
-    Are(usize),
-}
+use script_entries::{Script, next_argument};
+use script_heap::{add_call, add_variable, push_node, settle_number};
+use script_place::{Operand, Unread, place};
+use script_tokens::literal;
 
 // ---------------------------------------------------------------- variables
 
-// The variables, in the order in which they are declared.
-fn place_variables(
-    s: &[u8],
-    t: &[u64; TABLE],
-    h: &[u64; 4],
-    heap: &mut [u64; HEAP],
-    nodes: &mut [u8; NODES],
-) -> bool
-    requires { ((D : Declarations) × Known s.now t.now h.now D) × (names_of h.now ≤ 1536) }
-    ensures { (D : Declarations) (bits : List ℕ) → Known s.now t.now h.now D → Held heap.old nodes.old bits []
-        → Stacked s.now heap.old [] → VariablesTo s.now heap.new nodes.new bits D result }
+// The variables, in the order in which they are declared; none, where they are over a limit.
+fn place_variables(script: &Script, heap: &mut Heap) -> Option<()>
+    requires { ((D : Declarations) × Declares script.now D) × (names_of script.now.header ≤ 1536) }
+    ensures { (D : Declarations) → Declares script.now D → Held heap.old []
+        → Stacked script.now.text.now heap.old [] → VariablesTo script.now.text.now heap.new D result }
 {
-    let v = h[1] as usize;
-    let mut k: usize = 0;
-    while k < v {
-        let w = variable_at(s, t, h, k);
-        let Settled::At(m) = add_variable(heap, nodes, w) else {
-            return false;
-        };
-        k += 1;
+    for k in 0..script.header.variables {
+        let w = script.variable_at(k);
+        add_variable(heap, w)?;
     }
-    true
+    Some(())
 }
 
 // ---------------------------------------------------------------- functions that no assertion calls
 
-// Was the node added?
-fn added(r: Settled) -> bool
-    ensures { (r ≡ Over → result ≡ false) × ((m : ℕ) → r ≡ At m → result ≡ true) }
-{
-    match r {
-        Settled::Over => false,
-        Settled::At(m) => true,
-    }
-}
-
 // A call of function g on zeros; the sorts of its arguments stand at place p.
-fn call_on_zeros(
-    s: &[u8],
-    heap: &mut [u64; HEAP],
-    nodes: &mut [u8; NODES],
-    bits: &mut [u8; BITS],
-    p: usize,
-    g: u64,
-    width: u64,
-) -> bool
-    requires { (ws : List ℕ) × ((first : List Item) × ArgumentsAt s.now p ws × Held heap.old nodes.old bits.old first × Stacked s.now heap.old []) }
-    ensures { (ws : List ℕ) (first : List Item) → ArgumentsAt s.now p ws → Held heap.old nodes.old bits.old first
-        → Stacked s.now heap.old [] → HeldTo s.now heap.new nodes.new bits.new (zeros_call g width ws first) result }
+fn call_on_zeros(s: &[u8], heap: &mut Heap, p: usize, g: u64, width: u64) -> Option<()>
+    requires { (ws : List ℕ) × ((first : List Item) × ArgumentsAt s.now p ws × Held heap.old first × Stacked s.now heap.old []) }
+    ensures { (ws : List ℕ) (first : List Item) → ArgumentsAt s.now p ws → Held heap.old first
+        → Stacked s.now heap.old [] → HeldTo s.now heap.new (zeros_call g width ws first) result }
 {
     let mut a = p;
-    loop {
-        let x = next_argument(s, a);
-        match x {
-            Number::No => {
-                let r = add_call(heap, nodes, 0, g, width);
-                return added(r);
-            }
-            Number::Is(w, e) => {
-                let Settled::At(m) = settle_number(heap, nodes, bits, 0, w) else {
-                    return false;
-                };
-                if !push_node(heap, m) {
-                    return false;
-                }
-                a = e;
-            }
-        }
+    while let Some(x) = next_argument(s, a) {
+        let m = settle_number(heap, 0, x.value)?;
+        push_node(heap, m)?;
+        a = x.end;
     }
+    add_call(heap, 0, g, width)?;
+    Some(())
 }
 
 // Each function whose flag is 0 is called on zeros, in the order in which they are declared.
-fn place_uncalled(
-    s: &[u8],
-    t: &[u64; TABLE],
-    h: &[u64; 4],
-    flags: &[u64; 512],
-    heap: &mut [u64; HEAP],
-    nodes: &mut [u8; NODES],
-    bits: &mut [u8; BITS],
-) -> bool
-    requires { (D : Declarations) × (first : List Item) × Known s.now t.now h.now D × (names_of h.now ≤ 1536) × (length D.functions ≤ 512)
-        × Held heap.old nodes.old bits.old first × Stacked s.now heap.old [] }
-    ensures { (D : Declarations) (first : List Item) → Known s.now t.now h.now D
-        → Held heap.old nodes.old bits.old first → Stacked s.now heap.old []
-        → HeldTo s.now heap.new nodes.new bits.new (unflagged flags.now 0 D.functions first) result }
+fn place_uncalled(script: &Script, flags: &[u64; 512], heap: &mut Heap) -> Option<()>
+    requires { (D : Declarations) × (first : List Item) × Declares script.now D × (names_of script.now.header ≤ 1536) × (length D.functions ≤ 512)
+        × Held heap.old first × Stacked script.now.text.now heap.old [] }
+    ensures { (D : Declarations) (first : List Item) → Declares script.now D
+        → Held heap.old first → Stacked script.now.text.now heap.old []
+        → HeldTo script.now.text.now heap.new (unflagged flags.now 0 D.functions first) result }
 {
-    let n = h[3] as usize - h[2] as usize;
-    let mut g: usize = 0;
-    while g < n {
-        if flags[g] == 0 {
-            let f = function_at(s, t, h, g);
-            if !call_on_zeros(s, heap, nodes, bits, f.arguments, g as u64, f.width) {
-                return false;
-            }
-            g += 1;
-        } else {
-            g += 1;
+    let n = script.header.names - script.header.arrays;
+    for g in 0..n {
+        if flags[g] != 0 {
+            continue;
         }
+        let f = script.function_at(g);
+        call_on_zeros(script.text, heap, f.arguments, g as u64, f.width)?;
     }
-    true
+    Some(())
 }
 
 // ---------------------------------------------------------------- assertions
 
 // The assertions, the first at place `from`, and their nodes.
 fn place_assertions(
-    s: &[u8],
-    t: &[u64; TABLE],
-    h: &[u64; 4],
-    heap: &mut [u64; HEAP],
-    nodes: &mut [u8; NODES],
-    bits: &mut [u8; BITS],
+    script: &Script,
+    heap: &mut Heap,
     roots: &mut [u64; 256],
     from: usize,
-) -> Roots
-    requires { (D : Declarations) × (first : List Item) × Known s.now t.now h.now D × Held heap.old nodes.old bits.old first × Stacked s.now heap.old []
-        × (length D.variables ≤ length first) × (from ≤ length s.now) × (length roots.old ≡ 256) }
-    ensures { PlacedRoots s.now t.now h.now heap.old nodes.old bits.old from heap.new nodes.new bits.new roots.new result }
+) -> Result<usize, Unread>
+    requires { (D : Declarations) × (first : List Item) × Declares script.now D × Held heap.old first × Stacked script.now.text.now heap.old []
+        × (length D.variables ≤ length first) × (from ≤ length script.now.text.now) × (length roots.old ≡ 256) }
+    ensures { PlacedRoots script.now.text.now script.now.table.now script.now.header heap.old from heap.new roots.new result }
 {
     let mut k: usize = 0;
     let mut p = from;
-    loop {
-        let Step::To(a) = literal(s, p, b"(assert ") else {
-            if last_line(s, p) {
-                return Roots::Are(k);
-            }
-            return Roots::No;
+    while let Some(a) = literal(script.text, p, b"(assert ") {
+        let z = place(script, heap, a, 0)?;
+        let i = match z.operand {
+            Operand::Node(i) => i,
+            Operand::Constant(_) => return Err(Unread::NoScript),
         };
-        let z = place(s, t, h, heap, nodes, bits, a, 0);
-        match z {
-            Placed::No => return Roots::No,
-            Placed::Over => return Roots::Over,
-            Placed::Constant(d, w, e) => return Roots::No,
-            Placed::Node(i, w, e) => {
-                if w != 0 {
-                    return Roots::No;
-                }
-                let Step::To(q) = literal(s, e, b")\n") else {
-                    return Roots::No;
-                };
-                if k == 256 {
-                    return Roots::Over;
-                }
-                roots[k] = i;
-                k += 1;
-                p = q;
-            }
+        if z.width != 0 {
+            return Err(Unread::NoScript);
         }
+        let Some(q) = literal(script.text, z.end, b")\n") else {
+            return Err(Unread::NoScript);
+        };
+        if k == 256 {
+            return Err(Unread::Limit);
+        }
+        roots[k] = i;
+        k += 1;
+        p = q;
+    }
+    if last_line(script.text, p) {
+        Ok(k)
+    } else {
+        Err(Unread::NoScript)
     }
 }
 
 // ---------------------------------------------------------------- scripts
 
-// All nodes of a script whose assertions begin at place `from`, in arrays that hold nothing yet, and its roots; or that the bytes are no script, or
-// over a limit. Ruled out: a function that an assertion calls, called on zeros too; roots in another order; an answer that the nodes are over a
-// limit where they keep to it; bytes that are no script told as one.
+// All nodes of a script whose assertions begin at place `from`, in arrays that hold nothing yet, and how many roots it has; or that the bytes
+// are no script, or over a limit. Ruled out: a function that an assertion calls, called on zeros too; roots in another order; an answer that
+// the nodes are over a limit where they keep to it; bytes that are no script told as one.
 pub fn place_script(
-    s: &[u8],
-    t: &[u64; TABLE],
-    h: &[u64; 4],
+    script: &Script,
     flags: &[u64; 512],
-    heap: &mut [u64; HEAP],
-    nodes: &mut [u8; NODES],
-    bits: &mut [u8; BITS],
+    heap: &mut Heap,
     roots: &mut [u64; 256],
     from: usize,
-) -> Roots
-    requires { (D : Declarations) × Known s.now t.now h.now D × (length D.functions ≤ 512) × (names_of h.now ≤ 1536) × Held heap.old nodes.old bits.old [] × Stacked s.now heap.old []
-        × (from ≤ length s.now) × (length roots.old ≡ 256) }
-    ensures reads { (D : Declarations) → Known s.now t.now h.now D → RootsIn s.now D from result }
+) -> Result<usize, Unread>
+    requires { (D : Declarations) × Declares script.now D × (length D.functions ≤ 512) × (names_of script.now.header ≤ 1536) × Held heap.old [] × Stacked script.now.text.now heap.old []
+        × (from ≤ length script.now.text.now) × (length roots.old ≡ 256) }
+    ensures reads { (D : Declarations) → Declares script.now D → RootsIn script.now.text.now D from result }
     ensures placed { (D : Declarations) (ts : List Tree)
-        → Ready s.now t.now h.now flags.now heap.old nodes.old bits.old roots.old from D ts
-        → ScriptTo heap.new nodes.new bits.new roots.new D ts result }
+        → Ready script.now.text.now script.now.table.now script.now.header flags.now heap.old roots.old from D ts
+        → ScriptTo heap.new roots.new D ts result }
 {
-    if !place_variables(s, t, h, heap, nodes) {
-        return Roots::Over;
-    }
-    if !place_uncalled(s, t, h, flags, heap, nodes, bits) {
-        return Roots::Over;
-    }
-    place_assertions(s, t, h, heap, nodes, bits, roots, from)
+    let Some(()) = place_variables(script, heap) else {
+        return Err(Unread::Limit);
+    };
+    let Some(()) = place_uncalled(script, flags, heap) else {
+        return Err(Unread::Limit);
+    };
+    place_assertions(script, heap, roots, from)
 }

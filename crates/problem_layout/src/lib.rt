@@ -2,49 +2,94 @@
 // layout_shape/specs/Layout.antt and docs/FORMATS.md.
 #![tactic(auto)]
 
-ghost use Rattle.std.specs.Prelude.{◌≡◌, ◌≤◌, ◌<◌, length};
+ghost use Rattle.std.specs.Prelude.{◌≡◌, ℕ, List, ◌≤◌, ◌<◌, length};
 ghost use Rattle.echo_bytes.specs.Page.{page, written};
 ghost use Rattle.layout_shape.specs.Layout as layout;
 ghost use Rattle.problem_layout.specs.Lines.{refused_line, input_text, early_line, too_large_line, left_over_line};
-ghost use Rattle.problem_layout.specs.Telling.{Answers, Known, Shown, Tells};
+ghost use Rattle.problem_layout.specs.Telling.{Answers, InInput, Known, Shown, Tells, line_of};
+ghost use Rattle.problem_layout.specs.declared.Unprinted.TheVariants.{Refused, Input};
 
 use echo_bytes::Place;
 use echo_kernel::Echo;
 use input_parts::INPUTS;
-use layout_shape::{Shape, limit, read_shape};
+use layout_shape::{ShapeFault, limit, read_shape};
 use refusals::EchoError;
 
 // ---------------------------------------------------------------- what is said
 
-// What became of the input. With a fault goes the number of its input, from 0.
-#[derive(Clone, Copy)]
-pub enum Said {
-    // The script is written, and this is its length.
-    Script(usize),
-    // The printer refuses the problem.
-    Refused(EchoError),
-    // The bytes end within this input.
-    Early(usize),
-    // The count of this input is over its limit.
-    TooLarge(usize),
-    // Bytes follow the last input.
-    LeftOver,
+// What is told on a line where nothing else is written: what its line is, and what has to be known of it for that.
+pub trait Line: Copy {
+    ghost text: { Self → List ℕ };
+
+    ghost known: { Self → Type 0 };
+
+    fn line(self, p: Place, out: &mut [u8]) -> Place
+        requires { known self }
+        ensures { page result out.new ≡ written (page p out.old) (text self) };
 }
 
-// The problem is read and printed. Bytes that are no problem leave the buffer as it was.
-fn answer(input: &[u8], out: &mut [u8]) -> Said
+// What became of the input, the length of what is written or why there is none, and how many bytes at the front of the buffer show it.
+#[derive(Clone, Copy, Debug, PartialEq, Eq)]
+pub struct Told<E> {
+    pub said: Result<usize, E>,
+    pub length: usize,
+}
+
+// What is said, and where nothing is written its line, at the front of the buffer, or as much of it as the buffer holds. Ruled out: the
+// length of the whole line, where it is cut; the line told behind what was there.
+pub fn tell<E: Line>(said: Result<usize, E>, out: &mut [u8]) -> Told<E>
+    requires { Known E.known said (length out.old) }
+    ensures said { result.said ≡ said }
+    ensures shown { Shown E.text said out.old result.length out.new }
+{
+    match said {
+        Ok(n) => Told {
+            said: Ok(n),
+            length: n,
+        },
+        Err(e) => {
+            let q = e.line(echo_bytes::start(), out);
+            Told {
+                said: Err(e),
+                length: q.at,
+            }
+        }
+    }
+}
+
+// Why there is no script: the printer refuses the problem, or the bytes are none.
+#[derive(Clone, Copy)]
+pub enum Unprinted {
+    Refused(EchoError),
+    Input(ShapeFault),
+}
+
+impl From<EchoError> for Unprinted {
+    ghost from_gives = { λ e u. u ≡ Refused e };
+
+    fn from(e: EchoError) -> Unprinted {
+        Unprinted::Refused(e)
+    }
+}
+
+impl From<ShapeFault> for Unprinted {
+    ghost from_gives = { λ e u. u ≡ Input e };
+
+    fn from(e: ShapeFault) -> Unprinted {
+        Unprinted::Input(e)
+    }
+}
+
+// The length of the script, which is written. Bytes that are no problem leave the buffer as it was.
+fn answer(input: &[u8], out: &mut [u8]) -> Result<usize, Unprinted>
     ensures { Answers input.now out.old result out.new }
 {
     let mut starts = [0usize; INPUTS];
     let mut counts = [0usize; INPUTS];
-    match read_shape(input, &mut starts, &mut counts) {
-        Shape::Early(k) => Said::Early(k),
-        Shape::TooLarge(k) => Said::TooLarge(k),
-        Shape::LeftOver => Said::LeftOver,
-        Shape::Whole => match input_parts::print_parts(input, &starts, &counts, out) {
-            Echo::Printed(n) => Said::Script(n),
-            Echo::Refused(e) => Said::Refused(e),
-        },
+    read_shape(input, &mut starts, &mut counts)?;
+    match input_parts::print_parts(input, &starts, &counts, out) {
+        Echo::Printed(n) => Ok(n),
+        Echo::Refused(e) => Err(Unprinted::Refused(e)),
     }
 }
 
@@ -52,7 +97,7 @@ fn answer(input: &[u8], out: &mut [u8]) -> Said
 
 // The lines of the refusals, one behind the other; that with number n goes from end n to end n + 1, and a number that is no refusal's has
 // none. (One array and no arm for each: in the proof of a `match` every arm carries every text of the function.)
-const REFUSALS: [u8; 1237] =
+static REFUSALS: [u8; 1237] =
     *b"refused: 1 Malformed: a node is not well formed, the columns of a table differ in length, or a root, array or function is not there\n\
     refused: 2 Name: a name is empty or outside its arena, reserved, given twice, starts with @ or ., or has a byte that no quoted symbol has\n\
     refused: 3 Sort: a Bool stands where a bit-vector is wanted, or a bit-vector where a Bool is\n\
@@ -67,7 +112,7 @@ const REFUSALS: [u8; 1237] =
     refused: 12 ArrayWidth: a width in the array table is 0 or over 65536\n\
     refused: 16 ShortRecord: the shorter records end inside a record, or a kind is unknown\n";
 
-const REFUSAL_ENDS: [usize; 18] = [
+static REFUSAL_ENDS: [usize; 18] = [
     0, 0, 132, 270, 363, 447, 530, 589, 703, 831, 876, 977, 1080, 1150, 1150, 1150, 1150, 1237,
 ];
 
@@ -75,15 +120,14 @@ const REFUSAL_ENDS: [usize; 18] = [
 fn refused_line(e: EchoError, p: Place, out: &mut [u8]) -> Place
     ensures { page result out.new ≡ written (page p out.old) (refused_line e) }
 {
-    let lines = REFUSALS;
     let k = refusals::number_of(e) as usize;
     let start = REFUSAL_ENDS[k];
     let end = REFUSAL_ENDS[k + 1];
-    p.word(out, &lines[start..end])
+    p.word(out, &REFUSALS[start..end])
 }
 
 // The names of the inputs likewise.
-const NAMES: [u8; 142] = *b"nodes\
+static NAMES: [u8; 142] = *b"nodes\
     bits\
     side\
     roots\
@@ -102,7 +146,7 @@ const NAMES: [u8; 142] = *b"nodes\
     fname_len\
     func_width";
 
-const NAME_ENDS: [usize; 19] = [
+static NAME_ENDS: [usize; 19] = [
     0, 5, 9, 13, 18, 23, 33, 41, 49, 58, 64, 75, 84, 95, 106, 112, 123, 132, 142,
 ];
 
@@ -110,10 +154,9 @@ fn input_name(k: usize, p: Place, out: &mut [u8]) -> Place
     requires { k < 18 }
     ensures { page result out.new ≡ written (page p out.old) (layout.input_at k).name }
 {
-    let names = NAMES;
     let start = NAME_ENDS[k];
     let end = NAME_ENDS[k + 1];
-    p.word(out, &names[start..end])
+    p.word(out, &NAMES[start..end])
 }
 
 // An input by its number, from 1, and its name.
@@ -156,51 +199,26 @@ fn left_over_line(p: Place, out: &mut [u8]) -> Place
     )
 }
 
-// The line that tells what is said, at the front of the buffer, or as much of it as the buffer holds. A script has none. The
-// answer is how many bytes stand at the front of the buffer to be shown.
-fn tell(said: Said, out: &mut [u8]) -> usize
-    requires { Known said (length out.old) }
-    ensures { Shown said out.old result out.new }
-{
-    let p = echo_bytes::start();
-    match said {
-        Said::Script(n) => n,
-        Said::Refused(e) => {
-            let q = refused_line(e, p, out);
-            q.at
-        }
-        Said::Early(k) => {
-            let q = early_line(k, p, out);
-            q.at
-        }
-        Said::TooLarge(k) => {
-            let q = too_large_line(k, p, out);
-            q.at
-        }
-        Said::LeftOver => {
-            let q = left_over_line(p, out);
-            q.at
+impl Line for Unprinted {
+    ghost text = { line_of };
+
+    ghost known = { InInput };
+
+    fn line(self, p: Place, out: &mut [u8]) -> Place {
+        match self {
+            Unprinted::Refused(e) => refused_line(e, p, out),
+            Unprinted::Input(ShapeFault::Early(k)) => early_line(k, p, out),
+            Unprinted::Input(ShapeFault::TooLarge(k)) => too_large_line(k, p, out),
+            Unprinted::Input(ShapeFault::LeftOver) => left_over_line(p, out),
         }
     }
-}
-
-// What is said, and how many bytes at the front of the buffer show it.
-#[derive(Clone, Copy)]
-pub struct Told {
-    pub said: Said,
-    pub length: usize,
 }
 
 // THE COMMAND. Any bytes may come in, and any buffer: the script or the line goes to its front. A script that does not fit is refused
 // with 10, and a line that does not fit is cut. Ruled out beside its edits: a number's bytes in another order; a count of numbers taken
 // for one of bytes.
-pub fn print_problem(input: &[u8], out: &mut [u8]) -> Told
+pub fn print_problem(input: &[u8], out: &mut [u8]) -> Told<Unprinted>
     ensures { Tells input.now out.old result out.new }
 {
-    let said = answer(input, out);
-    let n = tell(said, out);
-    Told {
-        said: said,
-        length: n,
-    }
+    tell(answer(input, out), out)
 }

@@ -2,14 +2,15 @@
 #![tactic(auto)]
 
 ghost use Rattle.std.specs.Prelude.{◌≡◌};
+ghost use Rattle.script_rebuild.specs.Decided.{error_number};
 ghost use Rattle.read_answers.specs.Answered.{told, sizes_in};
 
-use script_reader::{Outcome, ReadError};
+use script_reader::{ReadError, Sizes};
 
 // Number 0: the script is read, and so many elements of each output are used, the columns of a table told once. Any other number: a refusal,
 // and all others are 0.
 #[repr(C)]
-#[derive(Clone, Copy)]
+#[derive(Clone, Copy, Debug, PartialEq, Eq)]
 pub struct ReadAnswer {
     pub number: u64,
     pub nodes: u64,
@@ -25,7 +26,7 @@ pub struct ReadAnswer {
 }
 
 fn number_of(e: ReadError) -> u64
-    ensures { result ≡ told (Outcome.Refused e) }
+    ensures { result ≡ error_number e }
 {
     match e {
         ReadError::NoScript => 13,
@@ -35,11 +36,11 @@ fn number_of(e: ReadError) -> u64
 }
 
 // Ruled out: 9 and 13 the other way about; a refusal with sizes; the bits told as the side entries.
-pub fn read_answer(r: Outcome) -> ReadAnswer
+pub fn read_answer(r: Result<Sizes, ReadError>) -> ReadAnswer
     ensures { (result.number ≡ told r) × (result.nodes ≡ (sizes_in r).nodes) × (result.bits ≡ (sizes_in r).bits) × (result.side ≡ (sizes_in r).side) × (result.roots ≡ (sizes_in r).roots) × (result.names ≡ (sizes_in r).names) × (result.variables ≡ (sizes_in r).variables) × (result.anames ≡ (sizes_in r).anames) × (result.arrays ≡ (sizes_in r).arrays) × (result.fnames ≡ (sizes_in r).fnames) × (result.functions ≡ (sizes_in r).functions) }
 {
     match r {
-        Outcome::Read(z) => ReadAnswer {
+        Ok(z) => ReadAnswer {
             number: 0,
             nodes: z.nodes as u64,
             bits: z.bits as u64,
@@ -52,7 +53,7 @@ pub fn read_answer(r: Outcome) -> ReadAnswer
             fnames: z.fnames as u64,
             functions: z.functions as u64,
         },
-        Outcome::Refused(e) => ReadAnswer {
+        Err(e) => ReadAnswer {
             number: number_of(e),
             nodes: 0,
             bits: 0,

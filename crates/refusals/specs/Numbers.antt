@@ -1,6 +1,7 @@
 -- The number of a refusal, and the refusal with a number.
-use Rattle.std.specs.Prelude.{ℕ, suc, ◌-◌, ◌≤◌, ◌<◌, ◌≡◌, refl, [], ◌∷◌, get_or}
+use Rattle.std.specs.Prelude.{ℕ, suc, ◌-◌, ◌≤◌, ◌<◌, ◌≡◌, refl, [], ◌∷◌, get_or, Result, Ok, Err, ⊤}
 use Rattle.std.proofs.Common.{arith}
+use Rattle.refusals.specs.declared.Unlisted.{Unlisted}
 use Rattle.refusals.specs.declared.EchoError.{EchoError}
 use Rattle.refusals.specs.declared.EchoError.TheVariants.{Malformed, Name, Sort, Var, Rotate, Shared, Signature, Encoding, Limit, Room, Clash, ArrayWidth, ShortRecord}
 
@@ -18,6 +19,16 @@ error_number Room = 10
 error_number Clash = 11
 error_number ArrayWidth = 12
 error_number ShortRecord = 16
+
+-- what a check answers as a number: 0 where it passes
+abbrev pub refused : {A : Type 0} → Result A EchoError → ℕ
+refused (Ok x) = 0
+refused (Err e) = error_number e
+
+-- what a number is decoded as
+abbrev pub Decodes : ℕ → Result EchoError Unlisted → Type 0
+Decodes n (Ok e) = error_number e ≡ n
+Decodes n (Err u) = (u.0 ≡ n) × ((e : EchoError) → error_number e ≡ n → ⊥)
 
 -- the refusal with this number, from 1 to 12 or 16; the three before 16 are none's here: 14 and 15 are those of the replay of a trace, whose
 -- answer has them

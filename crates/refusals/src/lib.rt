@@ -3,42 +3,82 @@
 #![tactic(auto)]
 
 ghost use Rattle.std.specs.Prelude.{◌≡◌};
-ghost use Rattle.refusals.specs.Numbers.{error_number, Numbered};
+ghost use Rattle.refusals.specs.Numbers.{error_number, Decodes, Numbered};
 
 // ---------------------------------------------------------------- refusals
 
-// Why a problem is refused: the Rust's seven, and five more; and why shorter records are.
-#[derive(Clone, Copy)]
+// Why a problem is refused: the Rust's seven, and five more; and why shorter records are. Each has its number, which stands for it outside
+// the language; 0 is an acceptance, and 14 and 15 are the replay's of a trace alone (`replay_trace`).
+#[derive(Clone, Copy, Debug, PartialEq, Eq)]
 pub enum EchoError {
     // A node is not well formed, columns of a table differ in length, a root is not a node, or a select or call is of none in the tables.
-    Malformed,
+    Malformed = 1,
     // A name is empty, has a byte that no quoted symbol has, is reserved, or is given twice.
-    Name,
+    Name = 2,
     // A Bool where a bit-vector is wanted, or the other way about.
-    Sort,
+    Sort = 3,
     // A variable without an entry of its width, or an entry of width 0.
-    Var,
+    Var = 4,
     // A rotation by what is not a constant, or of a width over 65,536.
-    Rotate,
+    Rotate = 5,
     // An operator node is used more than once.
-    Shared,
+    Shared = 6,
     // A function is not called, or is called in another way than by its first call.
-    Signature,
+    Signature = 7,
     // The nodes or bits are encoded wrongly.
-    Encoding,
+    Encoding = 8,
     // An input is over its limit.
-    Limit,
+    Limit = 9,
     // The result is longer than the lent buffer.
-    Room,
+    Room = 10,
     // A declared name is one that a `let` would give to an operator with two uses or more.
-    Clash,
+    Clash = 11,
     // A width in the array table is 0 or over 65,536.
-    ArrayWidth,
+    ArrayWidth = 12,
     // Shorter records end inside one, or have an unknown kind.
-    ShortRecord,
+    ShortRecord = 16,
 }
 
-// Their numbers, which stand for them inside the code and outside the language. 0 is an acceptance.
+// A refusal's number. Ruled out: numbers from 0 on; 8 and 9 the other way about.
+impl From<EchoError> for u64 {
+    ghost from_gives = { λ e n. n ≡ error_number e };
+
+    fn from(e: EchoError) -> u64 {
+        e as u64
+    }
+}
+
+// A number that no refusal has.
+#[derive(Clone, Copy, Debug, PartialEq, Eq)]
+pub struct Unlisted(pub u64);
+
+// The refusal with a number. Ruled out: the one with the number before it; one refusal for two numbers; a listed number taken for none.
+impl TryFrom<u64> for EchoError {
+    type Error = Unlisted;
+
+    ghost try_from_gives = { Decodes };
+
+    fn try_from(n: u64) -> Result<EchoError, Unlisted> {
+        match n {
+            1 => Ok(EchoError::Malformed),
+            2 => Ok(EchoError::Name),
+            3 => Ok(EchoError::Sort),
+            4 => Ok(EchoError::Var),
+            5 => Ok(EchoError::Rotate),
+            6 => Ok(EchoError::Shared),
+            7 => Ok(EchoError::Signature),
+            8 => Ok(EchoError::Encoding),
+            9 => Ok(EchoError::Limit),
+            10 => Ok(EchoError::Room),
+            11 => Ok(EchoError::Clash),
+            12 => Ok(EchoError::ArrayWidth),
+            16 => Ok(EchoError::ShortRecord),
+            _ => Err(Unlisted(n)),
+        }
+    }
+}
+
+// For the crates that are not yet written over: the numbers as constants, and the two conversions as functions. 0 is an acceptance.
 pub const MALFORMED: u64 = 1;
 
 pub const NAME: u64 = 2;

@@ -14,12 +14,9 @@ use Rattle.script_lines.proofs.Cuts.{cut-rest}
 use Rattle.readback.specs.ScriptReader.{reading_in}
 use Rattle.releases.specs.Release.{rest_script, to_read, read_refusal, earliest, ReleaseAnswer, told, meaning_answer, read_in_order, scripts_answer, release_answer}
 use Rattle.releases.specs.ReleaseScripts.{AllRead, all_read as all_more, rest-unread, declarations_of_all}
-use Rattle.release_meanings.specs.declared.Meanings.{Meanings}
-use Rattle.release_meanings.specs.declared.Meanings.TheVariants.{One, Two}
+use Rattle.std.specs.Prelude.{Option, Some, None}
 use Rattle.release_meanings.specs.Told.{MeaningsTo}
 use Rattle.release_meanings.specs.Cutting.{Step}
-use Rattle.release.specs.declared.Outcome.TheVariants.{OneMeaning, Refused}
-use Rattle.release.specs.Told.{outcome_of}
 
 -- ---------------------------------------------------------------- reading them
 
@@ -101,12 +98,8 @@ module _ (file : List ℕ) (at k : ℕ) (c : ReadTo file at k) where
 
 -- ---------------------------------------------------------------- the answer
 
-refused_as : (n k : ℕ) → 0 < n → Refused n k ≡ outcome_of (told n k)
-refused_as zero k l = absurd (omega arith)
-refused_as (suc n) k l = refl
-
 module _ (file : List ℕ) where
-  pub told-many : leb (length (scripts_of file).scripts) 64 ≡ false → Refused 9 64 ≡ outcome_of (release_answer file)
+  pub told-many : leb (length (scripts_of file).scripts) 64 ≡ false → told 9 64 ≡ release_answer file
   unfolding release_answer
   told-many e = rw e refl
 
@@ -115,9 +108,9 @@ module _ (file : List ℕ) where
     unfolding release_answer
     in_order = rw (T→true (leb (length (scripts_of file).scripts) 64) (le→leb (length (scripts_of file).scripts) 64 few)) refl
 
-    pub told-unread : {n k : ℕ} → Unread file n k → Refused n k ≡ outcome_of (release_answer file)
+    pub told-unread : {n k : ℕ} → Unread file n k → told n k ≡ release_answer file
     unfolding scripts_answer
-    told-unread {n} {k} u = refused_as n k u.0 ∙ ap outcome_of (sym (in_order ∙ u.1 _))
+    told-unread {n} {k} u = sym (in_order ∙ u.1 _)
 
     module _ (h : Whole file) where
       read-scripts : release_answer file ≡ meaning_answer (earliest 0 [] (declarations_of_all (scripts_of file).scripts))
@@ -127,10 +120,10 @@ module _ (file : List ℕ) where
           ap (λ (b : List ℕ). (scripts_of file).scripts ++ rest_script b) h.1 ∙ append-nil (scripts_of file).scripts in
           in_order ∙ rw w (all-read-in-order 0 (scripts_of file).scripts _ h.0)
 
-      pub told-one : (m : Meanings) → MeaningsTo file m → m ≡ One → OneMeaning ≡ outcome_of (release_answer file)
+      pub told-one : (m : Option ℕ) → MeaningsTo file m → m ≡ None → told 0 0 ≡ release_answer file
       unfolding meaning_answer
-      told-one m k e = ap outcome_of (sym (read-scripts ∙ ap meaning_answer (subst (MeaningsTo file) e k)))
+      told-one m k e = sym (read-scripts ∙ ap meaning_answer (subst (MeaningsTo file) e k))
 
-      pub told-two : (m : Meanings) {i : ℕ} → MeaningsTo file m → m ≡ Two i → Refused 17 i ≡ outcome_of (release_answer file)
+      pub told-two : (m : Option ℕ) {i : ℕ} → MeaningsTo file m → m ≡ Some i → told 17 i ≡ release_answer file
       unfolding meaning_answer
-      told-two m k e = ap outcome_of (sym (read-scripts ∙ ap meaning_answer (subst (MeaningsTo file) e k)))
+      told-two m k e = sym (read-scripts ∙ ap meaning_answer (subst (MeaningsTo file) e k))

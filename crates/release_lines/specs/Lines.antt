@@ -1,5 +1,5 @@
 -- The line of a declaration as the printer writes it, and the places of its parts in a file.
-use Rattle.std.specs.Prelude.{ℕ, ◌+◌, ◌-◌, ◌≤◌, ◌<◌, ◌≡◌, List, [], ◌∷◌, ◌++◌, Bool, false, eqb, length, drop, get_or}
+use Rattle.std.specs.Prelude.{Option, Some, None, ℕ, ◌-◌, ◌≤◌, ◌<◌, ◌≡◌, List, [], ◌∷◌, ◌++◌, Bool, false, eqb, length, drop, get_or}
 use Rattle.lists.specs.Bytes.{bytes}
 use Rattle.echo_spec.specs.Render.{quoted, sort_text, sorts_text, texts}
 use Rattle.reader_laws.specs.TermsRead.{NoBar}
@@ -8,7 +8,6 @@ use Rattle.script_tokens.specs.Reached.{between}
 use Rattle.script_names.specs.Entries.{Named}
 use Rattle.releases.specs.Release.{Meaning, a_variable, an_array, a_function, Declared}
 use Rattle.release_lines.specs.declared.Line.{Line}
-use Rattle.release_lines.specs.declared.Line.TheVariants.{End, Is}
 
 -- what stands before the name's first bar
 unfoldable pub word_text : Meaning → List ℕ
@@ -55,8 +54,8 @@ pub record DeclaredAt (s : List ℕ) (q : ℕ) (xs : List Declared) : Type 0 whe
   pub plain : AllOk (λ (x : Declared). NoBar x.name) xs
 
 -- the next of the declarations whose lines stand from place q on, or that there is none
-abbrev pub NextLine : List ℕ → ℕ → List Declared → Line → Type 0
-NextLine s q [] End = Unit
-NextLine s q [] (Is a f e) = ⊥
-NextLine s q (x ∷ xs) End = ⊥
-NextLine s q (x ∷ xs) (Is a f e) = (q < e) × LineIs s a f e x × DeclaredAt s e xs
+abbrev pub NextLine : List ℕ → ℕ → List Declared → Option Line → Type 0
+NextLine s q [] None = Unit
+NextLine s q [] (Some l) = ⊥
+NextLine s q (x ∷ xs) None = ⊥
+NextLine s q (x ∷ xs) (Some l) = (q < l.end) × LineIs s l.name l.name_end l.end x × DeclaredAt s l.end xs

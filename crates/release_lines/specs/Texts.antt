@@ -1,13 +1,12 @@
 -- What the line of a declaration says is known by its bytes: two lines that begin alike after the name mean the same.
-use Rattle.std.specs.Prelude.{ℕ, zero, suc, ◌+◌, ◌≤◌, ◌<◌, ◌≡◌, refl, true, false, not, T, leb, eqb, length, drop, get_or}
+use Rattle.std.specs.Prelude.{ℕ, suc, ◌+◌, ◌<◌, ◌≡◌, refl, true, not, T, leb, eqb, length, drop, get_or}
 use Rattle.std.proofs.Math.Path.{ap, sym}
-use Rattle.std.proofs.Common.{◌∙◌, subst, arith, eqb→eq, length-append}
-use mathlib.Core.List.{List, [], ◌∷◌, ◌++◌, map, append_assoc, append-nil}
-use Rattle.std.proofs.Math.Option.{Option, none, some}
+use Rattle.std.proofs.Common.{◌∙◌, subst, arith, eqb→eq}
+use mathlib.Core.List.{List, [], ◌∷◌, ◌++◌, map, append_assoc}
 use Rattle.std.proofs.Math.Dec.{not_T}
 use Rattle.lists.specs.Bytes.{bytes}
 use Rattle.lists.specs.Tests.{all-weaken}
-use Rattle.reading.specs.Trees.{Name, Variable, Array, Function, Declarations}
+use Rattle.reading.specs.Trees.{Declarations}
 use Rattle.echo_spec.specs.Render.{sort_text, sorts_text, variable_text, array_text, function_text, texts, declarations_text}
 use Rattle.theorems.specs.Lines.{Shown, shown-text}
 use Rattle.theorems.specs.ScriptLines.{Ends, ends_more, ends_close, shown-sort, shown-sorts}

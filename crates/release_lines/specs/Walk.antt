@@ -1,28 +1,24 @@
 -- The walk from line to line: what the parts of a line are known by.
-use Rattle.std.specs.Prelude.{ℕ, suc, ◌+◌, ◌-◌, ◌≤◌, ◌<◌, ◌≡◌, refl, Bool, true, false, not, eqb, length, take, drop}
+use Rattle.std.specs.Prelude.{Option as Maybe, Some, None, ℕ, ◌+◌, ◌-◌, ◌≤◌, ◌<◌, ◌≡◌, refl, Bool, not, length, take, drop}
 use Rattle.std.proofs.Math.Path.{ap, sym}
 use Rattle.std.proofs.Common.{◌∙◌, subst, arith, eq-eqb, length-append, length-drop, drop-drop}
 use mathlib.Core.List.{List, [], ◌∷◌, ◌++◌, append_assoc}
-use Rattle.std.proofs.Math.Option.{Option, none, some}
+use Rattle.std.proofs.Math.Option.{none}
 use Rattle.std.proofs.Math.Dec.{T}
 use Rattle.std.proofs.Math.ListN.{get_or}
 use Rattle.std.proofs.Math.Seq.{get_or-drop, take-append_seam}
 use Rattle.lists.specs.Bytes.{bytes}
 use Rattle.lists.specs.Tests.{true→T, by-test}
-use Rattle.reading.specs.Trees.{Name}
 use Rattle.echo_spec.specs.Render.{quoted, texts}
 use Rattle.readback.specs.Reader.{Took, took, up_to, name_read}
 use Rattle.theorems.specs.ScriptLines.{Ends}
-use Rattle.reader_laws.specs.TermsRead.{Fails, NoBar, up-to, read_name}
+use Rattle.reader_laws.specs.TermsRead.{Fails, up-to, read_name}
 use Rattle.reader_laws.specs.TermsStrict.{impossible, took-both}
 use Rattle.script_tokens.specs.Reached.{between, Stretch, NameTo, ends_name}
-use Rattle.script_tokens.specs.declared.Step.{Step}
-use Rattle.script_tokens.specs.declared.Step.TheVariants.{No, To}
-use Rattle.script_names.specs.Entries.{Named}
 use Rattle.script_names.specs.Laws.{between-length}
 use Rattle.releases.specs.Release.{Meaning, a_variable, an_array, a_function, Declared}
-use Rattle.release_lines.specs.declared.Line.TheVariants.{End, Is}
-use Rattle.release_lines.specs.Lines.{word_text, meaning_text, line_text, ends_line, LineAt, LineIs, DeclaredAt, NextLine}
+use Rattle.release_lines.specs.declared.Line.{Line}
+use Rattle.release_lines.specs.Lines.{word_text, meaning_text, line_text, ends_line, LineIs, DeclaredAt, NextLine}
 use Rattle.release_lines.specs.Texts.{meaning-ends, no-feed}
 
 -- ---------------------------------------------------------------- stretches
@@ -102,13 +98,13 @@ module _ (s : List ℕ) (q : ℕ) (x : Declared) (xs : List Declared) (h : Decla
     name-read : name_read (drop (b + 1) s) ≡ took x.name (meaning_text x.meaning ++ after)
     name-read = ap name_read at_name ∙ read_name x.name h.plain.0 _
 
-    pub has-name : (r : Step) → NameTo s (b + 1) (name_read (drop (b + 1) s)) r → r ≡ No → ⊥
+    pub has-name : (r : Maybe ℕ) → NameTo s (b + 1) (name_read (drop (b + 1) s)) r → r ≡ None → ⊥
     has-name r k e =
         let n : name_read (drop (b + 1) s) ≡ none = subst (NameTo s (b + 1) (name_read (drop (b + 1) s))) e k in
         impossible (sym n ∙ name-read)
 
-    module _ (r : Step) (f : ℕ) (k : NameTo s (b + 1) (name_read (drop (b + 1) s)) r) (e : r ≡ To f) where
-      to : NameTo s (b + 1) (name_read (drop (b + 1) s)) (To f)
+    module _ (r : Maybe ℕ) (f : ℕ) (k : NameTo s (b + 1) (name_read (drop (b + 1) s)) r) (e : r ≡ Some f) where
+      to : NameTo s (b + 1) (name_read (drop (b + 1) s)) (Some f)
       to = subst (NameTo s (b + 1) (name_read (drop (b + 1) s))) e k
 
       both : (between s (b + 1) (f - 1) ≡ x.name) × (drop f s ≡ meaning_text x.meaning ++ after)
@@ -147,18 +143,18 @@ module _ (s : List ℕ) (q : ℕ) (x : Declared) (xs : List Declared) (h : Decla
 -- ---------------------------------------------------------------- as the code has it
 
 module _ (s : List ℕ) (q : ℕ) where
-  pub no_line : ((x : Declared) (xs : List Declared) → DeclaredAt s q (x ∷ xs) → ⊥) → (xs : List Declared) → DeclaredAt s q xs → NextLine s q xs End
+  pub no_line : ((x : Declared) (xs : List Declared) → DeclaredAt s q (x ∷ xs) → ⊥) → (xs : List Declared) → DeclaredAt s q xs → NextLine s q xs None
   no_line f [] h = tt
   no_line f (x ∷ xs) h = f x xs h
 
   -- where the second byte is that of a declaration there is one
-  pub some-line : {a f e : ℕ} → get_or s (q + 1) 0 ≡ 100 → ((x : Declared) (xs : List Declared) → DeclaredAt s q (x ∷ xs) → (q < e) × LineIs s a f e x × DeclaredAt s e xs)
-      → (xs : List Declared) → DeclaredAt s q xs → NextLine s q xs (Is a f e)
+  pub some-line : (l : Line) → get_or s (q + 1) 0 ≡ 100 → ((x : Declared) (xs : List Declared) → DeclaredAt s q (x ∷ xs) → (q < l.end) × LineIs s l.name l.name_end l.end x × DeclaredAt s l.end xs)
+      → (xs : List Declared) → DeclaredAt s q xs → NextLine s q xs (Some l)
   unfolding texts
-  some-line g k [] h =
+  some-line l g k [] h =
       let z : get_or h.rest 1 0 ≡ 100 = ap (λ (l : List ℕ). get_or l 1 0) (sym h.text) ∙ get_or-drop q s 1 0 ∙ g in
       absurd (subst T h.ends (true→T (eq-eqb (get_or h.rest 1 0) 100 z)))
-  some-line g k (x ∷ xs) h = k x xs h
+  some-line l g k (x ∷ xs) h = k x xs h
 
-pub name-inside : (s : List ℕ) (a : ℕ) (r : Step) {f : ℕ} → NameTo s a (name_read (drop a s)) r → r ≡ To f → f ≤ length s
-name-inside s a r {f} k e = let t : NameTo s a (name_read (drop a s)) (To f) = subst (NameTo s a (name_read (drop a s))) e k in t.1
+pub name-inside : (s : List ℕ) (a : ℕ) (r : Maybe ℕ) {f : ℕ} → NameTo s a (name_read (drop a s)) r → r ≡ Some f → f ≤ length s
+name-inside s a r {f} k e = let t : NameTo s a (name_read (drop a s)) (Some f) = subst (NameTo s a (name_read (drop a s))) e k in t.1

@@ -7,19 +7,25 @@ ghost use Rattle.script_tokens.specs.Reached.{Stretch};
 ghost use Rattle.releases.specs.Release.{Declared};
 ghost use Rattle.release_lines.specs.Lines.{ends_line, DeclaredAt, NextLine};
 
-use script_tokens::{Step, bar_at, name_end};
+use script_tokens::{Ending, bar_at, byte_at, name_end, stretch_end};
 
-// Where a declaration's name begins, the place after its last bar, the place after its line; or that there is no declaration.
-#[derive(Clone, Copy)]
-pub enum Line {
-    End,
-    Is(usize, usize, usize),
+// The line of a declaration: where its name begins, the place after its name's last bar, the place after the line.
+#[derive(Clone, Copy, Debug, PartialEq, Eq)]
+pub struct Line {
+    pub name: usize,
+    pub name_end: usize,
+    pub end: usize,
 }
 
-fn ends_line(c: u8) -> bool
-    ensures { result ≡ ends_line c }
-{
-    c == 10
+// The line feed after a line.
+pub struct LineFeed;
+
+impl Ending for LineFeed {
+    ghost ends = { ends_line };
+
+    fn ends(c: u8) -> bool {
+        c == b'\n'
+    }
 }
 
 // The place of the first line feed from here on, or the end. Ruled out: the place after it; the last line feed.
@@ -27,38 +33,30 @@ pub fn line_feed(s: &[u8], at: usize) -> usize
     requires { at ≤ length s.now }
     ensures { Stretch ends_line s.now at result }
 {
-    let mut e = at;
-    while e < s.len() {
-        if ends_line(s[e]) {
-            return e;
-        }
-        e += 1;
-    }
-    e
+    stretch_end::<LineFeed>(s, at)
 }
 
 // The next declaration from the start of its line on. Ruled out: a place of the name that has its bar; the end of the line before its line feed;
 // an assertion taken for a declaration.
-pub fn next_line(s: &[u8], q: usize) -> Line
+pub fn next_line(s: &[u8], q: usize) -> Option<Line>
     requires { q ≤ length s.now }
     ensures { (xs : List Declared) → DeclaredAt s.now q xs → NextLine s.now q xs result }
 {
-    if s.len() - q < 2 {
-        return Line::End;
-    }
-    if s[q + 1] != b'd' {
-        return Line::End;
+    if byte_at(s, q + 1) != b'd' {
+        return None;
     }
     let b = bar_at(s, q);
     if b >= s.len() {
-        return Line::End;
+        return None;
     }
-    let Step::To(f) = name_end(s, b + 1) else {
-        return Line::End;
-    };
+    let f = name_end(s, b + 1)?;
     let d = line_feed(s, f);
     if d >= s.len() {
-        return Line::End;
+        return None;
     }
-    Line::Is(b + 1, f, d + 1)
+    Some(Line {
+        name: b + 1,
+        name_end: f,
+        end: d + 1,
+    })
 }

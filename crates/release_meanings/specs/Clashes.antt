@@ -1,11 +1,9 @@
 -- The scripts are held beside those before them: what the table tells is what the definitions say.
-use Rattle.std.specs.Prelude.{ℕ, zero, suc, ◌+◌, ◌-◌, ◌*◌, ◌≤◌, ◌<◌, ◌≡◌, refl, List, [], ◌∷◌, ◌++◌, map, Bool, true, false, T, length, take, drop, get_or, replicate}
+use Rattle.std.specs.Prelude.{ℕ, zero, suc, ◌+◌, ◌*◌, ◌≤◌, ◌<◌, ◌≡◌, refl, List, [], ◌∷◌, ◌++◌, Bool, true, false, T, length, take, drop, get_or}
 use Rattle.std.proofs.Math.Path.{ap}
 use Rattle.std.proofs.Common.{sym, ◌∙◌, subst, append_assoc, append-nil, arith, length-append}
-use Rattle.std.proofs.Math.Option.{Option, none, some}
+use Rattle.std.proofs.Math.Option.{none, some}
 use Rattle.std.proofs.Math.ListN.{get_elem?}
-use Rattle.std.proofs.lemmas.List.{get_or-replicate, length-replicate}
-use Rattle.lists.specs.Tests.{true→T}
 use Rattle.reading.specs.Trees.{Declarations, Reading}
 use Rattle.echo_spec.specs.Render.{render}
 use Rattle.script_lines.specs.Lines.{following_script, Cut, scripts_of}
@@ -21,12 +19,11 @@ use Rattle.releases.specs.ReleaseLaws.{Declares, Agree, At, none_of, one_of}
 use Rattle.releases.proofs.ReleaseLaws.{agree-if-not, differing}
 use Rattle.releases.specs.ReleaseScripts.{AllRead, agree-self, has-reading, declarations_of_all}
 use Rattle.release_lines.specs.Lines.{ends_line, DeclaredAt}
-use Rattle.release_names.specs.declared.Entered.{Entered}
-use Rattle.release_names.specs.declared.Entered.TheVariants.{Clash, Count}
-use Rattle.release_names.specs.Table.{entry, In, Holds, Disagrees, ScriptTo}
+use Rattle.release_names.specs.declared.Names.{Names}
+use Rattle.release_names.specs.Table.{entry, In, Holds, Fresh, Disagrees}
 use Rattle.release_names.specs.Chains.{table-start}
 use Rattle.release_names.specs.Held.{in_left, in_right, in_either}
-use Rattle.release_meanings.specs.declared.Meanings.TheVariants.{One, Two}
+use Rattle.std.specs.Prelude.{Some, None}
 use Rattle.release_meanings.specs.Told.{MeaningsTo}
 use Rattle.release_meanings.specs.Cutting.{Step}
 use Rattle.release_meanings.specs.Headers.{feed-inside, declared-at, few-declared}
@@ -151,8 +148,14 @@ met_start file l r p n h a b c z = record {
   read = r;
 }
 
+-- as the code has it
+pub met_fresh : (file : List ℕ) → length (scripts_of file).scripts ≤ 64 → AllRead (scripts_of file).scripts → (t : Names) → Fresh t
+    → Met file t.places t.links t.heads t.count 0 0
+met_fresh file l r t f =
+    subst (λ (c : ℕ). Met file t.places t.links t.heads c 0 0) (sym f.none) (met_start file l r t.places t.links t.heads f.places f.links f.heads f.zeros)
+
 module _ (file p n h : List ℕ) (count at k : ℕ) (m : Met file p n h count at k) where
-  pub met-end : following_script (drop at file) ≡ none → MeaningsTo file One
+  pub met-end : following_script (drop at file) ≡ none → MeaningsTo file None
   unfolding earliest
   met-end e = m.order ∙ ap (λ (c : Cut). earliest k m.before (declarations_of_all c.scripts)) (cut-rest (drop at file) e)
 
@@ -208,19 +211,15 @@ module _ (file p n h : List ℕ) (count at k : ℕ) (m : Met file p n h count at
       pub to-enter : (seen : List Declared) × (ys : List Declared) × Holds file seen p n h count × DeclaredAt file (d + 1) ys × (length seen + length ys ≤ 98304)
       to-enter = (flat m.before, all_declared D, m.holds, lines, omega (arith, few-here, m.short, m.few, left))
 
-      module _ (p' n' h' : List ℕ) (t : Entered)
-          (to : (seen ys : List Declared) → Holds file seen p n h count → DeclaredAt file (d + 1) ys → ScriptTo file seen ys p' n' h' t) where
-        entered : ScriptTo file (flat m.before) (all_declared D) p' n' h' t
-        entered = to (flat m.before) (all_declared D) m.holds lines
+      pub met-clash : ((seen ys : List Declared) → Holds file seen p n h count → DeclaredAt file (d + 1) ys → Disagrees seen ys) → MeaningsTo file (Some k)
+      met-clash to =
+          here ∙ earliest-here k m.before D _ (clash-so file m.before D self (to (flat m.before) (all_declared D) m.holds lines))
 
-        pub met-clash : t ≡ Clash → MeaningsTo file (Two k)
-        met-clash q =
-            let c : Disagrees (flat m.before) (all_declared D) = subst (ScriptTo file (flat m.before) (all_declared D) p' n' h') q entered in
-            here ∙ earliest-here k m.before D _ (clash-so file m.before D self c)
-
-        pub met-more : {c : ℕ} → t ≡ Count c → Met file p' n' h' c (at + l) (k + 1)
-        met-more {c} q =
-            let e : Holds file (flat m.before ++ all_declared D) p' n' h' c = subst (ScriptTo file (flat m.before) (all_declared D) p' n' h') q entered in
+      module _ {p' n' h' : List ℕ} {c : ℕ}
+          (to : (seen ys : List Declared) → Holds file seen p n h count → DeclaredAt file (d + 1) ys → Holds file (seen ++ ys) p' n' h' c) where
+        pub met-more : Met file p' n' h' c (at + l) (k + 1)
+        met-more =
+            let e : Holds file (flat m.before ++ all_declared D) p' n' h' c = to (flat m.before) (all_declared D) m.holds lines in
             record {
               inside = s.inside;
               before = m.before ++ (D ∷ []);

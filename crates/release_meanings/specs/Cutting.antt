@@ -1,10 +1,9 @@
 -- The scripts of a file one after the other: the first of what is left, and how many there are.
-use Rattle.std.specs.Prelude.{ℕ, suc, ◌+◌, ◌-◌, ◌≤◌, ◌<◌, ◌≡◌, refl, List, true, false, leb, length, take, drop}
+use Rattle.std.specs.Prelude.{ℕ, suc, ◌+◌, ◌-◌, ◌≤◌, ◌<◌, ◌≡◌, List, true, false, leb, length, take, drop}
 use Rattle.std.proofs.Common.{ap, sym, ◌∙◌, arith, le-leb, length-drop, take-append-drop, take_all, drop-drop}
 use Rattle.std.proofs.Math.Option.{none, some}
 use Rattle.std.proofs.lemmas.Bool.{lt-leb}
-use Rattle.script_lines.specs.declared.Found.{Found}
-use Rattle.script_lines.specs.declared.Found.TheVariants.{Script, Nothing}
+use Rattle.std.specs.Prelude.{Option as Found, Some, None}
 use Rattle.script_lines.specs.Lines.{following_script, Cut, with_first, scripts_of}
 use Rattle.script_lines.proofs.Laws.{next-is-script}
 use Rattle.script_lines.proofs.Cuts.{cut-rest, cut-first}
@@ -22,7 +21,7 @@ pub record Step (file : List ℕ) (at n : ℕ) : Type 0 where
   pub inside : at + n ≤ length file
   pub cut : scripts_of (drop at file) ≡ with_first (take n (drop at file)) (scripts_of (drop (at + n) file))
 
-pub stepped : (file : List ℕ) (at : ℕ) (r : Found) {n : ℕ} → at ≤ length file → found_of r ≡ following_script (take (length file - at) (drop at file)) → r ≡ Script n → Step file at n
+pub stepped : (file : List ℕ) (at : ℕ) (r : Found ℕ) {n : ℕ} → at ≤ length file → found_of r ≡ following_script (take (length file - at) (drop at file)) → r ≡ Some n → Step file at n
 stepped file at r {n} l e q =
     let b : List ℕ = drop at file in
     let f : following_script b ≡ some n = ap following_script (sym (rest_part file at)) ∙ sym e ∙ ap found_of q in
@@ -34,7 +33,7 @@ stepped file at r {n} l e q =
       cut = ap scripts_of (sym (take-append-drop n b)) ∙ cut-first (take n b) s (drop n b) ∙ ap (λ (x : List ℕ). with_first (take n b) (scripts_of x)) (drop-drop n at file);
     }
 
-pub none_left : (file : List ℕ) (at : ℕ) (r : Found) → found_of r ≡ following_script (take (length file - at) (drop at file)) → r ≡ Nothing → following_script (drop at file) ≡ none
+pub none_left : (file : List ℕ) (at : ℕ) (r : Found ℕ) → found_of r ≡ following_script (take (length file - at) (drop at file)) → r ≡ None → following_script (drop at file) ≡ none
 none_left file at r e q = ap following_script (sym (rest_part file at)) ∙ sym e ∙ ap found_of q
 
 -- ---------------------------------------------------------------- how many there are

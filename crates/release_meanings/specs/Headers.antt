@@ -1,16 +1,14 @@
 -- A script that is read stands in the file as the text of its reading: where its declarations begin, and how many there are.
-use Prim.Native.Nat.{ℕ, ◌+◌, ◌-◌, ◌*◌, ◌≤◌, ◌<◌}
-use Rattle.std.specs.Prelude.{◌≡◌, refl, Bool, true, false, ◌&&◌, not, T, leb, eqb, length, take, get_or}
+use Prim.Native.Nat.{ℕ, ◌+◌, ◌≤◌, ◌<◌}
+use Rattle.std.specs.Prelude.{◌≡◌, refl, Bool, false, ◌&&◌, not, T, leb, eqb, length, take, get_or}
 use Rattle.std.proofs.Math.Path.{ap, sym}
-use Rattle.std.proofs.Common.{◌∙◌, subst, arith, eqb→eq, leb→le, length-append, take-append-drop}
+use Rattle.std.proofs.Common.{◌∙◌, subst, arith, leb→le, length-append, take-append-drop}
 use mathlib.Core.List.{List, [], ◌∷◌, ◌++◌, map, append_assoc}
-use Rattle.std.proofs.Math.Option.{Option, none, some}
-use Rattle.std.proofs.Math.Dec.{not_T}
 use Rattle.std.proofs.Math.ListN.{drop}
 use Rattle.std.proofs.lemmas.List.{length-map}
 use Rattle.lists.specs.Bytes.{bytes}
 use Rattle.lists.specs.Tests.{every, All, and_0, and-1, by-test}
-use Rattle.reading.specs.Trees.{Name, Trees, none as noTrees, more, Variable, Array, Function, Declarations, Reading}
+use Rattle.reading.specs.Trees.{Trees, none as noTrees, more, Variable, Array, Function, Declarations, Reading}
 use Rattle.echo_spec.specs.Input.{Problem, nodes_within, column_within, arena_within, within_limits, root_limit}
 use Rattle.echo_spec.specs.NameLaws.{name_ok}
 use Rattle.echo_spec.specs.Render.{texts, assertions_text, logic_of, logic_text, declarations_text, render}

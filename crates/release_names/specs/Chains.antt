@@ -8,12 +8,12 @@ use Rattle.lists.specs.Tests.{same, same→eq, no→false, true→T}
 use Rattle.reading.specs.Trees.{Name}
 use Rattle.reader_laws.specs.TermsRead.{read_name}
 use Rattle.script_tokens.specs.Reached.{between}
-use Rattle.script_names.specs.Entries.{name_here, Named, Closed}
+use Rattle.script_names.specs.Entries.{name_here, Named}
 use Rattle.script_names.specs.Laws.{taken, name-same}
 use Rattle.releases.specs.Release.{Declared}
 use Rattle.release_lines.specs.Lines.{meaning_text, LineAt}
-use Rattle.release_names.specs.Marks.{mark_of, chain_of, tag_of, mark-small}
-use Rattle.release_names.specs.declared.Found.TheVariants.{Nothing, At}
+use Rattle.release_names.specs.Marks.{mark_of, chain_of, tag_of}
+use Rattle.std.specs.Prelude.{Some, None}
 use Rattle.release_names.specs.Table.{entry, name_in, Table, Sought}
 
 -- two numbers are equal or not
@@ -232,7 +232,7 @@ module _ (s p n h : List ℕ) (a f : ℕ) (named : Named s a f) (c : ℕ) (w : W
         by-tag true e q = sym (name-there s a f (get_or p (c - 1) 0) (entry xs (c - 1)) named (t.line (c - 1) inside)) ∙ sym q
         by-tag false e q = other_tag (between s a (f - 1)) (name_in xs (c - 1)) (λ g. eqb-false _ _ e (t.tag (c - 1) inside ∙ g)) ∙ sym q
 
-    pub walks-found : r ≡ true → Sought p xs (between s a (f - 1)) (At (get_or p (c - 1) 0))
+    pub walks-found : r ≡ true → Sought p xs (between s a (f - 1)) (Some (get_or p (c - 1) 0))
     walks-found e = (c - 1, inside, refl, told-name ∙ e)
 
     pub walks-on : (d : ℕ) → d ≡ get_or n (c - 1) 0 % 131072 → r ≡ false → Walked xs (between s a (f - 1)) d
@@ -244,7 +244,7 @@ module _ (s p n h : List ℕ) (a f : ℕ) (named : Named s a f) (c : ℕ) (w : W
 pub walks-start : (s p n h : List ℕ) (a f i c : ℕ) → i ≡ chain_of (between s a (f - 1)) → i < 4096 → c ≡ get_or h i 0 → Walks s p n h (between s a (f - 1)) c
 walks-start s p n h a f i c e l q xs t = subst (Walked xs (between s a (f - 1))) (sym q) (walk_start s p n h xs (between s a (f - 1)) t i e l)
 
-pub walks-end : (s p n h : List ℕ) (a f c : ℕ) → Walks s p n h (between s a (f - 1)) c → c ≤ 0 → (xs : List Declared) → Table s p n h xs → Sought p xs (between s a (f - 1)) Nothing
+pub walks-end : (s p n h : List ℕ) (a f c : ℕ) → Walks s p n h (between s a (f - 1)) c → c ≤ 0 → (xs : List Declared) → Table s p n h xs → Sought p xs (between s a (f - 1)) None
 walks-end s p n h a f c w l xs t = walk_end s p n h xs (between s a (f - 1)) t c (w xs t) l
 
 pub tags-apart : (own tag : ℕ) (b : Bool) → (own ≡ tag → ⊥) → false ≡ (eqb own tag && b)

@@ -7,21 +7,20 @@ use mathlib.Core.List.{List, [], ◌∷◌, ◌++◌, append_assoc, append-nil}
 use Rattle.std.proofs.Math.ListN.{length, take, drop, length-append, get_or-append}
 use Rattle.std.proofs.Math.Seq.{take-append_seam, drop-append_seam}
 use Rattle.lists.specs.Tests.{same, same→eq, same_refl, T→true, true→T}
-use Rattle.reading.specs.Trees.{Name}
 use Rattle.script_tokens.specs.Reached.{between}
 use Rattle.script_names.specs.Laws.{between-length}
 use Rattle.releases.specs.Release.{Declared}
 use Rattle.release_lines.specs.declared.Line.{Line}
-use Rattle.release_lines.specs.declared.Line.TheVariants.{End, Is}
 use Rattle.release_lines.specs.Lines.{meaning_text, LineAt, LineIs, DeclaredAt, NextLine}
 use Rattle.release_lines.specs.Texts.{meaning-known}
-use Rattle.release_names.specs.declared.Found.{Found}
-use Rattle.release_names.specs.declared.Found.TheVariants.{Nothing, At}
-use Rattle.release_names.specs.declared.Entered.{Entered}
-use Rattle.release_names.specs.declared.Entered.TheVariants.{Clash, Count}
-use Rattle.release_names.specs.Marks.{mark_of, chain_of, tag_of, mark-small}
-use Rattle.release_names.specs.Table.{entry, name_in, In, Table, Sought, Holds, Differs, LineTo, Disagrees, ScriptTo}
-use Rattle.release_names.specs.Chains.{by_equal, entry_old, entry_new, table_more}
+use Rattle.std.specs.Prelude.{⊤, Option, Some, None, Result, Ok, Err}
+use Rattle.std.specs.Result.{IsErr}
+use Rattle.std.proofs.lemmas.Bool.{false≢true}
+use Rattle.release_names.specs.declared.Clash.{Clash}
+use Rattle.release_names.specs.declared.Names.{Names}
+use Rattle.release_names.specs.Marks.{mark_of, mark-small}
+use Rattle.release_names.specs.Table.{entry, name_in, In, Table, Sought, Holds, Differs, Disagrees, ScriptTo}
+use Rattle.release_names.specs.Chains.{table_more}
 
 -- ---------------------------------------------------------------- members of lists
 
@@ -99,13 +98,13 @@ module _ (s : List ℕ) (a f e : ℕ) (x : Declared) (line : LineIs s a f e x) w
 
 -- ---------------------------------------------------------------- one declaration
 
-module _ (s p n h : List ℕ) (count a f e : ℕ) (r : Found) (sought : (xs : List Declared) → Table s p n h xs → Sought p xs (between s a (f - 1)) r)
+module _ (s p n h : List ℕ) (count a f e : ℕ) (r : Option ℕ) (sought : (xs : List Declared) → Table s p n h xs → Sought p xs (between s a (f - 1)) r)
     (seen : List Declared) (x : Declared) (hold : Holds s seen p n h count) (line : LineIs s a f e x) where
   abbrev es : List Declared
   es = hold.entries
 
-  module _ {q : ℕ} (found : r ≡ At q) where
-    at : Sought p es (between s a (f - 1)) (At q)
+  module _ {q : ℕ} (found : r ≡ Some q) where
+    at : Sought p es (between s a (f - 1)) (Some q)
     at = subst (Sought p es (between s a (f - 1))) found (sought es hold.table)
 
     y : Declared
@@ -153,7 +152,7 @@ module _ (s p n h : List ℕ) (count a f e : ℕ) (r : Found) (sought : (xs : Li
       by_old zero e = omega arith
       by_old (suc k) e = let r = hold.table.head-own (m % 4096) (omega arith) k e in omega (arith, r.0, hold.table.few)
 
-  found_none : r ≡ Nothing → count < 98304 → (m : ℕ) → m ≡ mark_of (between s a (f - 1))
+  found_none : r ≡ None → count < 98304 → (m : ℕ) → m ≡ mark_of (between s a (f - 1))
       → Holds s (seen ++ (x ∷ [])) (set p count a) (set n count ((m / 4096) * 131072 + get_or h (m % 4096) 0)) (set h (m % 4096) (count + 1)) (count + 1)
   found_none none l m q = record {
     entries = es ++ (x ∷ []);
@@ -176,7 +175,7 @@ module _ (s p n h : List ℕ) (count a f e : ℕ) (r : Found) (sought : (xs : Li
           let w : between s a (f - 1) ≡ name_in es k = line.name ∙ sym e ∙ ap (λ (d : Declared). d.name) (sym o) in
           subst T (sym (ap (same (between s a (f - 1))) (sym w) ∙ T→true _ (same_refl (between s a (f - 1)))) ∙ t) tt
 
-  pub found-new : r ≡ Nothing → count < 98304 → (m old : ℕ) → m ≡ mark_of (between s a (f - 1)) → old ≡ get_or h (m % 4096) 0
+  pub found-new : r ≡ None → count < 98304 → (m old : ℕ) → m ≡ mark_of (between s a (f - 1)) → old ≡ get_or h (m % 4096) 0
       → Holds s (seen ++ (x ∷ [])) (set p count a) (set n count ((m / 4096) * 131072 + old)) (set h (m % 4096) (count + 1)) (count + 1)
   found-new none l m old q e =
       subst (λ (y : ℕ). Holds s (seen ++ (x ∷ [])) (set p count a) (set n count ((m / 4096) * 131072 + y)) (set h (m % 4096) (count + 1)) (count + 1)) (sym e) (found_none none l m q)
@@ -198,39 +197,38 @@ Going s p₀ n₀ h₀ count q p n h c at = (seen ys : List Declared) → Holds 
 pub going_start : (s p n h : List ℕ) (count q : ℕ) → Going s p n h count q p n h count q
 going_start s p n h count q seen ys k d = record { done = []; left = ys; whole = refl; holds = subst (λ (l : List Declared). Holds s l p n h count) (sym (append-nil seen)) k; lines = d }
 
-module _ (s : List ℕ) (seen ys : List Declared) (p n h : List ℕ) (c at : ℕ) (g : Gone s seen ys p n h c at) (r : Line) (next : (xs : List Declared) → DeclaredAt s at xs → NextLine s at xs r) where
-  pub gone-end : r ≡ End → Holds s (seen ++ ys) p n h c
+module _ (s : List ℕ) (seen ys : List Declared) (p n h : List ℕ) (c at : ℕ) (g : Gone s seen ys p n h c at) (r : Option Line) (next : (xs : List Declared) → DeclaredAt s at xs → NextLine s at xs r) where
+  pub gone-end : r ≡ None → Holds s (seen ++ ys) p n h c
   gone-end e = by_left g.left g.whole (subst (NextLine s at g.left) e (next g.left g.lines))
     where
-      by_left : (l : List Declared) → ys ≡ g.done ++ l → NextLine s at l End → Holds s (seen ++ ys) p n h c
+      by_left : (l : List Declared) → ys ≡ g.done ++ l → NextLine s at l None → Holds s (seen ++ ys) p n h c
       by_left [] w k = subst (λ (l : List Declared). Holds s (seen ++ l) p n h c) (sym (w ∙ append-nil g.done)) g.holds
       by_left (x ∷ xs) w k = absurd k
 
   -- a line that is found is that of the next declaration
-  pub record Next (a f e : ℕ) : Type 0 where
+  pub record Next (l : Line) : Type 0 where
     pub this : Declared
     pub later : List Declared
     pub whole : ys ≡ g.done ++ (this ∷ later)
-    pub low : at < e
-    pub line : LineIs s a f e this
-    pub lines : DeclaredAt s e later
+    pub low : at < l.end
+    pub line : LineIs s l.name l.name_end l.end this
+    pub lines : DeclaredAt s l.end later
 
-  pub gone-next : {a f e : ℕ} → r ≡ Is a f e → Next a f e
-  gone-next {a} {f} {e} q = by_left g.left g.whole (subst (NextLine s at g.left) q (next g.left g.lines))
+  pub gone-next : {l : Line} → r ≡ Some l → Next l
+  gone-next {l = line} q = by_left g.left g.whole (subst (NextLine s at g.left) q (next g.left g.lines))
     where
-      by_left : (l : List Declared) → ys ≡ g.done ++ l → NextLine s at l (Is a f e) → Next a f e
+      by_left : (l : List Declared) → ys ≡ g.done ++ l → NextLine s at l (Some line) → Next line
       by_left [] w k = absurd k
       by_left (x ∷ xs) w k = record { this = x; later = xs; whole = w; low = k.0; line = k.1; lines = k.2 }
 
-  module _ {a f e : ℕ} (x : Next a f e) where
+  module _ {line : Line} (x : Next line) where
     pub next-few : length seen + length ys ≤ 98304 → c < 98304
     next-few l =
         omega (arith, l, ap length x.whole, length-append g.done (x.this ∷ x.later), g.holds.counted, g.holds.few, length-append seen g.done)
 
-    module _ (p' n' h' : List ℕ) (t : Entered) (k : LineTo s (seen ++ g.done) x.this p' n' h' t) where
-      pub next-clash : t ≡ Clash → Disagrees seen ys
-      next-clash q =
-          let d : Differs (seen ++ g.done) x.this = subst (LineTo s (seen ++ g.done) x.this p' n' h') q k in
+    module _ (d : Differs (seen ++ g.done) x.this) where
+      pub next-clash : Disagrees seen ys
+      next-clash =
           record {
             this = x.this;
             among = subst (λ (l : List Declared). In l x.this) (sym x.whole) (in_right g.done (x.this ∷ x.later) x.this (in_left (x.this ∷ []) x.later x.this (in_one x.this)));
@@ -243,11 +241,16 @@ module _ (s : List ℕ) (seen ys : List Declared) (p n h : List ℕ) (c at : ℕ
             };
           }
 
-      pub next-gone : {d : ℕ} → t ≡ Count d → Gone s seen ys p' n' h' d e
-      next-gone {d} q = record {
-        done = g.done ++ (x.this ∷ []);
-        left = x.later;
-        whole = x.whole ∙ sym (append_assoc g.done (x.this ∷ []) x.later);
-        holds = subst (λ (l : List Declared). Holds s l p' n' h' d) (append_assoc seen g.done (x.this ∷ [])) (subst (LineTo s (seen ++ g.done) x.this p' n' h') q k);
-        lines = x.lines;
-      }
+    pub next-gone : {p' n' h' : List ℕ} {d : ℕ} → Holds s ((seen ++ g.done) ++ (x.this ∷ [])) p' n' h' d → Gone s seen ys p' n' h' d line.end
+    next-gone {p'} {n'} {h'} {d} k = record {
+      done = g.done ++ (x.this ∷ []);
+      left = x.later;
+      whole = x.whole ∙ sym (append_assoc g.done (x.this ∷ []) x.later);
+      holds = subst (λ (l : List Declared). Holds s l p' n' h' d) (append_assoc seen g.done (x.this ∷ [])) k;
+      lines = x.lines;
+    }
+
+-- a clash that is handed on
+pub told-clash : (s : List ℕ) (seen ys : List Declared) (t : Names) (r : Result ⊤ Clash) → IsErr r → Disagrees seen ys → ScriptTo s seen ys t r
+told-clash s seen ys t (Err e) h d = d
+told-clash s seen ys t (Ok u) h d = absurd (false≢true h)

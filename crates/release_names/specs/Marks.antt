@@ -1,7 +1,7 @@
 -- A number below 2²⁷ for a name: its chain, and a mark by which most other names of the chain are passed over.
 -- Nothing rests on which it is.
-use Rattle.std.specs.Prelude.{ℕ, zero, suc, ◌+◌, ◌*◌, ◌-◌, ◌/◌, ◌%◌, ◌≤◌, ◌<◌, ◌≡◌, refl, List, [], ◌∷◌, length, take, drop, get_or}
-use Rattle.std.proofs.Common.{ap, sym, ◌∙◌, arith, drop-cons}
+use Rattle.std.specs.Prelude.{ℕ, suc, ◌+◌, ◌*◌, ◌-◌, ◌/◌, ◌%◌, ◌≤◌, ◌<◌, ◌≡◌, refl, List, [], ◌∷◌, length, take, drop, get_or}
+use Rattle.std.proofs.Common.{ap, sym, ◌∙◌, arith, drop-cons, drop_of_length-le}
 use Rattle.reading.specs.Trees.{Name}
 use Rattle.script_tokens.specs.Reached.{between}
 
@@ -41,3 +41,14 @@ mark-more s h i e l m = ap (mark_from h) (between_first s i e l m)
 pub mark-end : (s : List ℕ) (h i : ℕ) → mark_from h (between s i i) ≡ h
 unfolding mark_from
 mark-end s h i = let z : i - i ≡ 0 = omega arith in rw z refl
+
+-- the same of the bytes that are left
+pub mark-drop : (w : List ℕ) (h i : ℕ) → i < length w → mark_from h (drop i w) ≡ mark_from ((h * 16777619 + get_or w i 0) % 134217728) (drop (i + 1) w)
+unfolding mark_from
+mark-drop w h i l =
+    let z : suc i ≡ i + 1 = omega arith in
+    ap (mark_from h) (drop-cons w i 0 l) ∙ ap (λ (k : ℕ). mark_from ((h * 16777619 + get_or w i 0) % 134217728) (drop k w)) z
+
+pub mark-drop-end : (w : List ℕ) (h i : ℕ) → length w ≤ i → mark_from h (drop i w) ≡ h
+unfolding mark_from
+mark-drop-end w h i l = ap (mark_from h) (drop_of_length-le w l)

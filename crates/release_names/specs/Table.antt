@@ -1,14 +1,12 @@
 -- The table of the names that a release declares: what it holds, and what is told of a declaration by it.
-use Rattle.std.specs.Prelude.{ℕ, suc, ◌+◌, ◌-◌, ◌/◌, ◌%◌, ◌≤◌, ◌<◌, ◌≡◌, List, [], ◌∷◌, ◌++◌, true, false, length, get_or}
+use Rattle.std.specs.Prelude.{⊤, Option, Some, None, Result, Ok, Err, ℕ, suc, ◌/◌, ◌%◌, ◌≤◌, ◌<◌, ◌≡◌, List, [], ◌∷◌, ◌++◌, true, false, length, get_or}
 use Rattle.lists.specs.Tests.{same}
 use Rattle.reading.specs.Trees.{Name}
 use Rattle.releases.specs.Release.{a_variable, Declared}
-use Rattle.release_lines.specs.Lines.{LineAt, LineIs, DeclaredAt}
+use Rattle.release_lines.specs.Lines.{LineAt}
 use Rattle.release_names.specs.Marks.{chain_of, tag_of}
-use Rattle.release_names.specs.declared.Found.{Found}
-use Rattle.release_names.specs.declared.Found.TheVariants.{Nothing, At}
-use Rattle.release_names.specs.declared.Entered.{Entered}
-use Rattle.release_names.specs.declared.Entered.TheVariants.{Clash, Count}
+use Rattle.release_names.specs.declared.Clash.{Clash}
+use Rattle.release_names.specs.declared.Names.{Names}
 
 -- ---------------------------------------------------------------- entries
 
@@ -37,9 +35,9 @@ pub record Table (s p n h : List ℕ) (xs : List Declared) : Type 0 where
   pub next_own : (k : ℕ) → k < length xs → (j : ℕ) → get_or n k 0 % 131072 ≡ suc j → (j < k) × (chain_of (name_in xs j) ≡ chain_of (name_in xs k))
 
 -- no entry has the name; or place q is where the name of an entry begins that has it
-abbrev pub Sought : List ℕ → List Declared → Name → Found → Type 0
-Sought p xs m Nothing = (k : ℕ) → k < length xs → same m (name_in xs k) ≡ false
-Sought p xs m (At q) = (k : ℕ) × (k < length xs) × (q ≡ get_or p k 0) × (same m (name_in xs k) ≡ true)
+abbrev pub Sought : List ℕ → List Declared → Name → Option ℕ → Type 0
+Sought p xs m None = (k : ℕ) → k < length xs → same m (name_in xs k) ≡ false
+Sought p xs m (Some q) = (k : ℕ) × (k < length xs) × (q ≡ get_or p k 0) × (same m (name_in xs k) ≡ true)
 
 -- ---------------------------------------------------------------- declarations met so far
 
@@ -53,6 +51,18 @@ pub record Holds (s : List ℕ) (seen : List Declared) (p n h : List ℕ) (count
   pub own : (x : Declared) → In entries x → In seen x
   pub one : (x y : Declared) → In entries x → In entries y → x.name ≡ y.name → x.meaning ≡ y.meaning
 
+-- the same of the table as the code has it
+abbrev pub HeldBy : List ℕ → List Declared → Names → Type 0
+HeldBy s seen t = Holds s seen t.places t.links t.heads t.count
+
+-- the table before any declaration
+pub record Fresh (t : Names) : Type 0 where
+  pub places : length t.places ≡ 98304
+  pub links : length t.links ≡ 98304
+  pub heads : length t.heads ≡ 4096
+  pub zeros : (i : ℕ) → i < 4096 → get_or t.heads i 0 ≡ 0
+  pub none : t.count ≡ 0
+
 -- a declaration of the name of x that differs from x
 pub record Differs (seen : List Declared) (x : Declared) : Type 0 where
   pub other : Declared
@@ -61,9 +71,9 @@ pub record Differs (seen : List Declared) (x : Declared) : Type 0 where
   pub apart : other.meaning ≡ x.meaning → ⊥
 
 -- what is told of one declaration more
-abbrev pub LineTo : List ℕ → List Declared → Declared → List ℕ → List ℕ → List ℕ → Entered → Type 0
-LineTo s seen x p n h Clash = Differs seen x
-LineTo s seen x p n h (Count c) = Holds s (seen ++ (x ∷ [])) p n h c
+abbrev pub LineTo : List ℕ → List Declared → Declared → Names → Result ⊤ Clash → Type 0
+LineTo s seen x t (Err e) = Differs seen x
+LineTo s seen x t (Ok u) = HeldBy s (seen ++ (x ∷ [])) t
 
 -- one of the declarations ys differs from another of them or of those before
 pub record Disagrees (seen ys : List Declared) : Type 0 where
@@ -72,6 +82,6 @@ pub record Disagrees (seen ys : List Declared) : Type 0 where
   pub differs : Differs (seen ++ ys) this
 
 -- what is told of a script's declarations
-abbrev pub ScriptTo : List ℕ → List Declared → List Declared → List ℕ → List ℕ → List ℕ → Entered → Type 0
-ScriptTo s seen ys p n h Clash = Disagrees seen ys
-ScriptTo s seen ys p n h (Count c) = Holds s (seen ++ ys) p n h c
+abbrev pub ScriptTo : List ℕ → List Declared → List Declared → Names → Result ⊤ Clash → Type 0
+ScriptTo s seen ys t (Err e) = Disagrees seen ys
+ScriptTo s seen ys t (Ok u) = HeldBy s (seen ++ ys) t

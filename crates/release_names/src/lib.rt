@@ -9,9 +9,8 @@ ghost use Rattle.script_names.specs.Entries.{Named};
 ghost use Rattle.releases.specs.Release.{Declared};
 ghost use Rattle.release_lines.specs.Lines.{LineIs, DeclaredAt};
 ghost use Rattle.release_names.specs.Marks.{mark_of};
-ghost use Rattle.release_names.specs.Table.{Table, Sought, Holds, LineTo, ScriptTo};
+ghost use Rattle.release_names.specs.Table.{Table, Sought, HeldBy, Fresh, LineTo, ScriptTo};
 
-use echo_names::same_bytes;
 use release_lines::{Line, next_line};
 
 // So many names can a release declare: 64 scripts with 512 variables, 512 arrays and 512 functions each.
@@ -23,42 +22,27 @@ pub const HEADS: usize = 4096;
 // So many numbers of entries a link can hold.
 const LINKS: usize = 131072;
 
-// Where the name of an entry begins, or that no entry has the name.
-#[derive(Clone, Copy)]
-pub enum Found {
-    Nothing,
-    At(usize),
+// The names that are declared: where each begins, its tag with the entry before it in its chain, the last entry of each chain, and how many there are.
+// Kept: two arrays in place of one of entries, which would be padded to 16 bytes each: 393,216 bytes more of stack.
+#[derive(Drop)]
+pub struct Names {
+    pub places: [u64; ENTRIES],
+    pub links: [u32; ENTRIES],
+    pub heads: [u32; HEADS],
+    pub count: usize,
 }
 
-// How many entries there are now, or that a declaration differs from one of the same name.
-#[derive(Clone, Copy)]
-pub enum Entered {
-    Clash,
-    Count(usize),
-}
+// A declaration differs from one of the same name.
+#[derive(Clone, Copy, Debug, PartialEq, Eq)]
+pub struct Clash;
 
-fn wide(x: u32) -> usize
-    ensures { result ≡ x }
-{
-    x as usize
-}
-
-fn byte(x: u8) -> u64
-    ensures { result ≡ x }
-{
-    x as u64
-}
-
-// The mark of a part of the file.
-fn mark_part(s: &[u8], a: usize, e: usize) -> usize
-    requires { (a ≤ e) × (e ≤ length s.now) }
-    ensures { (result ≡ mark_of (between s.now a e)) × (result < 134217728) }
+// The mark of a name.
+fn mark(name: &[u8]) -> usize
+    ensures { (result ≡ mark_of name.now) × (result < 134217728) }
 {
     let mut h: u64 = 0;
-    let mut i = a;
-    while i < e {
-        h = (h * 16777619 + byte(s[i])) % 134217728;
-        i += 1;
+    for b in name {
+        h = (h * 16777619 + u64::from(*b)) % 134217728;
     }
     h as usize
 }
@@ -68,120 +52,87 @@ fn stands(s: &[u8], a: usize, e: usize, p: usize) -> bool
     requires { (a ≤ e) × (e ≤ length s.now) × (p ≤ length s.now) }
     ensures { result ≡ same (between s.now a e) (take (e - a) (drop p s.now)) }
 {
-    let m = e - a;
-    if m > s.len() - p {
-        return false;
-    }
-    same_bytes(&s[a..e], &s[p..p + m])
+    s[p..].starts_with(&s[a..e])
 }
 
-// Is the tag of entry k that of the name, and its name the one from place a on, up to and with its bar before place f?
-fn has_name(
-    s: &[u8],
-    p: &[u64; ENTRIES],
-    k: usize,
-    own: usize,
-    tag: usize,
-    a: usize,
-    f: usize,
-) -> bool
-    requires { (k < 98304) × (a ≤ f) × (f ≤ length s.now) × (get_or p.now k 0 ≤ length s.now) }
-    ensures { result ≡ (eqb own tag && same (between s.now a f) (take (f - a) (drop (get_or p.now k 0) s.now))) }
-{
-    if own != tag {
-        return false;
-    }
-    let q = p[k] as usize;
-    stands(s, a, f, q)
-}
-
-// The entry with the name from place a on, up to and with its bar before place f: the entries of its hash are looked at, the last first.
-fn find(
-    s: &[u8],
-    p: &[u64; ENTRIES],
-    n: &[u32; ENTRIES],
-    h: &[u32; HEADS],
-    a: usize,
-    f: usize,
-) -> Found
-    requires { ((xs : List Declared) × Table s.now p.now n.now h.now xs) × Named s.now a f }
-    ensures { (xs : List Declared) → Table s.now p.now n.now h.now xs
-        → Sought p.now xs (between s.now a (f - 1)) result }
-{
-    let m = mark_part(s, a, f - 1);
-    let i = m % HEADS;
-    let mut c = wide(h[i]);
-    while c > 0 {
-        let k = c - 1;
-        let link = wide(n[k]);
-        if has_name(s, p, k, link / LINKS, m / HEADS, a, f) {
-            let q = p[k] as usize;
-            return Found::At(q);
+impl Names {
+    // No name is declared. Ruled out: an entry that is there from the start; a chain that begins at one.
+    pub fn new() -> Names
+        ensures { Fresh result }
+    {
+        Names {
+            places: [0; ENTRIES],
+            links: [0; ENTRIES],
+            heads: [0; HEADS],
+            count: 0,
         }
-        c = link % LINKS;
     }
-    Found::Nothing
-}
 
-// One declaration more, whose line ends before place e. Ruled out: a declaration of a name that is known left aside; one with other
-// widths taken for the same; the name of an entry that begins with this one.
-pub fn enter_line(
-    s: &[u8],
-    p: &mut [u64; ENTRIES],
-    n: &mut [u32; ENTRIES],
-    h: &mut [u32; HEADS],
-    count: usize,
-    a: usize,
-    f: usize,
-    e: usize,
-) -> Entered
-    requires { ((seen : List Declared) × Holds s.now seen p.old n.old h.old count) × ((x : Declared) × LineIs s.now a f e x) × (count < 98304) }
-    ensures { (seen : List Declared) (x : Declared) → Holds s.now seen p.old n.old h.old count
-        → LineIs s.now a f e x → LineTo s.now seen x p.new n.new h.new result }
-{
-    match find(s, p, n, h, a, f) {
-        Found::At(q) => {
-            if stands(s, a, e, q) {
-                return Entered::Count(count);
+    // Is the tag of entry k that of the name, and its name the one from place a on, up to and with its bar before place f?
+    fn has_name(&self, s: &[u8], k: usize, own: usize, tag: usize, a: usize, f: usize) -> bool
+        requires { (k < 98304) × (a ≤ f) × (f ≤ length s.now) × (get_or self.now.places k 0 ≤ length s.now) }
+        ensures { result ≡ (eqb own tag && same (between s.now a f) (take (f - a) (drop (get_or self.now.places k 0) s.now))) }
+    {
+        own == tag && stands(s, a, f, self.places[k] as usize)
+    }
+
+    // Where the name of an entry begins that has the name from place a on, up to and with its bar before place f: the entries of its hash are
+    // looked at, the last first.
+    fn find(&self, s: &[u8], a: usize, f: usize) -> Option<usize>
+        requires { ((xs : List Declared) × Table s.now self.now.places self.now.links self.now.heads xs) × Named s.now a f }
+        ensures { (xs : List Declared) → Table s.now self.now.places self.now.links self.now.heads xs
+            → Sought self.now.places xs (between s.now a (f - 1)) result }
+    {
+        let m = mark(&s[a..f - 1]);
+        let i = m % HEADS;
+        let mut c = self.heads[i] as usize;
+        // Kept: a walk along a chain of links.
+        while c > 0 {
+            let k = c - 1;
+            let link = self.links[k] as usize;
+            if self.has_name(s, k, link / LINKS, m / HEADS, a, f) {
+                return Some(self.places[k] as usize);
             }
-            Entered::Clash
+            c = link % LINKS;
         }
-        Found::Nothing => {
-            let m = mark_part(s, a, f - 1);
-            let i = m % HEADS;
-            let old = wide(h[i]);
-            p[count] = a as u64;
-            n[count] = ((m / HEADS) * LINKS + old) as u32;
-            h[i] = (count as u32) + 1;
-            Entered::Count(count + 1)
-        }
+        None
     }
-}
 
-// The declarations of a script, whose lines stand from place q on. Ruled out: those after the first of a script left aside; a
-// declaration held beside those of its own script only.
-pub fn enter_script(
-    s: &[u8],
-    p: &mut [u64; ENTRIES],
-    n: &mut [u32; ENTRIES],
-    h: &mut [u32; HEADS],
-    count: usize,
-    q: usize,
-) -> Entered
-    requires { (seen : List Declared) × (ys : List Declared) × Holds s.now seen p.old n.old h.old count × DeclaredAt s.now q ys × (length seen + length ys ≤ 98304) }
-    ensures { (seen ys : List Declared) → Holds s.now seen p.old n.old h.old count → DeclaredAt s.now q ys
-        → ScriptTo s.now seen ys p.new n.new h.new result }
-{
-    let mut c = count;
-    let mut at = q;
-    loop {
-        let Line::Is(a, f, e) = next_line(s, at) else {
-            return Entered::Count(c);
-        };
-        let Entered::Count(d) = enter_line(s, p, n, h, c, a, f, e) else {
-            return Entered::Clash;
-        };
-        c = d;
-        at = e;
+    // One declaration more. Ruled out: a declaration of a name that is known left aside; one with other
+    // widths taken for the same; the name of an entry that begins with this one.
+    pub fn enter_line(&mut self, s: &[u8], line: Line) -> Result<(), Clash>
+        requires { ((seen : List Declared) × HeldBy s.now seen self.old) × ((x : Declared) × LineIs s.now line.name line.name_end line.end x) × (self.old.count < 98304) }
+        ensures { (seen : List Declared) (x : Declared) → HeldBy s.now seen self.old
+            → LineIs s.now line.name line.name_end line.end x → LineTo s.now seen x self.new result }
+    {
+        if let Some(q) = self.find(s, line.name, line.name_end) {
+            if stands(s, line.name, line.end, q) {
+                return Ok(());
+            }
+            return Err(Clash);
+        }
+        let m = mark(&s[line.name..line.name_end - 1]);
+        let i = m % HEADS;
+        let k = self.count;
+        self.places[k] = line.name as u64;
+        self.links[k] = ((m / HEADS) * LINKS + self.heads[i] as usize) as u32;
+        self.heads[i] = (k as u32) + 1;
+        self.count = k + 1;
+        Ok(())
+    }
+
+    // The declarations of a script, whose lines stand from place q on. Ruled out: those after the first of a script left aside; a
+    // declaration held beside those of its own script only.
+    pub fn enter_script(&mut self, s: &[u8], q: usize) -> Result<(), Clash>
+        requires { (seen : List Declared) × (ys : List Declared) × HeldBy s.now seen self.old × DeclaredAt s.now q ys × (length seen + length ys ≤ 98304) }
+        ensures { (seen ys : List Declared) → HeldBy s.now seen self.old → DeclaredAt s.now q ys
+            → ScriptTo s.now seen ys self.new result }
+    {
+        let mut at = q;
+        while let Some(line) = next_line(s, at) {
+            self.enter_line(s, line)?;
+            at = line.end;
+        }
+        Ok(())
     }
 }

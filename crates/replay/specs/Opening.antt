@@ -1,14 +1,16 @@
 -- An unpacked problem: a header of 32-bit numbers, the inputs one after the other, and the result. The header has the
 -- count of each input, the length of what is lent, the number and the count of the answer.
-use Rattle.std.specs.Prelude.{ℕ, zero, suc, ◌+◌, ◌-◌, ◌*◌, Bool, true, ◌&&◌, List, length, ◌==◌, nat_le}
+use Rattle.std.specs.Prelude.{ℕ, zero, suc, ◌+◌, ◌-◌, ◌*◌, Bool, true, ◌&&◌, List, [], Option, Some, None, length, take, drop, ◌==◌, nat_le}
 use Rattle.echo_spec.specs.Input.{word32}
 use Rattle.input_parts.specs.Parts.{size_of, room_of}
 use Rattle.replay.specs.declared.Recorded.{Recorded}
 use Rattle.replay.specs.declared.Recorded.TheVariants.{Widths, Printer, Sizes, Hidden, Let, Fewest, Formulas}
 use Rattle.replay.specs.declared.Head.{Head}
-use Rattle.replay.specs.declared.Opened.{Opened}
-use Rattle.replay.specs.declared.Opened.TheVariants.{Whole, Damaged}
 use Rattle.replay.specs.Unpacking.{pick}
+
+-- n elements from a place on, or none if they are not all there
+abbrev pub part_of : {A : Type 0} → List A → ℕ → ℕ → List A
+part_of s at n = pick (nat_le (at + n) (length s)) (take n (drop at s)) []
 
 -- the first fourteen inputs, or all
 abbrev pub inputs_of : Recorded → ℕ
@@ -54,12 +56,16 @@ inputs_ok s n k zero = true
 inputs_ok s n k (suc m) = nat_le (word32 s (4 * k)) (room_of k) && (nat_le (place_at s n (suc k)) (length s) && inputs_ok s n (suc k) m)
 
 abbrev pub head_of : List ℕ → ℕ → Head
-head_of s n = record { room = word32 s (4 * n); number = word32 s (4 * n + 4); count = word32 s (4 * n + 8); result = place_at s n n }
+head_of s n = record {
+  room = word32 s (4 * n);
+  recorded = record { number = word32 s (4 * n + 4); count = word32 s (4 * n + 8) };
+  result = place_at s n n;
+}
 
 unfoldable pub whole_of : Recorded → List ℕ → ℕ → Bool
 whole_of list s n =
     nat_le (4 * (n + 3)) (length s)
-    && (inputs_ok s n 0 n && length s - place_at s n n == result_bytes list (head_of s n).number (head_of s n).count)
+    && (inputs_ok s n 0 n && length s - place_at s n n == result_bytes list (head_of s n).recorded.number (head_of s n).recorded.count)
 
-abbrev pub opened_of : Recorded → List ℕ → Opened
-opened_of list s = pick (whole_of list s (inputs_of list)) (Whole (head_of s (inputs_of list))) Damaged
+abbrev pub opened_of : Recorded → List ℕ → Option Head
+opened_of list s = pick (whole_of list s (inputs_of list)) (Some (head_of s (inputs_of list))) None

@@ -5,12 +5,19 @@
 use replay::{Recorded, run};
 use std::io;
 
+static LISTS: [Recorded; 7] = [
+    Recorded::Widths,
+    Recorded::Printer,
+    Recorded::Sizes,
+    Recorded::Hidden,
+    Recorded::Let,
+    Recorded::Fewest,
+    Recorded::Formulas,
+];
+
 fn main(rt: HostRuntime) -> io::Result<()> {
-    run(&rt, Recorded::Widths)?;
-    run(&rt, Recorded::Printer)?;
-    run(&rt, Recorded::Sizes)?;
-    run(&rt, Recorded::Hidden)?;
-    run(&rt, Recorded::Let)?;
-    run(&rt, Recorded::Fewest)?;
-    run(&rt, Recorded::Formulas)
+    for list in &LISTS {
+        run(&rt, rt.alloc(), list)?;
+    }
+    Ok(())
 }

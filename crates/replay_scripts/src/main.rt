@@ -2,166 +2,103 @@
 // finds no script, and each length is compared with the recorded one. docs/RECORDED.md has the layout. A list that is damaged is told as such.
 #![tactic(auto)]
 
-use script_lines::Found;
+use lent::word32;
+use replay::{Answer, Fault, Judged, Replay, Tally, Words, run};
+use script_lines::next_script;
 use std::io;
 use std::io::{Read, Write};
-use streams::{read_full, write_line};
+use streams::read_full;
+
+// The script, from 0, that was answered otherwise.
+fn other(script: usize) -> Judged {
+    Err(Fault::Other(Answer {
+        number: 0,
+        count: script as u64,
+    }))
+}
+
+// How many scripts there are, where all are as recorded. The lengths are lent as they are recorded: four bytes each, the lowest first.
+fn judged(file: &[u8], lengths: &[u8]) -> Judged {
+    let count = lengths.len() / 4;
+    let mut left = file;
+    for k in 0..count {
+        match next_script(left) {
+            Some(m) if m as u64 == word32(lengths, 4 * k) && m <= left.len() => left = &left[m..],
+            _ => return other(k),
+        }
+    }
+    match next_script(left) {
+        None => Ok(count as u64),
+        Some(_) => other(count),
+    }
+}
 
 // The longest file of the list, and the most scripts of one.
 const LONGEST: usize = 20480;
 
 const MOST: usize = 1024;
 
-// What a file came to: as recorded, with so many scripts; the first script, from 0, that was answered otherwise; or a damaged list.
-#[derive(Clone, Copy)]
-enum Verdict {
-    Same(u64),
-    Other(u64),
-    Damaged,
-}
+struct Scripts;
 
-// The lengths are lent as they are recorded: four bytes each, the lowest first.
-fn compared(file: &[u8], lengths: &[u8]) -> Verdict {
-    let count = lengths.len() / 4;
-    let mut at = 0;
-    let mut k = 0;
-    while k < count {
-        match script_lines::next_script(&file[at..]) {
-            Found::Nothing => return Verdict::Other(k as u64),
-            Found::Script(m) => {
-                if m as u64 != lent::word32(lengths, 4 * k) {
-                    return Verdict::Other(k as u64);
-                }
-                if m > file.len() - at {
-                    return Verdict::Other(k as u64);
-                }
-                at += m;
-            }
-        }
-        k += 1;
-    }
-    match script_lines::next_script(&file[at..]) {
-        Found::Nothing => Verdict::Same(count as u64),
-        Found::Script(_) => Verdict::Other(count as u64),
-    }
-}
+impl Replay for Scripts {
+    // The recorded lengths, and the bytes of a file; the list is not packed.
+    const PACKED: usize = 4096;
 
-// The lengths and the bytes of a file, all of which have to be there.
-fn read<R: Read>(list: &mut R, file: &mut [u8], lengths: &mut [u8]) -> io::Result<Verdict> {
-    if read_full(list, lengths)? < lengths.len() {
-        return Ok(Verdict::Damaged);
-    }
-    if read_full(list, file)? < file.len() {
-        return Ok(Verdict::Damaged);
-    }
-    Ok(compared(file, lengths))
-}
+    const PLAIN: usize = LONGEST;
 
-fn find<R: Read>(list: &mut R, file: &mut [u8], lengths: &mut [u8]) -> io::Result<Verdict> {
-    let mut head = [0u8; 8];
-    if read_full(list, &mut head)? < 8 {
-        return Ok(Verdict::Damaged);
-    }
-    let n = lent::word32(&head, 0) as usize;
-    let m = lent::word32(&head, 4) as usize;
-    if n > file.len() {
-        return Ok(Verdict::Damaged);
-    }
-    if m > lengths.len() / 4 {
-        return Ok(Verdict::Damaged);
-    }
-    read(list, &mut file[..n], &mut lengths[..4 * m])
-}
-
-fn next<R: Read>(list: &mut R) -> io::Result<Verdict> {
-    let mut file = [0u8; LONGEST];
-    let mut lengths = [0u8; 4 * MOST];
-    find(list, &mut file, &mut lengths)
-}
-
-fn sum(a: u64, b: u64) -> u64 {
-    a.wrapping_add(b)
-}
-
-#[derive(Clone, Copy)]
-struct Tally {
-    files: u64,
-    scripts: u64,
-    differences: u64,
-}
-
-fn same(mut t: Tally, scripts: u64) -> Tally {
-    t.files = sum(t.files, 1);
-    t.scripts = sum(t.scripts, scripts);
-    t
-}
-
-fn other(mut t: Tally) -> Tally {
-    t.files = sum(t.files, 1);
-    t.differences = sum(t.differences, 1);
-    t
-}
-
-// n files, and then nothing more.
-fn replay_all<R: Read, W: Write>(list: &mut R, out: &mut W, n: u64) -> io::Result<Tally> {
-    let mut t = Tally {
-        files: 0,
-        scripts: 0,
-        differences: 0,
-    };
-    for i in 0..n {
-        match next(list)? {
-            Verdict::Same(k) => t = same(t, k),
-            Verdict::Other(k) => {
-                write_line(out, b"another answer in file ", i)?;
-                write_line(out, b"  at script ", k)?;
-                t = other(t);
-            }
-            Verdict::Damaged => {
-                write_line(out, b"the list is damaged at file ", i)?;
-                return Ok(t);
-            }
+    fn words(&self) -> Words {
+        Words {
+            path: "scripts.bin",
+            title: *b"SCRIPTS1",
+            record: "file",
+            records: "files",
+            accepted: "scripts",
+            count: "at script",
+            refusals: &[],
         }
     }
-    Ok(t)
-}
 
-fn titled(found: &[u8; 8]) -> bool {
-    let wanted = *b"SCRIPTS1";
-    let mut k = 0;
-    while k < 8 {
-        if found[k] != wanted[k] {
-            return false;
+    // The lengths and the bytes of a file, all of which have to be there.
+    fn next<R: Read>(
+        &self,
+        list: &mut R,
+        lengths: &mut [u8],
+        file: &mut [u8],
+    ) -> io::Result<Judged> {
+        let mut head = [0u8; 8];
+        if read_full(list, &mut head)? < 8 {
+            return Ok(Err(Fault::Damaged));
         }
-        k += 1;
+        let n = word32(&head, 0) as usize;
+        let m = word32(&head, 4) as usize;
+        if n > file.len() || m > lengths.len() / 4 {
+            return Ok(Err(Fault::Damaged));
+        }
+        let lengths = &mut lengths[..4 * m];
+        let file = &mut file[..n];
+        if read_full(list, lengths)? < lengths.len() || read_full(list, file)? < file.len() {
+            return Ok(Err(Fault::Damaged));
+        }
+        Ok(judged(file, lengths))
     }
-    true
-}
 
-// The list in an open file.
-fn replay_file<R: Read, W: Write>(list: &mut R, out: &mut W) -> io::Result<()> {
-    let mut title = [0u8; 8];
-    let mut size = [0u8; 4];
-    read_full(list, &mut title)?;
-    read_full(list, &mut size)?;
-    if !titled(&title) {
-        return write_line(out, b"the list is damaged at byte ", 0);
+    fn tell<W: Write>(&self, out: &mut W, i: u64, answer: Answer) -> io::Result<()> {
+        writeln!(out, "another answer in file {i}")?;
+        writeln!(out, "  at script {}", answer.count)
     }
-    let n = lent::word32(&size, 0);
-    let t = replay_all(list, out, n)?;
-    write_line(out, b"files ", t.files)?;
-    write_line(out, b"scripts ", t.scripts)?;
-    write_line(out, b"differences ", t.differences)?;
-    let mut rest = [0u8; 1];
-    if read_full(list, &mut rest)? > 0 {
-        write_line(out, b"the list goes on after its files, so many: ", n)?;
+
+    // The number of a file is how many scripts it has, or 0 where another was answered.
+    fn report<W: Write>(&self, out: &mut W, tally: &Tally) -> io::Result<()> {
+        let mut scripts = 0u64;
+        for (n, files) in &tally.numbers {
+            scripts = scripts.wrapping_add(n.wrapping_mul(*files));
+        }
+        writeln!(out, "files {}", tally.records)?;
+        writeln!(out, "scripts {scripts}")?;
+        writeln!(out, "differences {}", tally.differences)
     }
-    Ok(())
 }
 
 fn main(rt: HostRuntime) -> io::Result<()> {
-    match streams::open(&rt, "scripts.bin")? {
-        Some(mut list) => replay_file(&mut list, &mut io::writer(&rt)),
-        None => Ok(()),
-    }
+    run(&rt, rt.alloc(), &Scripts)
 }

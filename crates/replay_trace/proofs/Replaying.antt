@@ -12,7 +12,7 @@ use lib.ListN.{length, get_or, take, drop, length-append, length-drop, get_or-ap
 use lib.Seq.{ext_get_or, get_or-append-add, get_or-drop}
 use Rattle.lists.specs.Tests.{every, among-every, and_0, and-1, T→true, true→T}
 use Rattle.lists.specs.Build.{tabulate, length-tabulate, get_or-tabulate}
-use Rattle.lent.specs.Lent.{Slice, problem_at}
+use Rattle.lent.specs.Arrays.{Slice, problem_at}
 use Rattle.echo_spec.specs.Refusals.{unless, ◌or_else◌}
 use Rattle.echo_spec.specs.Input.{Problem, array_widths, nodes_of, dag_of, query_of}
 use Rattle.echo_spec.specs.Widths.{widths_of}

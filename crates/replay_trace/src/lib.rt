@@ -3,7 +3,8 @@
 #![tactic(auto)]
 
 ghost use Rattle.std.specs.Prelude.{◌≡◌, length};
-ghost use Rattle.lent.specs.Lent.{problem_at, problem_of};
+ghost use Rattle.lent.specs.Arrays.{problem_at};
+ghost use Rattle.lent.specs.Lent.{problem_of};
 ghost use Rattle.traces.specs.Trace.{replay_trace_answer};
 ghost use Rattle.replay_trace.specs.Traced.{answered, Ended, Listed, first_refusal, later_refusal, Widths, Tables, Full, Words, Traceable, Written};
 

@@ -1,6 +1,7 @@
 -- The names between bars one after the other, and the functions flagged so far.
 use Rattle.std.specs.Prelude.{ℕ, ◌+◌, ◌-◌, ◌≤◌, ◌<◌, ◌≡◌, refl, List, [], ◌∷◌, ◌++◌, Bool, true, false, ◌||◌, T, eqb, ltb, length, drop, get_or, set}
 use Rattle.std.proofs.Common.{ap, sym, ◌∙◌, subst, arith, eqb→eq, ltb→lt, nltb→le, length-set, get_or-set_same, get_or-set_other}
+use Rattle.std.specs.Prelude.{Some, None}
 use Rattle.std.proofs.Math.Option.{Option, none, some}
 use Rattle.std.proofs.lemmas.Bool.{eqb-false}
 use Rattle.std.proofs.Math.Seq.{set_out}
@@ -21,8 +22,12 @@ use Rattle.script_tokens.specs.Reached.{between, ends_name}
 use Rattle.script_names.specs.Entries.{name_here, name_at, Named}
 use Rattle.script_names.specs.Laws.{taken}
 use Rattle.script_entries.specs.Entries.{first_of, arrays_of, Known, Numbers, EntryIs}
+use Rattle.script_names.specs.declared.Table.{Table}
+use Rattle.script_header.specs.declared.Header.{Header}
 use Rattle.script_entries.specs.declared.Entry.{Entry}
-use Rattle.script_entries.specs.declared.Entry.TheVariants.{Nothing, Variable as VariableEntry, Array as ArrayEntry, Function as FunctionEntry}
+use Rattle.script_entries.specs.declared.Widths.{Widths}
+use Rattle.script_entries.specs.declared.Signature.{Signature}
+use Rattle.script_entries.specs.declared.Entry.TheVariants.{Variable as VariableEntry, Array as ArrayEntry, Function as FunctionEntry}
 use Rattle.script_entries.specs.Finding.{function-name, function-numbers}
 use Rattle.header_laws.specs.Body.{reading_of, AssertionsAt}
 use Rattle.script_calls.specs.Bars.{names_from, stands, bars-skip, bars-name, bars-open, bars-none}
@@ -96,7 +101,7 @@ module _ (s : List ℕ) (D : Declarations) (from : ℕ) where
       or-false false = refl
 
   -- the numbers of a function's own name
-  own-numbers : {t h : List ℕ} → Known s t h D → (g : ℕ) → g < length D.functions → Numbers D (function_at D g).name none none (some g)
+  own-numbers : {t : Table} {h : Header} → Known s t h D → (g : ℕ) → g < length D.functions → Numbers D (function_at D g).name none none (some g)
   own-numbers {t} {h} κ g l =
       let n : Name = (function_at D g).name in
       let q : same n (name_at (drop (first_of h) s) (arrays_of h + g)) ≡ true = ap (same n) (function-name κ g l) ∙ T→true (same n n) (same_refl n) in
@@ -111,7 +116,7 @@ module _ (s : List ℕ) (D : Declarations) (from : ℕ) where
       subst (λ (m : Name). T (same m n)) (same→eq n x.name h ∙ ap (λ (f : Function). f.name) (sym y)) (same_refl n)
 
   -- the next name, and its function flagged if it is one
-  pub scan-next : {t h : List ℕ} → Known s t h D → (p f : ℕ) (l : List ℕ) (n : Name) (v a : Option ℕ) (o : Option ℕ) → Scanned s D from p l → names_from none (drop p s) ≡ n ∷ names_from none (drop f s)
+  pub scan-next : {t : Table} {h : Header} → Known s t h D → (p f : ℕ) (l : List ℕ) (n : Name) (v a : Option ℕ) (o : Option ℕ) → Scanned s D from p l → names_from none (drop p s) ≡ n ∷ names_from none (drop f s)
       → Numbers D n v a o → Scanned s D from f (marked o l)
   scan-next {t} {h} κ p f l n v a none x e i = record { long = x.long; told = told }
     where
@@ -148,7 +153,7 @@ module _ (s : List ℕ) (D : Declarations) (from : ℕ) where
           (y, get_or-set_other l j g 1 0 (eqb-false g j z) ∙ q, u ∙ ap (λ (ns : List Name). y || in_list c ns) e ∙ ap (λ (z : Bool). y || (z || stands c (drop f s))) d)
 
 -- the next name, whatever it is, and its function flagged
-pub scan-more : {s t h : List ℕ} {D : Declarations} → Known s t h D → (from p a f : ℕ) (l l' : List ℕ) → Named s p a → Named s a f → Scanned s D from p l
+pub scan-more : {s : List ℕ} {t : Table} {h : Header} {D : Declarations} → Known s t h D → (from p a f : ℕ) (l l' : List ℕ) → Named s p a → Named s a f → Scanned s D from p l
     → l' ≡ marked (function_number D (between s a (f - 1))) l → Scanned s D from f l'
 scan-more {s} {t} {h} {D} κ from p a f l l' x y z e =
     let n : Name = between s a (f - 1) in
@@ -158,27 +163,31 @@ scan-more {s} {t} {h} {D} κ from p a f l l' x y z e =
 
 -- ---------------------------------------------------------------- what an enum answered
 
-module _ (s : List ℕ) (D : Declarations) (n : Name) (l : List ℕ) {r : Entry} (h : EntryIs s D n r) where
-  pub marks-function : {g p w : ℕ} → r ≡ FunctionEntry g p w → set l g 1 ≡ marked (function_number D n) l
-  marks-function {g} {p} {w} q = let x : EntryIs s D n (FunctionEntry g p w) = subst (EntryIs s D n) q h in ap (λ (o : Option ℕ). marked o l) (sym x.numbers.function)
+module _ (s : List ℕ) (D : Declarations) (n : Name) (l : List ℕ) where
+  pub marks-nothing : EntryIs s D n None → l ≡ marked (function_number D n) l
+  marks-nothing x = ap (λ (o : Option ℕ). marked o l) (sym x.function)
 
-  -- a function that has no flag
-  pub marks-past : {g p w : ℕ} → r ≡ FunctionEntry g p w → length l ≤ g → l ≡ marked (function_number D n) l
-  marks-past {g} {p} {w} q m = sym (set_out l g 1 m) ∙ marks-function q
+  module _ {r : Entry} (h : EntryIs s D n (Some r)) where
+    told : {e : Entry} → r ≡ e → EntryIs s D n (Some e)
+    told q = subst (λ (e : Entry). EntryIs s D n (Some e)) q h
 
-  pub marks-array : {k i v : ℕ} → r ≡ ArrayEntry k i v → l ≡ marked (function_number D n) l
-  marks-array {k} {i} {v} q = let x : EntryIs s D n (ArrayEntry k i v) = subst (EntryIs s D n) q h in ap (λ (o : Option ℕ). marked o l) (sym x.numbers.function)
+    pub marks-function : {g : ℕ} {u : Signature} → r ≡ FunctionEntry g u → set l g 1 ≡ marked (function_number D n) l
+    marks-function {g} {u} q = let x : EntryIs s D n (Some (FunctionEntry g u)) = told q in ap (λ (o : Option ℕ). marked o l) (sym x.numbers.function)
 
-  pub marks-variable : {k w : ℕ} → r ≡ VariableEntry k w → l ≡ marked (function_number D n) l
-  marks-variable {k} {w} q = let x : EntryIs s D n (VariableEntry k w) = subst (EntryIs s D n) q h in ap (λ (o : Option ℕ). marked o l) (sym x.numbers.function)
+    -- a function that has no flag
+    pub marks-past : {g : ℕ} {u : Signature} → r ≡ FunctionEntry g u → length l ≤ g → l ≡ marked (function_number D n) l
+    marks-past {g} {u} q m = sym (set_out l g 1 m) ∙ marks-function q
 
-  pub marks-nothing : r ≡ Nothing → l ≡ marked (function_number D n) l
-  marks-nothing q = let x : EntryIs s D n Nothing = subst (EntryIs s D n) q h in ap (λ (o : Option ℕ). marked o l) (sym x.function)
+    pub marks-array : {k : ℕ} {u : Widths} → r ≡ ArrayEntry k u → l ≡ marked (function_number D n) l
+    marks-array {k} {u} q = let x : EntryIs s D n (Some (ArrayEntry k u)) = told q in ap (λ (o : Option ℕ). marked o l) (sym x.numbers.function)
+
+    pub marks-variable : {k w : ℕ} → r ≡ VariableEntry k w → l ≡ marked (function_number D n) l
+    marks-variable {k} {w} q = let x : EntryIs s D n (Some (VariableEntry k w)) = told q in ap (λ (o : Option ℕ). marked o l) (sym x.numbers.function)
 
 -- ---------------------------------------------------------------- the assertions
 
 -- The flags are those of the assertions, where they are those of the names in the bytes.
-flagged-by : {s t h : List ℕ} {D : Declarations} → Known s t h D → (from : ℕ) (l : List ℕ) (ts : List Tree) → AssertionsAt s D from ts → length l ≡ 512
+flagged-by : {s : List ℕ} {t : Table} {h : Header} {D : Declarations} → Known s t h D → (from : ℕ) (l : List ℕ) (ts : List Tree) → AssertionsAt s D from ts → length l ≡ 512
     → ((g : ℕ) → g < 512 → g < length D.functions → get_or l g 0 ≡ flag (stands (function_at D g).name (drop from s))) → Flagged D (trees_from ts) l
 unfolding printable
 flagged-by {s} {t} {h} {D} κ from l ts x y e = record {
@@ -190,12 +199,12 @@ flagged-by {s} {t} {h} {D} κ from l ts x y e = record {
 }
 
 -- No name is left.
-pub flagged : {s t h : List ℕ} {D : Declarations} → Known s t h D → (from p : ℕ) (l : List ℕ) (ts : List Tree) → AssertionsAt s D from ts → Scanned s D from p l → names_from none (drop p s) ≡ []
+pub flagged : {s : List ℕ} {t : Table} {h : Header} {D : Declarations} → Known s t h D → (from p : ℕ) (l : List ℕ) (ts : List Tree) → AssertionsAt s D from ts → Scanned s D from p l → names_from none (drop p s) ≡ []
     → Flagged D (trees_from ts) l
 flagged {s} {D = D} κ from p l ts x y e = flagged-by κ from l ts x y.long (scan-end s D from p l y e)
 
 -- Every function has its flag, whatever is left.
-pub flagged-all : {s t h : List ℕ} {D : Declarations} → Known s t h D → (from p : ℕ) (l : List ℕ) (ts : List Tree) → AssertionsAt s D from ts → Scanned s D from p l
+pub flagged-all : {s : List ℕ} {t : Table} {h : Header} {D : Declarations} → Known s t h D → (from p : ℕ) (l : List ℕ) (ts : List Tree) → AssertionsAt s D from ts → Scanned s D from p l
     → ((g : ℕ) → g < 512 → g < length D.functions → get_or l g 0 ≡ 1) → Flagged D (trees_from ts) l
 flagged-all {s} {D = D} κ from p l ts x y all = flagged-by κ from l ts x y.long (λ g m k. (let (b, q, u) = y.told g m k in by_flag g b q u (all g m k)))
   where

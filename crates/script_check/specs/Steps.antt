@@ -10,11 +10,11 @@ use Rattle.std.proofs.Math.ListN.{length, length-drop}
 use Rattle.lists.specs.Bytes.{bytes}
 use Rattle.lists.specs.Tests.{and_T, T→true, no→false}
 use Rattle.reading.specs.Trees.{Tree, Declarations, Reading}
-use Rattle.echo_spec.specs.TreeSorts.{TreeSort, bool, bits, same_sort, has_sort, sort_under, tree_sort, all_bool}
+use Rattle.echo_spec.specs.TreeSorts.{bool, bits, same_sort, has_sort, sort_under, tree_sort, all_bool}
 use Rattle.echo_spec.specs.TreeSortLaws.{has-eq}
-use Rattle.readback.specs.Reader.{Took, took, and_then, expect, read_term}
+use Rattle.readback.specs.Reader.{Took, took, and_then, expect}
 use Rattle.readback.specs.ScriptReader.{many, term_steps, read_assertion, trees_from, is_empty}
-use Rattle.reader_laws.specs.TermsStrict.{impossible, and-then, took-both, expected}
+use Rattle.reader_laws.specs.TermsStrict.{impossible, took-both, expected}
 use Rattle.sort_reader.specs.Sorted.{sorted}
 use Rattle.header_laws.specs.Body.{last_line, assertions_in, reading_of, if_bools, body_in, AssertionsAt}
 use Rattle.header_laws.specs.Assertions.{Assertion, assertion-read, read-assertion}

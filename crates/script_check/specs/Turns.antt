@@ -1,6 +1,7 @@
 -- One turn over the assertions: what is read of an assertion, by the sort that is told of its term.
-use Rattle.std.specs.Prelude.{ℕ, zero, suc, ◌+◌, ◌≤◌, ◌<◌, ◌≡◌, refl, List, [], ◌∷◌, length, drop}
+use Rattle.std.specs.Prelude.{ℕ, zero, suc, ◌+◌, ◌≤◌, ◌<◌, ◌≡◌, refl, List, [], length, drop}
 use Rattle.std.proofs.Common.{ap, sym, ◌∙◌, subst, length-append, length-drop}
+use Rattle.std.specs.Prelude.{Some, None}
 use Rattle.std.proofs.Math.Option.{none}
 use native.Mathlib.Omega.{arith}
 use Rattle.lists.specs.Bytes.{bytes}
@@ -10,30 +11,22 @@ use Rattle.readback.specs.Reader.{took, expect}
 use Rattle.readback.specs.ScriptReader.{term_steps, read_assertion, reading_in}
 use Rattle.reader_laws.specs.TermsStrict.{expected}
 use Rattle.sort_reader.specs.Sorted.{sorted}
-use Rattle.script_tokens.specs.declared.Step.{Step}
-use Rattle.script_tokens.specs.declared.Step.TheVariants.{No as Nowhere, To}
-use Rattle.script_header.specs.Header.{header_in, HeaderAt, HeaderTo}
+use Rattle.script_names.specs.declared.Table.{Table}
 use Rattle.script_header.specs.declared.Header.{Header}
-use Rattle.script_header.specs.declared.Header.TheVariants.{No as NoHeader, Read}
+use Rattle.script_header.specs.Header.{header_in, HeaderAt, NoHeader}
 use Rattle.script_entries.specs.Entries.{Entered, Known}
 use Rattle.script_entries.specs.Named.{known-header}
 use Rattle.header_laws.specs.Body.{last_line, AssertionsAt}
 use Rattle.header_laws.specs.Whole.{header-none, header-reads, header-declarable}
-use Rattle.script_terms.specs.declared.Sort.{Sort}
-use Rattle.script_terms.specs.declared.Sort.TheVariants.{No as NoSort, Is}
+use Rattle.script_terms.specs.declared.Sorted.{Sorted}
 use Rattle.script_terms.specs.States.{sort_from, SortAt}
-use Rattle.script_check.specs.declared.Check.{Check}
-use Rattle.script_check.specs.declared.Check.TheVariants.{No, Yes}
-use Rattle.script_check.specs.Check.{Topped, TopTo, Checked, CheckTo, BodyAt, BodyTo}
+use Rattle.script_check.specs.Check.{Topped, Checked, BodyAt, BodyTo}
 use Rattle.script_check.specs.Steps.{Going, going-read, going-last, going_next, going-bad, bad-none, bad-sort, bad-close, good-assertion}
 
 -- ---------------------------------------------------------------- sorts
 
-sort-none : (s : List ℕ) (D : Declarations) (a : ℕ) {r : Sort} → SortAt s D a r → r ≡ NoSort → sorted (term_steps (drop a s)) D (drop a s) ≡ none
-sort-none s D a {r} h q = let x : SortAt s D a NoSort = subst (SortAt s D a) q h in x (term_steps (drop a s)) (omega arith)
-
-pub sort-is : (s : List ℕ) (D : Declarations) (a : ℕ) {r : Sort} {w e : ℕ} → SortAt s D a r → r ≡ Is w e → (a < e) × (e ≤ length s) × (sorted (term_steps (drop a s)) D (drop a s) ≡ took (sort_from w) (drop e s))
-sort-is s D a {r} {w} {e} h q = let x : SortAt s D a (Is w e) = subst (SortAt s D a) q h in (x.0, x.1, x.2 (term_steps (drop a s)) (omega arith))
+sort-is : (s : List ℕ) (D : Declarations) (a : ℕ) (r : Sorted) → SortAt s D a (Some r) → (a < r.end) × (r.end ≤ length s) × (sorted (term_steps (drop a s)) D (drop a s) ≡ took (sort_from r.sort) (drop r.end s))
+sort-is s D a r x = (x.0, x.1, x.2 (term_steps (drop a s)) (omega arith))
 
 bits-sort : (w : ℕ) → (w ≡ 0 → ⊥) → sort_from w ≡ bits w
 bits-sort zero h = absurd (h refl)
@@ -51,28 +44,34 @@ word-further w s a e l m q =
 
 module _ {s : List ℕ} {D : Declarations} {from p n : ℕ} (g : Going s D from p n) (a : ℕ) (e : expect (bytes "(assert ") (drop p s) ≡ took [] (drop a s)) where
   -- no term that has a sort
-  pub turn-none : {r : Sort} → SortAt s D a r → r ≡ NoSort → BodyTo s D from No
-  turn-none h q = going-bad g (drop a s) e (bad-none D (drop p s) (drop a s) e (sort-none s D a h q))
+  pub turn-none : SortAt s D a None → BodyTo s D from None
+  turn-none h = going-bad g (drop a s) e (bad-none D (drop p s) (drop a s) e (h (term_steps (drop a s)) (omega arith)))
 
-  module _ {r : Sort} {w f : ℕ} (h : SortAt s D a r) (q : r ≡ Is w f) where
+  module _ (r : Sorted) (h : SortAt s D a (Some r)) where
+    abbrev w : ℕ
+    w = r.sort
+
+    abbrev f : ℕ
+    f = r.end
+
     -- a bit-vector
-    pub turn-bits : (w ≡ 0 → ⊥) → BodyTo s D from No
+    pub turn-bits : (w ≡ 0 → ⊥) → BodyTo s D from None
     turn-bits k =
-        let (l, m, x) = sort-is s D a h q in
+        let (l, m, x) = sort-is s D a r h in
         going-bad g (drop a s) e (bad-sort D (drop p s) (drop a s) e w (drop f s) (x ∙ ap (λ (σ : TreeSort). took σ (drop f s)) (bits-sort w k)))
 
     bool-read : w ≡ 0 → sorted (term_steps (drop a s)) D (drop a s) ≡ took bool (drop f s)
-    bool-read k = (sort-is s D a h q).2 ∙ ap (λ (i : ℕ). took (sort_from i) (drop f s)) k
+    bool-read k = (sort-is s D a r h).2 ∙ ap (λ (i : ℕ). took (sort_from i) (drop f s)) k
 
     -- a Bool, and something else than the end of the line
-    pub turn-open : w ≡ 0 → expect (bytes ")\n") (drop f s) ≡ none → BodyTo s D from No
+    pub turn-open : w ≡ 0 → expect (bytes ")\n") (drop f s) ≡ none → BodyTo s D from None
     turn-open k c = going-bad g (drop a s) e (bad-close D (drop p s) (drop a s) e (drop f s) (bool-read k) c)
 
     pub turn-less : a ≤ length s → (z : ℕ) → z ≤ length s → expect (bytes ")\n") (drop f s) ≡ took [] (drop z s) → p < z
     unfolding bytes
     turn-less b z m c =
         let l₁ = word-further (bytes "(assert ") s p a (omega arith) b e in
-        let l₂ = (sort-is s D a h q).0 in
+        let l₂ = (sort-is s D a r h).0 in
         let l₃ = word-further (bytes ")\n") s f z (omega arith) m c in
         omega arith
 
@@ -90,33 +89,23 @@ turn_last g l e z q m = record { trees = g.trees; start = refl; read = going-rea
 
 -- ---------------------------------------------------------------- the whole script
 
-pub check-none : (s t : List ℕ) {r : Header} → HeaderTo s 0 t r → r ≡ NoHeader → reading_in s ≡ none
-check-none s t {r} x q = let y : HeaderTo s 0 t NoHeader = subst (HeaderTo s 0 t) q x in header-none s (y (suc (length s)) (omega arith))
+pub check-none : (s : List ℕ) → NoHeader s 0 → reading_in s ≡ none
+check-none s y = header-none s (y (suc (length s)) (omega arith))
 
-module _ (s t : List ℕ) {r : Header} {first v w c e : ℕ} (x : HeaderTo s 0 t r) (q : r ≡ Read first v w c e) where
-  pub header_at : HeaderAt s 0 t first v w c e
-  header_at = subst (HeaderTo s 0 t) q x
+module _ {s : List ℕ} {t : Table} {h : Header} (x : HeaderAt s 0 t h.first h.variables h.arrays h.names h.end) where
+  header_read : header_in (suc (length s)) s ≡ took x.value (drop h.end s)
+  header_read = x.read (suc (length s)) (omega arith)
 
-  header_read : header_in (suc (length s)) s ≡ took header_at.value (drop e s)
-  header_read = header_at.read (suc (length s)) (omega arith)
+  pub entered : Entered s t h x.value
+  entered = known-header x (header-declarable (suc (length s)) s x.value (drop h.end s) header_read)
 
-  module _ (h : List ℕ) (k : h ≡ first ∷ v ∷ w ∷ c ∷ []) where
-    pub entered : Entered s t h header_at.value
-    entered = known-header header_at k (header-declarable (suc (length s)) s header_at.value (drop e s) header_read)
-
-    -- once the table u has what the lines declare
-    pub topped : {u : List ℕ} → Known s u h header_at.value → Topped s u h e
-    topped κ = record { declarations = header_at.value; known = κ; place = header_at.place; read = header_read }
-
-pub top-none : (s t h : List ℕ) {r : Step} → TopTo s t h r → r ≡ Nowhere → reading_in s ≡ none
-top-none s t h x q = subst (TopTo s t h) q x
-
-pub top-at : (s t h : List ℕ) {r : Step} {e : ℕ} → TopTo s t h r → r ≡ To e → Topped s t h e
-top-at s t h x q = subst (TopTo s t h) q x
+  -- once the table u has what the lines declare
+  pub topped : {u : Table} → Known s u h x.value → Topped s u h h.end
+  topped κ = record { declarations = x.value; known = κ; place = x.place; read = header_read }
 
 -- what the bytes after the header tell is what the script tells
-module _ {s t h : List ℕ} {e : ℕ} (x : Topped s t h e) where
-  pub body-none : BodyTo s x.declarations e No → reading_in s ≡ none
+module _ {s : List ℕ} {t : Table} {h : Header} {e : ℕ} (x : Topped s t h e) where
+  pub body-none : BodyTo s x.declarations e None → reading_in s ≡ none
   body-none b = header-reads s x.declarations (drop e s) x.read ∙ b (suc (length s)) (omega arith)
 
   abbrev pub body_checked : {a n : ℕ} → BodyAt s x.declarations e a n → Checked s t h a n
@@ -128,7 +117,3 @@ module _ {s t h : List ℕ} {e : ℕ} (x : Topped s t h e) where
     assertions = subst (λ (i : ℕ). AssertionsAt s x.declarations i b.trees) (sym b.start) b.assertions;
     roots = b.roots;
   }
-
-  pub body-told : (o : Check) → BodyTo s x.declarations e o → CheckTo s t h o
-  body-told No b = body-none b
-  body-told (Yes a n) b = body_checked b

@@ -1,53 +1,30 @@
 -- Laws of lines one after the other.
 use Prim.Native.Nat.{ℕ, zero, suc, ◌+◌, ◌-◌, ◌≤◌, ◌<◌}
-use Rattle.std.specs.Prelude.{◌≡◌, Bool, true, false, ◌&&◌, ◌||◌, not, cond, T, eqb, drop}
+use Rattle.std.specs.Prelude.{◌≡◌, Bool, true, false, ◌||◌, not, T, eqb, drop}
 use Rattle.std.proofs.Math.Path.{refl, sym}
-use Rattle.std.proofs.Common.{ap, ◌∙◌, subst, eqb→eq, length-append}
+use Rattle.std.proofs.Common.{ap, ◌∙◌, subst, eqb→eq}
 use mathlib.Core.List.{List, [], ◌∷◌, ◌++◌, map, append_assoc, append-nil}
-use Rattle.std.proofs.Math.Option.{Option, none, some}
+use Rattle.std.specs.Prelude.{Option as Maybe, Some, None}
+use Rattle.std.proofs.Math.Option.{Option, none}
 use native.Mathlib.Omega.{arith}
 use Rattle.std.proofs.lemmas.Bool.{eqb-false}
 use Rattle.std.proofs.Math.ListN.{length, length-drop}
 use Rattle.lists.specs.Bytes.{bytes}
-use Rattle.lists.specs.Tests.{same, in_list, every, T→true, true→T, no→false}
+use Rattle.lists.specs.Tests.{same, in_list, every, true→T}
 use Rattle.reading.specs.Trees.{Name}
 use Rattle.echo_spec.specs.Names.{byte_ok, first_ok, reserved, entry_ok}
 use Rattle.readback.specs.Reader.{Took, took, and_then, expect, up_to, name_read}
 use Rattle.reader_laws.specs.TermsStrict.{expected}
 use Rattle.script_tokens.specs.Reached.{between, NameTo}
-use Rattle.script_tokens.specs.declared.Step.{Step}
-use Rattle.script_tokens.specs.declared.Step.TheVariants.{No, To}
-use Rattle.script_names.specs.Entries.{after_bar, entry_from, name_here, name_at, Named, Sought, Tabled}
+use Rattle.script_names.specs.Entries.{after_bar, entry_from, name_at, Named, Sought, Tabled}
 use Rattle.script_names.specs.Laws.{taken, entry_next, entered-name}
 use Rattle.script_names.specs.declared.Found.{Found}
-use Rattle.script_names.specs.declared.Found.TheVariants.{Nothing, At}
-use Rattle.script_decls.specs.declared.Line.{Line}
-use Rattle.script_decls.specs.declared.Line.TheVariants.{No as NoLine, Is}
+use Rattle.script_names.specs.declared.Table.{Table}
 use Rattle.script_decls.specs.declared.Lines.{Lines}
-use Rattle.script_decls.specs.declared.Lines.TheVariants.{No as NoLines, To as LinesTo}
-use Rattle.script_decls.specs.Lines.{LineType, name_in, word_of, tail_of, line_of, checked, TailAt, TailTo, LineAt, LineTo, names_to, Ready, StageAt, StageTo}
+use Rattle.script_decls.specs.Lines.{LineType, name_in, word_of, line_of, checked, TailAt, TailTo, LineAt, names_to, Ready, StageAt, StageTo}
 use Rattle.script_decls.specs.Tails.{word-less}
 
 -- ---------------------------------------------------------------- one line
-
-pub tail_at : (k : ℕ) (s : List ℕ) (f : ℕ) {stage : ℕ} (r : Step) → stage ≡ k → TailTo k s f r → TailTo stage s f r
-tail_at k s f {stage} r e h = subst (λ (i : ℕ). TailTo i s f r) (sym e) h
-
-pub tail-past : (stage : ℕ) (s : List ℕ) (f : ℕ) (r : Step) → (stage ≡ 0 → ⊥) → (stage ≡ 1 → ⊥) → TailTo 2 s f r → TailTo stage s f r
-tail-past zero s f r x y h = absurd (x refl)
-tail-past (suc zero) s f r x y h = absurd (y refl)
-tail-past (suc (suc k)) s f No x y h = h
-tail-past (suc (suc k)) s f (To e) x y h = record { low = h.low; high = h.high; tail = h.tail; value = h.value; read = h.read; name = h.name }
-
-pub head-low : (stage : ℕ) → stage < 2 → bytes "(declare-const |" ≡ word_of stage
-head-low zero h = refl
-head-low (suc zero) h = refl
-head-low (suc (suc k)) h = absurd (omega arith)
-
-pub head-high : (stage : ℕ) → 2 ≤ stage → bytes "(declare-fun |" ≡ word_of stage
-head-high zero h = absurd (omega arith)
-head-high (suc zero) h = absurd (omega arith)
-head-high (suc (suc k)) h = refl
 
 pub word-bar : (k : ℕ) (y : List ℕ) → after_bar (word_of k ++ y) ≡ y
 unfolding after_bar up_to bytes
@@ -66,7 +43,7 @@ module _ (k : ℕ) (s : List ℕ) (at : ℕ) where
     line-no-name g = rw (h, g)
 
     module _ (f : ℕ) (g : Named s a f) where
-      pub line-no-tail : TailTo k s f No → line_of k (drop at s) ≡ none
+      pub line-no-tail : TailTo k s f None → line_of k (drop at s) ≡ none
       unfolding line_of and_then
       line-no-tail q = rw (h, g.read) (q (between s a (f - 1)))
 
@@ -144,13 +121,11 @@ module _ (before : List Name) (n : Name) where
         unfolding entry_ok
         name-before b g = rw (sym e₁ ∙ q₁, sym e₂ ∙ q₂, sym e₃ ∙ q₃, g) refl
 
-pub found_before : (s : List ℕ) (first count : ℕ) (n : Name) {r : Found} {k p : ℕ} → Sought s first count n r → r ≡ At k p → in_list n (names_to (drop first s) count) ≡ true
-found_before s first count n {r} {k} {p} h q =
-    let x : Sought s first count n (At k p) = subst (Sought s first count n) q h in
-    names-with (drop first s) n count k x.0 x.3
+pub found_before : (s : List ℕ) (first count : ℕ) (n : Name) {x : Found} → Sought s first count n (Some x) → in_list n (names_to (drop first s) count) ≡ true
+found_before s first count n {x} h = names-with (drop first s) n count x.line h.0 h.3
 
-pub not-before : (s : List ℕ) (first count : ℕ) (n : Name) {r : Found} → Sought s first count n r → r ≡ Nothing → in_list n (names_to (drop first s) count) ≡ false
-not-before s first count n h q = names-without (drop first s) n count (subst (Sought s first count n) q h)
+pub not-before : (s : List ℕ) (first count : ℕ) (n : Name) → Sought s first count n None → in_list n (names_to (drop first s) count) ≡ false
+not-before s first count n h = names-without (drop first s) n count h
 
 -- ---------------------------------------------------------------- lines
 
@@ -167,7 +142,7 @@ module _ (k : ℕ) (s : List ℕ) (first : ℕ) where
   B = drop first s
 
   -- no further line
-  pub stage-end : (t : List ℕ) (c p : ℕ) → Ready s first t c p → line_of k (drop p s) ≡ none → StageAt k s first c p t c p
+  pub stage-end : (t : Table) (c p : ℕ) → Ready s first t c p → line_of k (drop p s) ≡ none → StageAt k s first c p t c p
   unfolding checked
   stage-end t c p y e = record {
     lines = [];
@@ -183,12 +158,12 @@ module _ (k : ℕ) (s : List ℕ) (first : ℕ) where
 
   module _ (c p a f e : ℕ) (x : LineAt k s p a f e) where
     -- a name that may not be declared
-    pub stage-bad : (t : List ℕ) → entry_ok (names_to B c) (between s a (f - 1)) ≡ false → StageTo k s first c p t NoLines
+    pub stage-bad : (t : Table) → entry_ok (names_to B c) (between s a (f - 1)) ≡ false → StageTo k s first c p t None
     unfolding checked
     stage-bad t q zero m = refl
     stage-bad t q (suc g) m = rw (x.read, checked, x.name, q) refl
 
-    module _ (t t' : List ℕ) (y : Ready s first t c p) where
+    module _ (t t' : Table) (y : Ready s first t c p) where
       pub here-name : drop a s ≡ entry_from c B
       here-name = x.start ∙ sym y.here
 
@@ -217,13 +192,13 @@ module _ (k : ℕ) (s : List ℕ) (first : ℕ) where
       unfolding checked
       step q g = rw (x.read, checked, x.name ∙ refl, q) (ap (λ (ns : List Name). and_then (checked k g ns (drop e s)) (λ xs r. took (x.value ∷ xs) r)) (ap (λ (n : Name). names_to B c ++ (n ∷ [])) (sym x.name) ∙ sym names_more))
 
-      pub stage-more : (u : List ℕ) → entry_ok (names_to B c) (between s a (f - 1)) ≡ true → (r : Lines) → StageTo k s first (c + 1) e u r → StageTo k s first c p u r
-      stage-more u q NoLines h = by-none h
+      pub stage-more : (u : Table) → entry_ok (names_to B c) (between s a (f - 1)) ≡ true → (r : Maybe Lines) → StageTo k s first (c + 1) e u r → StageTo k s first c p u r
+      stage-more u q None h = by-none h
         where
-          by-none : StageTo k s first (c + 1) e u NoLines → StageTo k s first c p u NoLines
+          by-none : StageTo k s first (c + 1) e u None → StageTo k s first c p u None
           by-none h zero m = absurd (omega arith)
           by-none h (suc g) m = step q g ∙ rw (h g (omega (arith, less))) (none_then (λ xs r. took (x.value ∷ xs) r))
-      stage-more u q (LinesTo d z) h = record {
+      stage-more u q (Some l) h = record {
         lines = x.value ∷ h.lines;
         read = read;
         counted = omega (arith, h.counted);
@@ -231,34 +206,11 @@ module _ (k : ℕ) (s : List ℕ) (first : ℕ) where
         ready = h.ready;
       }
         where
-          read : (g : ℕ) → length (drop p s) < g → checked k g (names_to B c) (drop p s) ≡ took (x.value ∷ h.lines) (drop z s)
+          read : (g : ℕ) → length (drop p s) < g → checked k g (names_to B c) (drop p s) ≡ took (x.value ∷ h.lines) (drop l.end s)
           read zero m = absurd (omega arith)
-          read (suc g) m = step q g ∙ ap (λ (o : Option (Took (List (LineType k)))). and_then o (λ xs r. took (x.value ∷ xs) r)) (h.read g (omega (arith, less))) ∙ then_some h.lines (drop z s) (λ xs r. took (x.value ∷ xs) r)
+          read (suc g) m = step q g ∙ ap (λ (o : Option (Took (List (LineType k)))). and_then o (λ xs r. took (x.value ∷ xs) r)) (h.read g (omega (arith, less))) ∙ then_some h.lines (drop l.end s) (λ xs r. took (x.value ∷ xs) r)
 
--- ---------------------------------------------------------------- what an enum answered
+-- ---------------------------------------------------------------- what was answered
 
-pub named-of : (s : List ℕ) (a : ℕ) {r : Step} {f : ℕ} → NameTo s a (name_read (drop a s)) r → r ≡ To f → Named s a f
-named-of s a {r} {f} h q =
-    let x : NameTo s a (name_read (drop a s)) (To f) = subst (NameTo s a (name_read (drop a s))) q h in
-    record { low = x.0; high = x.1; read = x.2 }
-
-pub name-none : (s : List ℕ) (a : ℕ) {r : Step} → NameTo s a (name_read (drop a s)) r → r ≡ No → name_read (drop a s) ≡ none
-name-none s a h q = subst (NameTo s a (name_read (drop a s))) q h
-
-pub tail_none : (k : ℕ) (s : List ℕ) (f : ℕ) {r : Step} → TailTo k s f r → r ≡ No → TailTo k s f No
-tail_none k s f h q = subst (TailTo k s f) q h
-
-pub tail-whole : (k : ℕ) (s : List ℕ) (f : ℕ) {r : Step} {e : ℕ} → TailTo k s f r → r ≡ To e → TailAt k s f e
-tail-whole k s f {r} {e} h q = let x : TailTo k s f (To e) = subst (TailTo k s f) q h in x
-
-pub line-none : (k : ℕ) (s : List ℕ) (at : ℕ) {r : Line} → LineTo k s at r → r ≡ NoLine → line_of k (drop at s) ≡ none
-line-none k s at h q = subst (LineTo k s at) q h
-
-pub line_at : (k : ℕ) (s : List ℕ) (at : ℕ) {r : Line} {a f e : ℕ} → LineTo k s at r → r ≡ Is a f e → LineAt k s at a f e
-line_at k s at {r} {a} {f} {e} h q = let x : LineTo k s at (Is a f e) = subst (LineTo k s at) q h in x
-
-pub stage-none : (k : ℕ) (s : List ℕ) (first count at : ℕ) (t : List ℕ) {r : Lines} → StageTo k s first count at t r → r ≡ NoLines → StageTo k s first count at t NoLines
-stage-none k s first count at t h q = subst (StageTo k s first count at t) q h
-
-pub stage_at : (k : ℕ) (s : List ℕ) (first count at : ℕ) (t : List ℕ) {r : Lines} {c e : ℕ} → StageTo k s first count at t r → r ≡ LinesTo c e → StageAt k s first count at t c e
-stage_at k s first count at t {r} {c} {e} h q = let x : StageTo k s first count at t (LinesTo c e) = subst (StageTo k s first count at t) q h in x
+pub named-of : (s : List ℕ) (a : ℕ) {f : ℕ} → NameTo s a (name_read (drop a s)) (Some f) → Named s a f
+named-of s a x = record { low = x.0; high = x.1; read = x.2 }

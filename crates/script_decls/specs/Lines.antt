@@ -1,6 +1,7 @@
 -- The lines of declarations as they are read with every width and name checked: a reader for each of the three kinds of line, and as
 -- many lines of one kind as there are.
 use Rattle.std.specs.Prelude.{ℕ, zero, suc, ◌+◌, ◌-◌, ◌≤◌, ◌<◌, ◌≡◌, List, [], ◌∷◌, ◌++◌, map, Bool, true, false, ◌&&◌, cond, eqb, ltb, leb, length, drop}
+use Rattle.std.specs.Prelude.{Option as Maybe, Some, None}
 use Rattle.std.proofs.Math.Option.{Option, none, some}
 use Rattle.lists.specs.Bytes.{bytes}
 use Rattle.reading.specs.Trees.{Name, Variable, Array, Function}
@@ -9,13 +10,12 @@ use Rattle.echo_spec.specs.Input.{largest}
 use Rattle.readback.specs.Reader.{Took, took, and_then, expect, name_read}
 use Rattle.readback.specs.ScriptReader.{read_sort, separator}
 use Rattle.script_tokens.specs.Reached.{between}
-use Rattle.script_tokens.specs.declared.Step.{Step}
-use Rattle.script_tokens.specs.declared.Step.TheVariants.{No, To}
 use Rattle.script_names.specs.Entries.{after_bar, entry_from, name_at, Named, Tabled}
 use Rattle.script_decls.specs.declared.Line.{Line}
-use Rattle.script_decls.specs.declared.Line.TheVariants.{No as NoLine, Is}
 use Rattle.script_decls.specs.declared.Lines.{Lines}
-use Rattle.script_decls.specs.declared.Lines.TheVariants.{No as NoLines, To as LinesTo}
+use Rattle.script_decls.specs.declared.Stage.{Stage}
+use Rattle.script_decls.specs.declared.Stage.TheVariants.{Variables, Arrays, Functions}
+use Rattle.script_names.specs.declared.Table.{Table}
 
 -- a sort of bit-vectors with a width from 1 to the limit
 unfoldable pub sort_in : ℕ → List ℕ → Option (Took ℕ)
@@ -51,6 +51,11 @@ function_tail n r =
 -- ---------------------------------------------------------------- lines
 
 -- variables, arrays, functions: stages 0, 1 and 2
+abbrev pub stage_number : Stage → ℕ
+stage_number Variables = 0
+stage_number Arrays = 1
+stage_number Functions = 2
+
 abbrev pub LineType : ℕ → Type 0
 LineType zero = Variable
 LineType (suc zero) = Array
@@ -94,9 +99,9 @@ pub record TailAt (k : ℕ) (s : List ℕ) (f e : ℕ) : Type 0 where
   pub read : (n : Name) → tail_of k n (drop f s) ≡ took (value n) (drop e s)
   pub name : (n : Name) → name_in k (value n) ≡ n
 
-abbrev pub TailTo : ℕ → List ℕ → ℕ → Step → Type 0
-TailTo k s f No = (n : Name) → tail_of k n (drop f s) ≡ none
-TailTo k s f (To e) = TailAt k s f e
+abbrev pub TailTo : ℕ → List ℕ → ℕ → Maybe ℕ → Type 0
+TailTo k s f None = (n : Name) → tail_of k n (drop f s) ≡ none
+TailTo k s f (Some e) = TailAt k s f e
 
 -- a line from place `at` on: its name from place a up to and with its bar before place f, and the place e after it
 pub record LineAt (k : ℕ) (s : List ℕ) (at a f e : ℕ) : Type 0 where
@@ -110,9 +115,9 @@ pub record LineAt (k : ℕ) (s : List ℕ) (at a f e : ℕ) : Type 0 where
   pub read : line_of k (drop at s) ≡ took value (drop e s)
   pub name : name_in k value ≡ between s a (f - 1)
 
-abbrev pub LineTo : ℕ → List ℕ → ℕ → Line → Type 0
-LineTo k s at NoLine = line_of k (drop at s) ≡ none
-LineTo k s at (Is a f e) = LineAt k s at a f e
+abbrev pub LineTo : ℕ → List ℕ → ℕ → Maybe Line → Type 0
+LineTo k s at None = line_of k (drop at s) ≡ none
+LineTo k s at (Some l) = LineAt k s at l.name l.name_end l.end
 
 -- the first names
 unfoldable pub names_to : List ℕ → ℕ → List Name
@@ -120,7 +125,7 @@ names_to b zero = []
 names_to b (suc c) = names_to b c ++ (name_at b c ∷ [])
 
 -- `count` lines from place `first` on are in the table, and place `at` is after them
-pub record Ready (s : List ℕ) (first : ℕ) (t : List ℕ) (count at : ℕ) : Type 0 where
+pub record Ready (s : List ℕ) (first : ℕ) (t : Table) (count at : ℕ) : Type 0 where
   pub begin : first ≤ length s
   pub place : at ≤ length s
   pub few : count ≤ at
@@ -128,13 +133,13 @@ pub record Ready (s : List ℕ) (first : ℕ) (t : List ℕ) (count at : ℕ) : 
   pub here : entry_from count (drop first s) ≡ after_bar (drop at s)
 
 -- what was read of one stage: lines xs, up to place e
-pub record StageAt (k : ℕ) (s : List ℕ) (first count at : ℕ) (t : List ℕ) (c e : ℕ) : Type 0 where
+pub record StageAt (k : ℕ) (s : List ℕ) (first count at : ℕ) (t : Table) (c e : ℕ) : Type 0 where
   pub lines : List (LineType k)
   pub read : (f : ℕ) → length (drop at s) < f → checked k f (names_to (drop first s) count) (drop at s) ≡ took lines (drop e s)
   pub counted : c ≡ count + length lines
   pub names : names_to (drop first s) c ≡ names_to (drop first s) count ++ map (name_in k) lines
   pub ready : Ready s first t c e
 
-abbrev pub StageTo : ℕ → List ℕ → ℕ → ℕ → ℕ → List ℕ → Lines → Type 0
-StageTo k s first count at t NoLines = (f : ℕ) → length (drop at s) < f → checked k f (names_to (drop first s) count) (drop at s) ≡ none
-StageTo k s first count at t (LinesTo c e) = StageAt k s first count at t c e
+abbrev pub StageTo : ℕ → List ℕ → ℕ → ℕ → ℕ → Table → Maybe Lines → Type 0
+StageTo k s first count at t None = (f : ℕ) → length (drop at s) < f → checked k f (names_to (drop first s) count) (drop at s) ≡ none
+StageTo k s first count at t (Some l) = StageAt k s first count at t l.names l.end

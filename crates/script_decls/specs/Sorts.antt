@@ -1,8 +1,8 @@
 -- Laws of a sort as it is read step by step.
-use Prim.Native.Nat.{ℕ, zero, suc, ◌+◌, ◌-◌, ◌≤◌, ◌<◌}
-use Rattle.std.specs.Prelude.{◌≡◌, List, [], ◌∷◌, ◌++◌, Bool, true, false, ◌&&◌, not, T, eqb, ltb, leb, length, drop}
+use Prim.Native.Nat.{ℕ, zero, suc, ◌≤◌, ◌<◌}
+use Rattle.std.specs.Prelude.{◌≡◌, List, [], ◌∷◌, ◌++◌, Bool, true, false, ◌&&◌, not, T, eqb, ltb, leb, drop}
 use Rattle.std.proofs.Math.Path.{refl}
-use Rattle.std.proofs.Common.{ap, sym, ◌∙◌, subst, append_assoc, eqb→eq, le→leb, lt→ltb, T_not}
+use Rattle.std.proofs.Common.{ap, sym, ◌∙◌, subst, eqb→eq, le→leb, lt→ltb, T_not}
 use Rattle.std.proofs.Math.Bool.{cond}
 use Rattle.std.proofs.Math.Option.{Option, none, some}
 use native.Mathlib.Omega.{arith}
@@ -16,27 +16,9 @@ use Rattle.theorems.specs.Texts.{decimal-numeral}
 use Rattle.readback.specs.Reader.{Took, took, and_then, expect, up_to, read_numeral}
 use Rattle.readback.specs.ScriptReader.{read_sort}
 use Rattle.reader_laws.specs.TermsStrict.{impossible, and-then, took-both, expected, numeral-strict}
-use Rattle.script_tokens.specs.Reached.{Reached, Numbered, numeral64, ends_name}
-use Rattle.script_tokens.specs.declared.Step.{Step}
-use Rattle.script_tokens.specs.declared.Step.TheVariants.{No, To}
-use Rattle.script_tokens.specs.declared.Number.{Number}
-use Rattle.script_tokens.specs.declared.Number.TheVariants.{No as NoNumber, Is}
+use Rattle.script_tokens.specs.Reached.{numeral64, ends_name}
 use Rattle.script_names.specs.Entries.{after_bar}
 use Rattle.script_decls.specs.Lines.{sort_in}
-
--- ---------------------------------------------------------------- what an enum answered
-
-pub reached-none : (s : List ℕ) (o : Option (Took (List ℕ))) {r : Step} → Reached s o r → r ≡ No → o ≡ none
-reached-none s o h q = subst (Reached s o) q h
-
-pub reached-to : (s : List ℕ) (o : Option (Took (List ℕ))) {r : Step} {e : ℕ} → Reached s o r → r ≡ To e → (e ≤ length s) × (o ≡ took [] (drop e s))
-reached-to s o h q = subst (Reached s o) q h
-
-pub numbered-none : (s : List ℕ) (o : Option (Took ℕ)) {r : Number} → Numbered s o r → r ≡ NoNumber → o ≡ none
-numbered-none s o h q = subst (Numbered s o) q h
-
-pub numbered_is : (s : List ℕ) (o : Option (Took ℕ)) {r : Number} {k e : ℕ} → Numbered s o r → r ≡ Is k e → (e ≤ length s) × (o ≡ took k (drop e s))
-numbered_is s o h q = subst (Numbered s o) q h
 
 -- ---------------------------------------------------------------- numerals of 64 bits
 

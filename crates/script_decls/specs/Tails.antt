@@ -1,26 +1,25 @@
 -- Laws of the rest of a line after its name, a step at a time.
-use Prim.Native.Nat.{ℕ, zero, suc, ◌+◌, ◌-◌, ◌≤◌, ◌<◌}
+use Prim.Native.Nat.{ℕ, zero, suc, ◌+◌, ◌≤◌, ◌<◌}
 use Rattle.std.specs.Prelude.{◌≡◌, Bool, true, ◌&&◌, cond, T, eqb, ltb, leb, get_or}
 use Rattle.std.proofs.Math.Path.{refl, ap}
-use Rattle.std.proofs.Common.{sym, ◌∙◌, subst, eqb→eq, length-append, drop_of_length-le}
-use mathlib.Core.List.{List, [], ◌∷◌, ◌++◌, append_assoc}
+use Rattle.std.proofs.Common.{sym, ◌∙◌, eqb→eq, length-append, drop_of_length-le}
+use mathlib.Core.List.{List, [], ◌∷◌}
 use Rattle.std.proofs.Math.Bool.{false}
-use Rattle.std.proofs.Math.Option.{Option, none, some}
+use Rattle.std.specs.Prelude.{Option as Maybe, Some, None}
+use Rattle.std.proofs.Math.Option.{Option, none}
 use native.Mathlib.Omega.{arith}
 use Rattle.std.proofs.Math.ListN.{length, drop, length-drop}
 use Rattle.lists.specs.Bytes.{bytes}
-use Rattle.lists.specs.Tests.{every, T→true, true→T, no→false}
-use Rattle.reading.specs.Trees.{Name}
+use Rattle.lists.specs.Tests.{every, no→false}
 use Rattle.echo_spec.specs.Input.{largest}
 use Rattle.echo_spec.specs.Render.{decimal}
-use Rattle.readback.specs.Reader.{Took, took, and_then, expect, name_read, read_numeral}
+use Rattle.readback.specs.Reader.{Took, took, and_then, expect, read_numeral}
 use Rattle.readback.specs.ScriptReader.{read_sort, separator}
 use Rattle.reader_laws.specs.TermsStrict.{impossible, and-then, took-both, expected, numeral-strict}
 use Rattle.script_tokens.specs.Stretches.{bytes-at}
-use Rattle.script_tokens.specs.declared.Step.{Step}
-use Rattle.script_tokens.specs.declared.Step.TheVariants.{No, To}
+use Rattle.script_tokens.specs.Reached.{Reached}
 use Rattle.script_names.specs.Entries.{after_bar}
-use Rattle.script_decls.specs.Lines.{sort_in, sorts_in, variable_tail, array_tail_of, function_tail, tail_of, name_in, LineType, TailAt, TailTo}
+use Rattle.script_decls.specs.Lines.{sort_in, sorts_in, variable_tail, array_tail_of, function_tail, TailTo}
 use Rattle.script_decls.specs.Sorts.{no_bar, pass-word, pass-sort}
 
 -- ---------------------------------------------------------------- places
@@ -74,58 +73,67 @@ past-both {s} {a} {b} {c} x y = record { low = omega (arith, x.low, y.low); tail
 -- ---------------------------------------------------------------- variables
 
 module _ (s : List ℕ) (f : ℕ) where
-  pub variable-1 : expect (bytes " ") (drop f s) ≡ none → TailTo 0 s f No
+  pub variable-1 : expect (bytes " ") (drop f s) ≡ none → TailTo 0 s f None
   unfolding variable_tail and_then
   variable-1 h n = rw h
 
-  pub variable-2 : (a : ℕ) → expect (bytes " ") (drop f s) ≡ took [] (drop a s) → sort_in largest (drop a s) ≡ none → TailTo 0 s f No
+  pub variable-2 : (a : ℕ) → expect (bytes " ") (drop f s) ≡ took [] (drop a s) → sort_in largest (drop a s) ≡ none → TailTo 0 s f None
   unfolding variable_tail and_then
   variable-2 a h g n = rw (h, g)
 
-  pub variable-3 : (a w e : ℕ) → expect (bytes " ") (drop f s) ≡ took [] (drop a s) → sort_in largest (drop a s) ≡ took w (drop e s) → expect (bytes ")\n") (drop e s) ≡ none → TailTo 0 s f No
+  pub variable-3 : (a w e : ℕ) → expect (bytes " ") (drop f s) ≡ took [] (drop a s) → sort_in largest (drop a s) ≡ took w (drop e s) → expect (bytes ")\n") (drop e s) ≡ none → TailTo 0 s f None
   unfolding variable_tail and_then
   variable-3 a w e h g k n = rw (h, g, k)
 
   pub variable-whole : (a w e z : ℕ) → f ≤ length s → a ≤ length s → e ≤ length s → z ≤ length s → expect (bytes " ") (drop f s) ≡ took [] (drop a s)
-      → sort_in largest (drop a s) ≡ took w (drop e s) → expect (bytes ")\n") (drop e s) ≡ took [] (drop z s) → TailTo 0 s f (To z)
+      → sort_in largest (drop a s) ≡ took w (drop e s) → expect (bytes ")\n") (drop e s) ≡ took [] (drop z s) → TailTo 0 s f (Some z)
   unfolding variable_tail and_then bytes
   variable-whole a w e z l₁ l₂ l₃ l₄ h g k =
       let p : Past s f z = past-both (past_word (bytes " ") s [] f a tt l₁ l₂ h) (past-both (past-sort largest s w a e l₂ l₃ g) (past_word (bytes ")\n") s [] e z tt l₃ l₄ k)) in
       record { low = p.low; high = l₄; tail = p.tail; value = λ n. record { name = n; width = w }; read = λ n. rw (h, g, k); name = λ n. refl }
 
+  pub variable-last : (a w e : ℕ) (r : Maybe ℕ) → f ≤ length s → (a ≤ length s) × (expect (bytes " ") (drop f s) ≡ took [] (drop a s)) → (e ≤ length s) × (sort_in largest (drop a s) ≡ took w (drop e s))
+      → Reached s (expect (bytes ")\n") (drop e s)) r → TailTo 0 s f r
+  variable-last a w e None l h g k = variable-3 a w e h.1 g.1 k
+  variable-last a w e (Some z) l h g k = variable-whole a w e z l h.0 g.0 k.0 h.1 g.1 k.1
+
 -- ---------------------------------------------------------------- arrays
 
 module _ (s : List ℕ) (f : ℕ) where
-  pub array-1 : expect (bytes " (Array ") (drop f s) ≡ none → TailTo 1 s f No
+  pub array-1 : expect (bytes " (Array ") (drop f s) ≡ none → TailTo 1 s f None
   unfolding array_tail_of and_then
   array-1 h n = rw h
 
   module _ (a : ℕ) (h : expect (bytes " (Array ") (drop f s) ≡ took [] (drop a s)) where
-    pub array-2 : sort_in 65536 (drop a s) ≡ none → TailTo 1 s f No
+    pub array-2 : sort_in 65536 (drop a s) ≡ none → TailTo 1 s f None
     unfolding array_tail_of and_then
     array-2 g n = rw (h, g)
 
     module _ (i b : ℕ) (g : sort_in 65536 (drop a s) ≡ took i (drop b s)) where
-      pub array-3 : expect (bytes " ") (drop b s) ≡ none → TailTo 1 s f No
+      pub array-3 : expect (bytes " ") (drop b s) ≡ none → TailTo 1 s f None
       unfolding array_tail_of and_then
       array-3 k n = rw (h, g, k)
 
       module _ (c : ℕ) (k : expect (bytes " ") (drop b s) ≡ took [] (drop c s)) where
-        pub array-4 : sort_in 65536 (drop c s) ≡ none → TailTo 1 s f No
+        pub array-4 : sort_in 65536 (drop c s) ≡ none → TailTo 1 s f None
         unfolding array_tail_of and_then
         array-4 m n = rw (h, g, k, m)
 
         module _ (v d : ℕ) (m : sort_in 65536 (drop c s) ≡ took v (drop d s)) where
-          pub array-5 : expect (bytes "))\n") (drop d s) ≡ none → TailTo 1 s f No
+          pub array-5 : expect (bytes "))\n") (drop d s) ≡ none → TailTo 1 s f None
           unfolding array_tail_of and_then
           array-5 q n = rw (h, g, k, m, q)
 
-          pub array_whole : (z : ℕ) → f ≤ length s → a ≤ length s → b ≤ length s → c ≤ length s → d ≤ length s → z ≤ length s → expect (bytes "))\n") (drop d s) ≡ took [] (drop z s) → TailTo 1 s f (To z)
+          pub array_whole : (z : ℕ) → f ≤ length s → a ≤ length s → b ≤ length s → c ≤ length s → d ≤ length s → z ≤ length s → expect (bytes "))\n") (drop d s) ≡ took [] (drop z s) → TailTo 1 s f (Some z)
           unfolding array_tail_of and_then bytes
           array_whole z l₁ l₂ l₃ l₄ l₅ l₆ q =
               let p : Past s f z = past-both (past_word (bytes " (Array ") s [] f a tt l₁ l₂ h) (past-both (past-sort 65536 s i a b l₂ l₃ g)
               (past-both (past_word (bytes " ") s [] b c tt l₃ l₄ k) (past-both (past-sort 65536 s v c d l₄ l₅ m) (past_word (bytes "))\n") s [] d z tt l₅ l₆ q)))) in
               record { low = p.low; high = l₆; tail = p.tail; value = λ n. record { name = n; index = i; value = v }; read = λ n. rw (h, g, k, m, q); name = λ n. refl }
+
+          pub array-last : (r : Maybe ℕ) → f ≤ length s → a ≤ length s → b ≤ length s → c ≤ length s → d ≤ length s → Reached s (expect (bytes "))\n") (drop d s)) r → TailTo 1 s f r
+          array-last None l₁ l₂ l₃ l₄ l₅ q = array-5 q
+          array-last (Some z) l₁ l₂ l₃ l₄ l₅ q = array_whole z l₁ l₂ l₃ l₄ l₅ q.0 q.1
 
 -- ---------------------------------------------------------------- sorts of arguments
 
@@ -136,9 +144,9 @@ pub record SortsAt (first : Bool) (s : List ℕ) (p e : ℕ) : Type 0 where
   pub value : List ℕ
   pub read : (f : ℕ) → length (drop p s) < f → sorts_in f first (drop p s) ≡ took value (drop e s)
 
-abbrev pub SortsTo : Bool → List ℕ → ℕ → Step → Type 0
-SortsTo first s p No = (f : ℕ) → length (drop p s) < f → sorts_in f first (drop p s) ≡ none
-SortsTo first s p (To e) = SortsAt first s p e
+abbrev pub SortsTo : Bool → List ℕ → ℕ → Maybe ℕ → Type 0
+SortsTo first s p None = (f : ℕ) → length (drop p s) < f → sorts_in f first (drop p s) ≡ none
+SortsTo first s p (Some e) = SortsAt first s p e
 
 blank-free : T (every no_bar (bytes " "))
 unfolding bytes
@@ -146,13 +154,13 @@ blank-free = tt
 
 module _ (s : List ℕ) (p : ℕ) where
   -- past the end
-  pub sorts-end : (first : Bool) → length s ≤ p → SortsTo first s p No
+  pub sorts-end : (first : Bool) → length s ≤ p → SortsTo first s p None
   unfolding sorts_in
   sorts-end first l zero m = refl
   sorts-end first l (suc f) m = rw (drop_of_length-le s l)
 
   -- the closing bracket
-  pub sorts-close : (first : Bool) → p < length s → get_or s p 0 ≡ 41 → SortsTo first s p (To (p + 1))
+  pub sorts-close : (first : Bool) → p < length s → get_or s p 0 ≡ 41 → SortsTo first s p (Some (p + 1))
   unfolding sorts_in expect bytes
   sorts-close first l e = record {
     high = omega arith;
@@ -166,7 +174,7 @@ module _ (s : List ℕ) (p : ℕ) where
       read (suc f) m = ap (sorts_in (suc f) first) (bytes-at s p l) ∙ rw e refl
 
   -- a first sort that is none
-  pub sorts-first-none : p < length s → (get_or s p 0 ≡ 41 → ⊥) → sort_in largest (drop p s) ≡ none → SortsTo true s p No
+  pub sorts-first-none : p < length s → (get_or s p 0 ≡ 41 → ⊥) → sort_in largest (drop p s) ≡ none → SortsTo true s p None
   unfolding sorts_in separator and_then
   sorts-first-none l x g zero m = refl
   sorts-first-none l x g (suc f) m =
@@ -174,7 +182,7 @@ module _ (s : List ℕ) (p : ℕ) where
       ∙ rw (no→false (eqb (get_or s p 0) 41) (λ q. x (eqb→eq (get_or s p 0) 41 q)), sorts_in) (rw (← bytes-at s p l) (rw g))
 
   -- a first sort, and those after it
-  pub sorts-first : (w e : ℕ) → p < length s → (get_or s p 0 ≡ 41 → ⊥) → e ≤ length s → sort_in largest (drop p s) ≡ took w (drop e s) → (r : Step) → SortsTo false s e r → SortsTo true s p r
+  pub sorts-first : (w e : ℕ) → p < length s → (get_or s p 0 ≡ 41 → ⊥) → e ≤ length s → sort_in largest (drop p s) ≡ took w (drop e s) → (r : Maybe ℕ) → SortsTo false s e r → SortsTo true s p r
   unfolding sorts_in separator and_then
   sorts-first w e l x k g = by-more
     where
@@ -186,13 +194,13 @@ module _ (s : List ℕ) (p : ℕ) where
           ap (sorts_in (suc f) true) (bytes-at s p l)
           ∙ rw (no→false (eqb (get_or s p 0) 41) (λ q. x (eqb→eq (get_or s p 0) 41 q)), sorts_in) (rw (← bytes-at s p l) (rw g))
 
-      by-none : SortsTo false s e No → SortsTo true s p No
+      by-none : SortsTo false s e None → SortsTo true s p None
       by-none h zero m = refl
       by-none h (suc f) m = step f ∙ rw (h f (omega (arith, less)))
 
-      by-more : (r : Step) → SortsTo false s e r → SortsTo true s p r
-      by-more No h = by-none h
-      by-more (To z) h = record {
+      by-more : (r : Maybe ℕ) → SortsTo false s e r → SortsTo true s p r
+      by-more None h = by-none h
+      by-more (Some z) h = record {
         high = h.high;
         past = past-both (past-sort largest s w p e (omega arith) k g) h.past;
         value = w ∷ h.value;
@@ -207,7 +215,7 @@ module _ (s : List ℕ) (p : ℕ) where
   no-bracket x = no→false (eqb (get_or s p 0) 41) (λ q. x (eqb→eq (get_or s p 0) 41 q))
 
   -- no blank
-  pub sorts-no-blank : p < length s → (get_or s p 0 ≡ 41 → ⊥) → (get_or s p 0 ≡ 32 → ⊥) → SortsTo false s p No
+  pub sorts-no-blank : p < length s → (get_or s p 0 ≡ 41 → ⊥) → (get_or s p 0 ≡ 32 → ⊥) → SortsTo false s p None
   unfolding sorts_in separator and_then expect bytes
   sorts-no-blank l x y zero m = refl
   sorts-no-blank l x y (suc f) m =
@@ -230,12 +238,12 @@ module _ (s : List ℕ) (p : ℕ) where
       blank : took [] (drop (p + 1) s) ≡ expect (bytes " ") (32 ∷ drop (p + 1) s)
       blank = sym (after-blank l e) ∙ ap (expect (bytes " ")) (bytes-at s p l ∙ ap (λ (c : ℕ). c ∷ drop (p + 1) s) e)
 
-  pub sorts-more-none : p < length s → get_or s p 0 ≡ 32 → sort_in largest (drop (p + 1) s) ≡ none → SortsTo false s p No
+  pub sorts-more-none : p < length s → get_or s p 0 ≡ 32 → sort_in largest (drop (p + 1) s) ≡ none → SortsTo false s p None
   unfolding sorts_in and_then
   sorts-more-none l e g zero m = refl
   sorts-more-none l e g (suc f) m = more-step l e f ∙ rw g
 
-  pub sorts-more : (w e : ℕ) → p < length s → get_or s p 0 ≡ 32 → e ≤ length s → sort_in largest (drop (p + 1) s) ≡ took w (drop e s) → (r : Step) → SortsTo false s e r → SortsTo false s p r
+  pub sorts-more : (w e : ℕ) → p < length s → get_or s p 0 ≡ 32 → e ≤ length s → sort_in largest (drop (p + 1) s) ≡ took w (drop e s) → (r : Maybe ℕ) → SortsTo false s e r → SortsTo false s p r
   unfolding sorts_in and_then
   sorts-more w e l x k g = by-more
     where
@@ -245,13 +253,13 @@ module _ (s : List ℕ) (p : ℕ) where
       step : (f : ℕ) → sorts_in (suc f) false (drop p s) ≡ and_then (sorts_in f false (drop e s)) (λ ws z. took (w ∷ ws) z)
       step f = more-step l x f ∙ rw g refl
 
-      by-none : SortsTo false s e No → SortsTo false s p No
+      by-none : SortsTo false s e None → SortsTo false s p None
       by-none h zero m = refl
       by-none h (suc f) m = step f ∙ rw (h f (omega (arith, less)))
 
-      by-more : (r : Step) → SortsTo false s e r → SortsTo false s p r
-      by-more No h = by-none h
-      by-more (To z) h = record {
+      by-more : (r : Maybe ℕ) → SortsTo false s e r → SortsTo false s p r
+      by-more None h = by-none h
+      by-more (Some z) h = record {
         high = h.high;
         past = past-both (past_word (bytes " ") s [] p (p + 1) blank-free (omega arith) (omega arith) (after-blank l x)) (past-both (past-sort largest s w (p + 1) e (omega arith) k g) h.past);
         value = w ∷ h.value;
@@ -265,41 +273,37 @@ module _ (s : List ℕ) (p : ℕ) where
 -- ---------------------------------------------------------------- functions
 
 module _ (s : List ℕ) (f : ℕ) where
-  pub function-1 : expect (bytes " (") (drop f s) ≡ none → TailTo 2 s f No
+  pub function-1 : expect (bytes " (") (drop f s) ≡ none → TailTo 2 s f None
   unfolding function_tail and_then
   function-1 h n = rw h
 
   module _ (a : ℕ) (h : expect (bytes " (") (drop f s) ≡ took [] (drop a s)) where
-    pub function-2 : SortsTo true s a No → TailTo 2 s f No
+    pub function-2 : SortsTo true s a None → TailTo 2 s f None
     unfolding function_tail and_then
     function-2 g n = rw (h, g (suc (length (drop a s))) (omega arith))
 
-    module _ (b : ℕ) (g : SortsTo true s a (To b)) where
-      pub function-3 : expect (bytes " ") (drop b s) ≡ none → TailTo 2 s f No
+    module _ (b : ℕ) (g : SortsTo true s a (Some b)) where
+      pub function-3 : expect (bytes " ") (drop b s) ≡ none → TailTo 2 s f None
       unfolding function_tail and_then
       function-3 k n = rw (h, g.read (suc (length (drop a s))) (omega arith), k)
 
       module _ (c : ℕ) (k : expect (bytes " ") (drop b s) ≡ took [] (drop c s)) where
-        pub function-4 : sort_in largest (drop c s) ≡ none → TailTo 2 s f No
+        pub function-4 : sort_in largest (drop c s) ≡ none → TailTo 2 s f None
         unfolding function_tail and_then
         function-4 m n = rw (h, g.read (suc (length (drop a s))) (omega arith), k, m)
 
         module _ (w d : ℕ) (m : sort_in largest (drop c s) ≡ took w (drop d s)) where
-          pub function-5 : expect (bytes ")\n") (drop d s) ≡ none → TailTo 2 s f No
+          pub function-5 : expect (bytes ")\n") (drop d s) ≡ none → TailTo 2 s f None
           unfolding function_tail and_then
           function-5 q n = rw (h, g.read (suc (length (drop a s))) (omega arith), k, m, q)
 
-          pub function-whole : (z : ℕ) → f ≤ length s → a ≤ length s → c ≤ length s → d ≤ length s → z ≤ length s → expect (bytes ")\n") (drop d s) ≡ took [] (drop z s) → TailTo 2 s f (To z)
+          pub function-whole : (z : ℕ) → f ≤ length s → a ≤ length s → c ≤ length s → d ≤ length s → z ≤ length s → expect (bytes ")\n") (drop d s) ≡ took [] (drop z s) → TailTo 2 s f (Some z)
           unfolding function_tail and_then bytes
           function-whole z l₁ l₂ l₄ l₅ l₆ q =
               let p : Past s f z = past-both (past_word (bytes " (") s [] f a tt l₁ l₂ h) (past-both g.past
               (past-both (past_word (bytes " ") s [] b c tt g.high l₄ k) (past-both (past-sort largest s w c d l₄ l₅ m) (past_word (bytes ")\n") s [] d z tt l₅ l₆ q)))) in
               record { low = p.low; high = l₆; tail = p.tail; value = λ n. record { name = n; arguments = g.value; width = w }; read = λ n. rw (h, g.read (suc (length (drop a s))) (omega arith), k, m, q); name = λ n. refl }
 
--- ---------------------------------------------------------------- what an enum answered
-
-pub sorts-none : (s : List ℕ) (p : ℕ) {r : Step} → SortsTo true s p r → r ≡ No → SortsTo true s p No
-sorts-none s p h q = subst (SortsTo true s p) q h
-
-pub sorts-at : (s : List ℕ) (p : ℕ) {r : Step} {e : ℕ} → SortsTo true s p r → r ≡ To e → SortsAt true s p e
-sorts-at s p {r} {e} h q = let x : SortsTo true s p (To e) = subst (SortsTo true s p) q h in x
+          pub function-last : (r : Maybe ℕ) → f ≤ length s → a ≤ length s → c ≤ length s → d ≤ length s → Reached s (expect (bytes ")\n") (drop d s)) r → TailTo 2 s f r
+          function-last None l₁ l₂ l₄ l₅ q = function-5 q
+          function-last (Some z) l₁ l₂ l₄ l₅ q = function-whole z l₁ l₂ l₄ l₅ q.0 q.1

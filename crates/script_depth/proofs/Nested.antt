@@ -1,43 +1,17 @@
 -- Brackets counted, a byte a turn. Assumes nothing.
 use Prim.Native.Nat.{ℕ, suc, ◌+◌, ◌-◌, ◌≤◌, ◌<◌}
-use mathlib.Core.Bool.{Bool, true, false, ◌||◌, not}
+use mathlib.Core.Bool.{Bool, true, false, ◌||◌}
 use mathlib.Core.List.{List, [], ◌∷◌}
 use mathlib.Core.Path.{◌≡◌, ap, sym, ◌∙◌}
 use native.Mathlib.Numerals.{add-one}
 use native.Mathlib.Omega.{arith}
-use borrow.Author.Tests.{lt-ltb, le-ltb, ne_eqb}
+use borrow.Author.Tests.{lt-ltb, le-ltb}
 use lib.Dec.{eqb, ltb}
 use lib.ListN.{length, drop, get_or, drop_of_length-le}
 use lib.Seq.{drop-cons}
 use Rattle.script_depth.specs.Nesting.{deepest, turns, opens, deep_from}
 
 -- ---------------------------------------------------------------- one byte
-
-module _ (named : Bool) (b : ℕ) where
-  pub turn-bar : b ≡ 124 → not named ≡ turns named b
-  turn-bar e = ap (turns named) (sym e)
-
-  pub turn-other : (b ≡ 124 → ⊥) → named ≡ turns named b
-  turn-other f = let e : eqb b 124 ≡ false = ne_eqb b 124 f in sym (ap (λ (t : Bool). elim t [ true ↦ not named | false ↦ named ]) e)
-
-module _ (named : Bool) (depth b : ℕ) (n : named ≡ false) where
-  abbrev plain : Bool → Bool → ℕ
-  plain o c = elim o [ true ↦ depth + 1 | false ↦ elim c [ true ↦ depth - 1 | false ↦ depth ] ]
-
-  as_plain : opens named depth b ≡ plain (eqb b 40) (eqb b 41)
-  as_plain = ap (λ (t : Bool). opens t depth b) n
-
-  pub open-one : b ≡ 40 → depth + 1 ≡ opens named depth b
-  open-one e = sym (as_plain ∙ ap (λ (x : ℕ). plain (eqb x 40) (eqb x 41)) e)
-
-  pub close-one : (b ≡ 40 → ⊥) → b ≡ 41 → depth - 1 ≡ opens named depth b
-  close-one f e = sym (as_plain ∙ ap (λ (x : ℕ). plain (eqb x 40) (eqb x 41)) e)
-
-  pub open-same : (b ≡ 40 → ⊥) → (b ≡ 41 → ⊥) → depth ≡ opens named depth b
-  open-same f g =
-      let p = ne_eqb b 40 f in
-      let q = ne_eqb b 41 g in
-      sym (as_plain ∙ (λ i. plain (p i) (q i)))
 
 pub one_more : (named : Bool) (depth b : ℕ) → opens named depth b ≤ depth + 1
 one_more true depth b = omega arith

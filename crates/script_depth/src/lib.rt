@@ -9,47 +9,52 @@ ghost use Rattle.script_depth.specs.Nesting.{deepest, turns, opens, too_deep};
 // many as a script of a problem within the limits has at most.
 const DEEPEST: usize = 6146;
 
-// Behind a byte: does a name go on, and how many brackets are open.
-fn turned(named: bool, b: u8) -> bool
-    ensures { result ≡ turns named b }
-{
-    if b == b'|' { !named } else { named }
+// What is known behind a byte: does a name go on, and how many brackets are open.
+#[derive(Clone, Copy)]
+struct Nest {
+    named: bool,
+    depth: usize,
 }
 
-fn opened(named: bool, depth: usize, b: u8) -> usize
-    requires { depth ≤ deepest }
-    ensures { result ≡ opens named depth b }
-{
-    if named {
-        return depth;
-    }
-    if b == b'(' {
-        return depth + 1;
-    }
-    if b == b')' {
-        if depth == 0 {
-            return 0;
+impl Nest {
+    // A byte further.
+    fn after(self, b: u8) -> Nest
+        requires { self.depth ≤ deepest }
+        ensures named { result.named ≡ turns self.named b }
+        ensures depth { result.depth ≡ opens self.named self.depth b }
+    {
+        let Nest { named, depth } = self;
+        match b {
+            b'|' => Nest {
+                named: !named,
+                depth,
+            },
+            b'(' if !named => Nest {
+                named,
+                depth: depth + 1,
+            },
+            b')' if !named => Nest {
+                named,
+                depth: depth.saturating_sub(1),
+            },
+            _ => self,
         }
-        return depth - 1;
     }
-    depth
 }
 
 // Are more brackets open at once somewhere? Ruled out: brackets between the bars of a name counted; a script at the limit turned away.
 pub fn too_deep(s: &[u8]) -> bool
     ensures { result ≡ too_deep s.now }
 {
-    let mut named = false;
-    let mut depth = 0;
-    let mut i = 0;
-    while i < s.len() {
-        if depth > DEEPEST {
+    let mut nest = Nest {
+        named: false,
+        depth: 0,
+    };
+    for b in s {
+        if nest.depth > DEEPEST {
             return true;
         }
-        let b = s[i];
-        depth = opened(named, depth, b);
-        named = turned(named, b);
-        i += 1;
+        nest = nest.after(*b);
     }
-    depth > DEEPEST
+    nest.depth > DEEPEST
 }

@@ -1,5 +1,6 @@
 -- A term that ends: the constants among its operands have their nodes, its own node comes after them, and its operands wait no more.
-use Rattle.std.specs.Prelude.{ℕ, zero, suc, ◌+◌, ◌≤◌, ◌<◌, ◌≡◌, refl, Bool, true, false, take, drop, get_or}
+use Rattle.std.specs.Prelude.{ℕ, zero, suc, ◌+◌, ◌≤◌, ◌<◌, ◌≡◌, refl, false, take, drop, get_or, Some, None, ⊤}
+use Rattle.std.specs.Prelude as code
 use Rattle.std.proofs.Common.{ap, sym, ◌∙◌, arith, take_at, drop_at}
 use Rattle.std.proofs.Math.Path.{subst}
 use mathlib.Core.List.{List, [], ◌∷◌, ◌++◌, map}
@@ -12,31 +13,30 @@ use Rattle.echo_spec.specs.TreeSorts.{TreeSort}
 use Rattle.echo_spec.specs.TreeSortLaws.{Met}
 use Rattle.readback.specs.Rebuild.{Item, an_operator, with_constant, with_constants, Ref, here, pending, node_of, Put, ended, low_bits, pendings}
 use Rattle.rebuilt.specs.Constants.{Has, with-constants-grows, with-constants-has}
-use Rattle.heap_laws.specs.Heap.{within, top_in, stack_in, stack_size, pending_in, settled, Held, Stacked}
+use Rattle.heap_laws.specs.Heap.{within, stack_size, pending_in, settled, Held, Stacked}
 use Rattle.heap_laws.specs.Within.{over-grows}
 use Rattle.heap_laws.specs.Settling.{with-constants-append, node-grows}
 use Rattle.heap_laws.specs.Stacks.{stacked-same, stacked-cut}
-use Rattle.script_heap.specs.declared.Settled.{Settled}
-use Rattle.script_heap.specs.declared.Settled.TheVariants.{Over, At}
+use Rattle.heap_laws.specs.declared.Heap.{Heap}
 use Rattle.script_heap.specs.Told.{Told, AllTold}
 use Rattle.script_ends.specs.Parts.{Made}
 
 -- ---------------------------------------------------------------- what an end answers
 
 -- The nodes would be over a limit; or the term has its node, and the operands refs still wait.
-abbrev pub EndedAs : List ℕ → List ℕ → List ℕ → List ℕ → List Ref → Put → Settled → Type 0
-EndedAs script heap' nodes' bits' refs p Over = within p.items ≡ false
-EndedAs script heap' nodes' bits' refs p (At m) = (p.ref ≡ here m) × Held heap' nodes' bits' p.items × Stacked script heap' refs
+abbrev pub EndedAs : List ℕ → Heap → List Ref → Put → code.Option ℕ → Type 0
+EndedAs script heap' refs p None = within p.items ≡ false
+EndedAs script heap' refs p (Some m) = (p.ref ≡ here m) × Held heap' p.items × Stacked script heap' refs
 
 -- the nodes s are held, the operands rs of a term wait behind others, whose number is base
-pub record Ending (script heap nodes bits : List ℕ) (base : ℕ) (s : List Item) (refs rs : List Ref) : Type 0 where
-  pub held : Held heap nodes bits s
+pub record Ending (script : List ℕ) (heap : Heap) (base : ℕ) (s : List Item) (refs rs : List Ref) : Type 0 where
+  pub held : Held heap s
   pub stacked : Stacked script heap (refs ++ rs)
   pub below : length refs ≡ base
 
 -- some term is about to end
-abbrev pub Ends : List ℕ → List ℕ → List ℕ → List ℕ → ℕ → Type 0
-Ends script heap nodes bits base = (s : List Item) × (refs : List Ref) × (rs : List Ref) × Ending script heap nodes bits base s refs rs
+abbrev pub Ends : List ℕ → Heap → ℕ → Type 0
+Ends script heap base = (s : List Item) × (refs : List Ref) × (rs : List Ref) × Ending script heap base s refs rs
 
 -- ---------------------------------------------------------------- once the constants have their nodes
 
@@ -48,7 +48,7 @@ settled_here : (s : List Item) (rs : List Ref) → settled s rs ≡ map here (no
 settled_here s [] = refl
 settled_here s (r ∷ rs) = ap (λ (l : List Ref). here (node_of s r) ∷ l) (settled_here s rs)
 
-module _ {script heap nodes bits : List ℕ} {base : ℕ} {s : List Item} {refs rs : List Ref} (e : Ending script heap nodes bits base s refs rs) where
+module _ {script : List ℕ} {heap : Heap} {base : ℕ} {s : List Item} {refs rs : List Ref} (e : Ending script heap base s refs rs) where
   abbrev then : List Item
   then = with_constants (pending_in rs) s
 
@@ -58,21 +58,21 @@ module _ {script heap nodes bits : List ℕ} {base : ℕ} {s : List Item} {refs 
   keep : take base (refs ++ rs) ≡ refs
   keep = take_at refs rs base e.below
 
-  pub all-ended : (heap' nodes' bits' : List ℕ) → AllTold script heap' nodes' bits' base s (refs ++ rs) true
-      → Held heap' nodes' bits' then × Stacked script heap' (refs ++ map here (nodes_of then rs))
-  all-ended heap' nodes' bits' (h, k) =
+  pub all-ended : (heap' : Heap) → AllTold script heap' base s (refs ++ rs) (Some tt)
+      → Held heap' then × Stacked script heap' (refs ++ map here (nodes_of then rs))
+  all-ended heap' (h, k) =
       let a : with_constants (pending_in (drop base (refs ++ rs))) s ≡ then = ap (λ (l : List Ref). with_constants (pending_in l) s) cut in
       let b : take base (refs ++ rs) ++ settled (with_constants (pending_in (drop base (refs ++ rs))) s) (drop base (refs ++ rs)) ≡ refs ++ map here (nodes_of then rs) =
       (λ i. keep i ++ settled (a i) (cut i)) ∙ ap (λ (l : List Ref). refs ++ l) (settled_here then rs) in
-      (subst (λ (t : List Item). Held heap' nodes' bits' t) a h, subst (λ (l : List Ref). Stacked script heap' l) b k)
+      (subst (λ (t : List Item). Held heap' t) a h, subst (λ (l : List Ref). Stacked script heap' l) b k)
 
-  pub all-over : (heap' nodes' bits' : List ℕ) → AllTold script heap' nodes' bits' base s (refs ++ rs) false → within then ≡ false
-  all-over heap' nodes' bits' h = subst (λ (l : List Ref). within (with_constants (pending_in l) s) ≡ false) cut h
+  pub all-over : (heap' : Heap) → AllTold script heap' base s (refs ++ rs) None → within then ≡ false
+  all-over heap' h = subst (λ (l : List Ref). within (with_constants (pending_in l) s) ≡ false) cut h
 
   -- by what was answered
-  pub settle-done : (heap' nodes' bits' : List ℕ) (r : Bool) → r ≡ true → AllTold script heap' nodes' bits' base s (refs ++ rs) r
-      → Held heap' nodes' bits' then × Stacked script heap' (refs ++ map here (nodes_of then rs))
-  settle-done heap' nodes' bits' r q h = all-ended heap' nodes' bits' (subst (λ (x : Bool). AllTold script heap' nodes' bits' base s (refs ++ rs) x) q h)
+  pub settle-done : (heap' : Heap) (r : code.Option ⊤) (u : ⊤) → r ≡ Some u → AllTold script heap' base s (refs ++ rs) r
+      → Held heap' then × Stacked script heap' (refs ++ map here (nodes_of then rs))
+  settle-done heap' r u q h = all-ended heap' (subst (λ (x : code.Option ⊤). AllTold script heap' base s (refs ++ rs) x) q h)
 
   -- ---------------------------------------------------------------- the term's own node
 
@@ -81,25 +81,25 @@ module _ {script heap nodes bits : List ℕ} {base : ℕ} {s : List Item} {refs 
     unfolding ended
     ended-over h = over-grows then (then ++ (term (node_of then) ∷ [])) (grows-snoc then (term (node_of then))) h
 
-    pub settle-fails : (heap' nodes' bits' : List ℕ) (r : Bool) → r ≡ false → AllTold script heap' nodes' bits' base s (refs ++ rs) r → within (ended (pending_in rs) term s).items ≡ false
-    settle-fails heap' nodes' bits' r q h = ended-over (all-over heap' nodes' bits' (subst (λ (x : Bool). AllTold script heap' nodes' bits' base s (refs ++ rs) x) q h))
+    pub settle-fails : (heap' : Heap) (r : code.Option ⊤) → r ≡ None → AllTold script heap' base s (refs ++ rs) r → within (ended (pending_in rs) term s).items ≡ false
+    settle-fails heap' r q h = ended-over (all-over heap' (subst (λ (x : code.Option ⊤). AllTold script heap' base s (refs ++ rs) x) q h))
 
-    pub ended-told : (heap₁ heap' nodes' bits' : List ℕ) (r : Settled) → Stacked script heap₁ (refs ++ map here (nodes_of then rs))
-        → Told heap₁ heap' nodes' bits' base (then ++ (term (node_of then) ∷ [])) (length then) r → EndedAs script heap' nodes' bits' refs (ended (pending_in rs) term s) r
+    pub ended-told : (heap₁ heap' : Heap) (r : code.Option ℕ) → Stacked script heap₁ (refs ++ map here (nodes_of then rs))
+        → Told heap₁ heap' base (then ++ (term (node_of then) ∷ [])) (length then) r → EndedAs script heap' refs (ended (pending_in rs) term s) r
     unfolding ended
-    ended-told heap₁ heap' nodes' bits' Over k h = h
-    ended-told heap₁ heap' nodes' bits' (At m) k (a, b, c, d) =
+    ended-told heap₁ heap' None k h = h
+    ended-told heap₁ heap' (Some m) k (a, b, c, d) =
         let l : List Ref = map here (nodes_of then rs) in
         let z : base ≤ length (refs ++ l) = omega (arith, length-append refs l, e.below) in
         (ap here (sym a), b, subst (λ (x : List Ref). Stacked script heap' x) (take_at refs l base e.below) (stacked-cut script k base c d z))
 
 -- the operands that wait behind others
-pub behind : {script heap : List ℕ} (refs : List Ref) (ys : List ℕ) (base : ℕ) → Stacked script heap (refs ++ map here ys) → length refs ≡ base
-    → (drop base (refs ++ map here ys) ≡ map here ys) × (base ≤ top_in heap) × (top_in heap ≤ stack_size) × (top_in heap ≡ base + length ys)
+pub behind : {script : List ℕ} {heap : Heap} (refs : List Ref) (ys : List ℕ) (base : ℕ) → Stacked script heap (refs ++ map here ys) → length refs ≡ base
+    → (drop base (refs ++ map here ys) ≡ map here ys) × (base ≤ heap.top) × (heap.top ≤ stack_size) × (heap.top ≡ base + length ys)
 behind {script} {heap} refs ys base k e =
     let l = length-append refs (map here ys) in
     let m : length (map here ys) ≡ length ys = length-map ys here in
-    let t : top_in heap ≡ length (refs ++ map here ys) = k.top in
+    let t : heap.top ≡ length (refs ++ map here ys) = k.top in
     (drop_at refs (map here ys) base e, omega arith, omega (arith, k.room), omega arith)
 
 -- ---------------------------------------------------------------- operands that have their nodes
@@ -173,12 +173,12 @@ ended-append cs ds term s =
     λ i. record { items = e i ++ (term (node_of (e i)) ∷ []); ref = here (length (e i)) }
 
 -- by what an addition answered
-pub told_over : (heap heap' nodes' bits' : List ℕ) (n : ℕ) (t : List Item) (k : ℕ) (r : Settled) → r ≡ Over → Told heap heap' nodes' bits' n t k r → within t ≡ false
-told_over heap heap' nodes' bits' n t k r e h = subst (λ (x : Settled). Told heap heap' nodes' bits' n t k x) e h
+pub told_over : (heap heap' : Heap) (n : ℕ) (t : List Item) (k : ℕ) (r : code.Option ℕ) → r ≡ None → Told heap heap' n t k r → within t ≡ false
+told_over heap heap' n t k r e h = subst (λ (x : code.Option ℕ). Told heap heap' n t k x) e h
 
-pub told_at : (heap heap' nodes' bits' : List ℕ) (n : ℕ) (t : List Item) (k : ℕ) (r : Settled) (m : ℕ) → r ≡ At m → Told heap heap' nodes' bits' n t k r
-    → (m ≡ k) × Held heap' nodes' bits' t × (top_in heap' ≡ n) × (stack_in heap' ≡ stack_in heap)
-told_at heap heap' nodes' bits' n t k r m e h = subst (λ (x : Settled). Told heap heap' nodes' bits' n t k x) e h
+pub told_at : (heap heap' : Heap) (n : ℕ) (t : List Item) (k : ℕ) (r : code.Option ℕ) (m : ℕ) → r ≡ Some m → Told heap heap' n t k r
+    → (m ≡ k) × Held heap' t × (heap'.top ≡ n) × (heap'.stack ≡ heap.stack)
+told_at heap heap' n t k r m e h = subst (λ (x : code.Option ℕ). Told heap heap' n t k x) e h
 
 -- ---------------------------------------------------------------- the amount of a rotation
 
@@ -191,9 +191,9 @@ unfolding with_constants
 no-constant s = refl
 
 -- once the amount has its node
-pub amount-ending : {script heap nodes bits : List ℕ} {base : ℕ} {s : List Item} {refs rs : List Ref} → Ending script heap nodes bits base s refs rs → (heap' nodes' bits' : List ℕ) (t : List Item)
-    → Held heap' nodes' bits' t → top_in heap' ≡ top_in heap → stack_in heap' ≡ stack_in heap → Ending script heap' nodes' bits' base t refs rs
-amount-ending {script} e heap' nodes' bits' t h p q = record { held = h; stacked = stacked-same script e.stacked p q; below = e.below }
+pub amount-ending : {script : List ℕ} {heap : Heap} {base : ℕ} {s : List Item} {refs rs : List Ref} → Ending script heap base s refs rs → (heap' : Heap) (t : List Item)
+    → Held heap' t → heap'.top ≡ heap.top → heap'.stack ≡ heap.stack → Ending script heap' base t refs rs
+amount-ending {script} e heap' t h p q = record { held = h; stacked = stacked-same script e.stacked p q; below = e.below }
 
 pub rotation-over : {k i j w : ℕ} {ks : List ℕ} {ms : List (List ℕ)} {c : ℕ} (s : List Item) (m : ℕ) → OperatorEnds k i j w ks ms c → shape_of k ≡ rotation → m ≡ node_of (with_constant (low_bits w i) s) (pending (low_bits w i))
     → OperatorOver k i j m (with_constant (low_bits w i) s) ks ms c

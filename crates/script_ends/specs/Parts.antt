@@ -1,7 +1,7 @@
 -- What is known of the operands of a term that is being placed, and the record of an operator over its operands.
 use Rattle.std.specs.Prelude.{ℕ, ◌+◌, ◌-◌, ◌≤◌, ◌<◌, ◌≡◌, ◌&&◌, leb, length, get_or}
 use Rattle.std.proofs.Math.Path.{refl, ap, sym, subst}
-use Rattle.std.proofs.Common.{◌∙◌, arith, length-append}
+use Rattle.std.proofs.Common.{◌∙◌, ◌⊎◌, inl, inr, arith, length-append}
 use mathlib.Core.List.{List, [], ◌∷◌, ◌++◌, map}
 use Rattle.std.proofs.Math.Option.{Option, some}
 use Rattle.std.proofs.Math.Dec.{T, ltb, leb→le, ltb→lt}
@@ -11,11 +11,38 @@ use Rattle.lists.specs.Tests.{and_0, and-1}
 use Rattle.echo_spec.specs.Input.{Node}
 use Rattle.echo_spec.specs.TreeSorts.{TreeSort, bits, proper, width_of, rule_of, rule_for}
 use Rattle.echo_spec.specs.TreeSortLaws.{Met}
-use Rattle.blast_kernel.specs.Codes.{code_of}
+use Rattle.blast_kernel.specs.Kinds.{shape_in}
+use Rattle.blast_kernel.specs.declared.Shape as code
+use Rattle.blast_kernel.specs.declared.Shape.TheVariants as codes
 use Rattle.readback.specs.Rebuild.{fields, node_with}
 use Rattle.rebuilt.specs.Known.{have-eq}
 use Rattle.place_laws.specs.Widths.{result_width, first_width, second_width, few-operands, first-is, first-stays, second_is, second-stays}
 use Rattle.script_ends.specs.declared.Seen.{Seen}
+
+-- the shape of kind k, from that of the code
+pub shape-at : (k : ℕ) {s r : code.Shape} → shape_in s ≡ shape_of k → s ≡ r → shape_of k ≡ shape_in r
+shape-at k q e = sym q ∙ ap shape_in e
+
+-- only a rotation is one
+pub no-rotation : (k : ℕ) (s : code.Shape) → shape_in s ≡ shape_of k → (s ≡ codes.Rotation → ⊥) → shape_of k ≡ rotation → ⊥
+no-rotation k s q f e = apart s f (q ∙ e)
+  where
+    apart : (r : code.Shape) → (r ≡ codes.Rotation → ⊥) → shape_in r ≡ rotation → ⊥
+    apart codes.Var g h = cc
+    apart codes.Const g h = cc
+    apart codes.Binary g h = cc
+    apart codes.Rotation g h = g refl
+    apart codes.Extraction g h = cc
+    apart codes.Concat g h = cc
+    apart codes.Extension g h = cc
+    apart codes.Ite g h = cc
+    apart codes.Comparison g h = cc
+    apart codes.Negation g h = cc
+    apart codes.Connective g h = cc
+    apart codes.Unary g h = cc
+    apart codes.Select g h = cc
+    apart codes.Call g h = cc
+    apart codes.Unknown g h = cc
 
 -- ---------------------------------------------------------------- widths
 
@@ -98,30 +125,35 @@ module _ (k i j m n : ℕ) where
   unfolding rule_of
   unary-width e = width-at unary e
 
-  -- every other shape gives a Bool, or nothing
-  bool-width : (h : Shape) → (code_of h ≡ 2 → ⊥) → (code_of h ≡ 3 → ⊥) → (code_of h ≡ 4 → ⊥) → (code_of h ≡ 5 → ⊥) → (code_of h ≡ 6 → ⊥) → (code_of h ≡ 7 → ⊥) → (code_of h ≡ 11 → ⊥)
-      → result_width h i j m n ≡ 0
-  unfolding rule_of code_of
-  bool-width var a b c d e f g = refl
-  bool-width const a b c d e f g = refl
-  bool-width binary a b c d e f g = absurd (a refl)
-  bool-width rotation a b c d e f g = absurd (b refl)
-  bool-width extraction a b c d e f g = absurd (c refl)
-  bool-width concat a b c d e f g = absurd (d refl)
-  bool-width extension a b c d e f g = absurd (e refl)
-  bool-width ite a b c d e f g = absurd (f refl)
-  bool-width comparison a b c d e f g = refl
-  bool-width negation a b c d e f g = refl
-  bool-width connective a b c d e f g = refl
-  bool-width unary a b c d e f g = absurd (g refl)
-  bool-width Shape.select a b c d e f g = refl
-  bool-width Shape.call a b c d e f g = refl
-  bool-width unknown a b c d e f g = refl
+  -- a vector of the first operand's width
+  pub same-width : (s : code.Shape) → shape_in s ≡ shape_of k → (s ≡ codes.Binary) ⊎ ((s ≡ codes.Rotation) ⊎ (s ≡ codes.Unary)) → m ≡ result_width (shape_of k) i j m n
+  same-width s q (inl e) = binary-width (sym q ∙ ap shape_in e)
+  same-width s q (inr (inl e)) = rotation-width (sym q ∙ ap shape_in e)
+  same-width s q (inr (inr e)) = unary-width (sym q ∙ ap shape_in e)
 
-  pub other_width : (r : ℕ) → r ≡ code_of (shape_of k) → (r ≡ 2 → ⊥) → (r ≡ 3 → ⊥) → (r ≡ 4 → ⊥) → (r ≡ 5 → ⊥) → (r ≡ 6 → ⊥) → (r ≡ 7 → ⊥) → (r ≡ 11 → ⊥)
+  -- every other shape gives a Bool, or nothing
+  bool-width : (s : code.Shape) → (s ≡ codes.Binary → ⊥) → (s ≡ codes.Rotation → ⊥) → (s ≡ codes.Extraction → ⊥) → (s ≡ codes.Concat → ⊥) → (s ≡ codes.Extension → ⊥) → (s ≡ codes.Ite → ⊥) → (s ≡ codes.Unary → ⊥)
+      → result_width (shape_in s) i j m n ≡ 0
+  unfolding rule_of
+  bool-width codes.Var a b c d e f g = refl
+  bool-width codes.Const a b c d e f g = refl
+  bool-width codes.Binary a b c d e f g = absurd (a refl)
+  bool-width codes.Rotation a b c d e f g = absurd (b refl)
+  bool-width codes.Extraction a b c d e f g = absurd (c refl)
+  bool-width codes.Concat a b c d e f g = absurd (d refl)
+  bool-width codes.Extension a b c d e f g = absurd (e refl)
+  bool-width codes.Ite a b c d e f g = absurd (f refl)
+  bool-width codes.Comparison a b c d e f g = refl
+  bool-width codes.Negation a b c d e f g = refl
+  bool-width codes.Connective a b c d e f g = refl
+  bool-width codes.Unary a b c d e f g = absurd (g refl)
+  bool-width codes.Select a b c d e f g = refl
+  bool-width codes.Call a b c d e f g = refl
+  bool-width codes.Unknown a b c d e f g = refl
+
+  pub other_width : (s : code.Shape) → shape_in s ≡ shape_of k → (s ≡ codes.Binary → ⊥) → (s ≡ codes.Rotation → ⊥) → (s ≡ codes.Extraction → ⊥) → (s ≡ codes.Concat → ⊥) → (s ≡ codes.Extension → ⊥) → (s ≡ codes.Ite → ⊥) → (s ≡ codes.Unary → ⊥)
       → 0 ≡ result_width (shape_of k) i j m n
-  other_width r q a b c d e f g =
-      sym (bool-width (shape_of k) (λ x. a (q ∙ x)) (λ x. b (q ∙ x)) (λ x. c (q ∙ x)) (λ x. d (q ∙ x)) (λ x. e (q ∙ x)) (λ x. f (q ∙ x)) (λ x. g (q ∙ x)))
+  other_width s q a b c d e f g = sym (bool-width s a b c d e f g) ∙ ap (λ (h : Shape). result_width h i j m n) q
 
   -- the numbers fit
   pub extraction-fits : shape_of k ≡ extraction → T (rule_of (shape_of k) i j m n).condition → (j ≤ i) × (i < m)
@@ -173,23 +205,23 @@ no-fourth (x ∷ y ∷ z ∷ []) e = refl
 no-fourth (x ∷ y ∷ z ∷ w ∷ xs) e = absurd (omega arith)
 
 -- no other shape has anything but its operands in its record
-plain-fields : (h : Shape) (ks xs ms : List ℕ) → (h ≡ rotation → ⊥) → (h ≡ extraction → ⊥) → (h ≡ extension → ⊥) → fields h ks xs ms ≡ xs
+plain-fields : (s : code.Shape) (ks xs ms : List ℕ) → (s ≡ codes.Rotation → ⊥) → (s ≡ codes.Extraction → ⊥) → (s ≡ codes.Extension → ⊥) → fields (shape_in s) ks xs ms ≡ xs
 unfolding fields
-plain-fields var ks xs ms p q r = refl
-plain-fields const ks xs ms p q r = refl
-plain-fields binary ks xs ms p q r = refl
-plain-fields rotation ks xs ms p q r = absurd (p refl)
-plain-fields extraction ks xs ms p q r = absurd (q refl)
-plain-fields concat ks xs ms p q r = refl
-plain-fields extension ks xs ms p q r = absurd (r refl)
-plain-fields ite ks xs ms p q r = refl
-plain-fields comparison ks xs ms p q r = refl
-plain-fields negation ks xs ms p q r = refl
-plain-fields connective ks xs ms p q r = refl
-plain-fields unary ks xs ms p q r = refl
-plain-fields Shape.select ks xs ms p q r = refl
-plain-fields Shape.call ks xs ms p q r = refl
-plain-fields unknown ks xs ms p q r = refl
+plain-fields codes.Var ks xs ms p q r = refl
+plain-fields codes.Const ks xs ms p q r = refl
+plain-fields codes.Binary ks xs ms p q r = refl
+plain-fields codes.Rotation ks xs ms p q r = absurd (p refl)
+plain-fields codes.Extraction ks xs ms p q r = absurd (q refl)
+plain-fields codes.Concat ks xs ms p q r = refl
+plain-fields codes.Extension ks xs ms p q r = absurd (r refl)
+plain-fields codes.Ite ks xs ms p q r = refl
+plain-fields codes.Comparison ks xs ms p q r = refl
+plain-fields codes.Negation ks xs ms p q r = refl
+plain-fields codes.Connective ks xs ms p q r = refl
+plain-fields codes.Unary ks xs ms p q r = refl
+plain-fields codes.Select ks xs ms p q r = refl
+plain-fields codes.Call ks xs ms p q r = refl
+plain-fields codes.Unknown ks xs ms p q r = refl
 
 module _ (k i j x y z amount : ℕ) (ks xs ms : List ℕ) (m : Made k i j x y z amount ks xs ms) where
   abbrev Record : Node → Type 0
@@ -227,8 +259,8 @@ module _ (k i j x y z amount : ℕ) (ks xs ms : List ℕ) (m : Made k i j x y z 
       let b : ks ≡ i ∷ [] = sym (numerals-are extension e) ∙ ap (λ (w : ℕ). w ∷ []) (sym m.first-numeral) in
       at-shape extension (node k x i 0) e (λ t. node_with k (a t ++ b t))
 
-  pub plain-record : (shape_of k ≡ rotation → ⊥) → (shape_of k ≡ extraction → ⊥) → (shape_of k ≡ extension → ⊥) → Record (node k x y z)
-  plain-record p q r =
+  pub plain-record : (s : code.Shape) → shape_in s ≡ shape_of k → (s ≡ codes.Rotation → ⊥) → (s ≡ codes.Extraction → ⊥) → (s ≡ codes.Extension → ⊥) → Record (node k x y z)
+  plain-record s e p q r =
       let l : length xs ≤ 3 = subst (λ (n : ℕ). n ≤ 3) (sym (counted (shape_of k) refl)) (few-operands (shape_of k) (get_or ks 0 0) (get_or ks 1 0) (first_width m.operands) (second_width m.operands)) in
-      ap (node_with k) (plain-fields (shape_of k) ks xs ms p q r)
-      ∙ (λ t. record { kind = k; a = sym m.first t; b = sym m.second t; c = sym m.third t; d = no-fourth xs l t })
+      at-shape (shape_in s) (node k x y z) (sym e) (ap (node_with k) (plain-fields s ks xs ms p q r)
+      ∙ (λ t. record { kind = k; a = sym m.first t; b = sym m.second t; c = sym m.third t; d = no-fourth xs l t }))

@@ -6,50 +6,47 @@ ghost use Rattle.std.specs.Prelude.{◌≡◌, List, ◌++◌, map, ℕ, ◌+◌
 ghost use Rattle.echo_spec.specs.Shapes.{shape_of};
 ghost use Rattle.echo_spec.specs.TreeSorts.{proper, rule_of};
 ghost use Rattle.readback.specs.Rebuild.{Item, a_select, a_call, Ref, here, ended, fields, node_with};
-ghost use Rattle.heap_laws.specs.Heap.{top_in, stack_size, pending_in, pairs_back, Stacked};
+ghost use Rattle.heap_laws.specs.Heap.{stack_size, pending_in, pairs_back, Stacked};
 ghost use Rattle.lent.specs.Records.{node_of};
 ghost use Rattle.place_laws.specs.Widths.{result_width};
 ghost use Rattle.script_ends.specs.Parts.{OneMore, Made};
 ghost use Rattle.script_ends.specs.Ends.{EndedAs, Ending, Ends, OperatorOver, OperatorEnds, operator_item};
 
-use blast_kernel::{BINARY, CONCAT, EXTENSION, EXTRACTION, ITE, ROTATION, UNARY, shape};
+use blast_kernel::Shape;
+use heap_laws::Heap;
 use lent::Node;
-use script_heap::{
-    BITS, HEAP, NODES, Settled, TOP, add_call, add_operator, add_select, operand, settle_all,
-    settle_number,
-};
+use script_heap::{add_call, add_operator, add_select, operand, settle_all, settle_number};
 
 // How many operands there were, and the widths of the first two; a Bool has width 0.
-#[derive(Clone, Copy)]
+#[derive(Clone, Copy, Debug, PartialEq, Eq, Default)]
 pub struct Seen {
     pub count: u64,
     pub first: u64,
     pub second: u64,
 }
 
-// One operand more, of this width. Ruled out: the third operand's width in place of the second's; a count that stays.
-pub fn one_more(v: Seen, w: u64) -> Seen
-    requires { v.count < 65536 }
-    ensures { OneMore v w result }
-{
-    if v.count == 0 {
-        return Seen {
-            count: 1,
-            first: w,
-            second: v.second,
-        };
-    }
-    if v.count == 1 {
-        return Seen {
-            count: 2,
-            first: v.first,
-            second: w,
-        };
-    }
-    Seen {
-        count: v.count + 1,
-        first: v.first,
-        second: v.second,
+impl Seen {
+    // One operand more, of this width. Ruled out: the third operand's width in place of the second's; a count that stays.
+    pub fn one_more(self, w: u64) -> Seen
+        requires { self.count < 65536 }
+        ensures { OneMore self w result }
+    {
+        match self.count {
+            0 => Seen {
+                count: 1,
+                first: w,
+                ..self
+            },
+            1 => Seen {
+                count: 2,
+                second: w,
+                ..self
+            },
+            n => Seen {
+                count: n + 1,
+                ..self
+            },
+        }
     }
 }
 
@@ -59,15 +56,12 @@ pub fn result_width(k: u8, i: u64, j: u64, m: u64, n: u64) -> u64
     requires { T (proper (rule_of (shape_of k) i j m n).result) × T (rule_of (shape_of k) i j m n).condition }
     ensures { result ≡ result_width (shape_of k) i j m n }
 {
-    let c = shape(k);
-    match c {
-        BINARY => m,
-        ROTATION => m,
-        EXTRACTION => i - j + 1,
-        CONCAT => m + n,
-        EXTENSION => m + i,
-        ITE => n,
-        UNARY => m,
+    match Shape::from(k) {
+        Shape::Binary | Shape::Rotation | Shape::Unary => m,
+        Shape::Extraction => i - j + 1,
+        Shape::Concat => m + n,
+        Shape::Extension => m + i,
+        Shape::Ite => n,
         _ => 0,
     }
 }
@@ -76,150 +70,126 @@ pub fn result_width(k: u8, i: u64, j: u64, m: u64, n: u64) -> u64
 fn operator_record(k: u8, i: u64, j: u64, x: u64, y: u64, z: u64, amount: u64) -> Node
     ensures { (result.kind ≡ k) × ((ks xs ms : List ℕ) → Made k i j x y z amount ks xs ms → node_with k (fields (shape_of k) ks xs ms) ≡ node_of result) }
 {
-    let c = shape(k);
-    if c == ROTATION {
-        return Node {
+    match Shape::from(k) {
+        Shape::Rotation => Node {
             kind: k,
             a: x,
             b: amount,
             c: 0,
             d: 0,
-        };
-    }
-    if c == EXTRACTION {
-        return Node {
+        },
+        Shape::Extraction => Node {
             kind: k,
             a: i,
             b: j,
             c: x,
             d: 0,
-        };
-    }
-    if c == EXTENSION {
-        return Node {
+        },
+        Shape::Extension => Node {
             kind: k,
             a: x,
             b: i,
             c: 0,
             d: 0,
-        };
-    }
-    Node {
-        kind: k,
-        a: x,
-        b: y,
-        c: z,
-        d: 0,
+        },
+        _ => Node {
+            kind: k,
+            a: x,
+            b: y,
+            c: z,
+            d: 0,
+        },
     }
 }
+
 // ---------------------------------------------------------------- ends
 
 // The node of the operand at place i of those that wait, or 0 where there are not so many.
-fn operand_or_zero(heap: &[u64; HEAP], i: usize) -> u64
-    requires { top_in heap.now ≤ stack_size }
+fn operand_or_zero(heap: &Heap, i: usize) -> u64
+    requires { heap.now.top ≤ stack_size }
     ensures { (script : List ℕ) (refs : List Ref) (ys : List ℕ) (k : ℕ) → Stacked script heap.now (refs ++ map here ys) → i ≡ length refs + k → result ≡ get_or ys k 0 }
 {
-    let top = heap[TOP];
-    if (i as u64) < top {
-        return operand(heap, i);
+    if (i as u64) < heap.top {
+        operand(heap, i)
+    } else {
+        0
     }
-    0
 }
 
 // The end of an operator whose amount, if it has one, has its node.
 fn end_over(
     script: &[u8],
-    heap: &mut [u64; HEAP],
-    nodes: &mut [u8; NODES],
-    bits: &mut [u8; BITS],
+    heap: &mut Heap,
     base: usize,
     k: u8,
     i: u64,
     j: u64,
     amount: u64,
-) -> Settled
-    requires { Ends script.now heap.old nodes.old bits.old base }
-    ensures { (s : List Item) (refs rs : List Ref) (ks : List ℕ) (ms : List (List ℕ)) → Ending script.now heap.old nodes.old bits.old base s refs rs
+) -> Option<u64>
+    requires { Ends script.now heap.old base }
+    ensures { (s : List Item) (refs rs : List Ref) (ks : List ℕ) (ms : List (List ℕ)) → Ending script.now heap.old base s refs rs
         → OperatorOver k i j amount s ks ms (length rs)
-        → EndedAs script.now heap.new nodes.new bits.new refs (ended (pending_in rs) (operator_item k ks rs ms) s) result }
+        → EndedAs script.now heap.new refs (ended (pending_in rs) (operator_item k ks rs ms) s) result }
 {
-    if !settle_all(script, heap, nodes, bits, base) {
-        return Settled::Over;
-    }
+    settle_all(script, heap, base)?;
     let x = operand_or_zero(heap, base);
     let y = operand_or_zero(heap, base + 1);
     let z = operand_or_zero(heap, base + 2);
     let n = operator_record(k, i, j, x, y, z, amount);
-    add_operator(heap, nodes, base, n)
+    add_operator(heap, base, n)
 }
 
 // The end of an operator of kind k with the numerals i and j, whose operands wait from place `base` on; w is the first operand's width.
 // Ruled out: an amount as wide as its numeral needs; the constants among the operands before the amount.
 pub fn end_operator(
     script: &[u8],
-    heap: &mut [u64; HEAP],
-    nodes: &mut [u8; NODES],
-    bits: &mut [u8; BITS],
+    heap: &mut Heap,
     base: usize,
     k: u8,
     i: u64,
     j: u64,
     w: u64,
-) -> Settled
-    requires { Ends script.now heap.old nodes.old bits.old base }
-    ensures { (s : List Item) (refs rs : List Ref) (ks : List ℕ) (ms : List (List ℕ)) → Ending script.now heap.old nodes.old bits.old base s refs rs
+) -> Option<u64>
+    requires { Ends script.now heap.old base }
+    ensures { (s : List Item) (refs rs : List Ref) (ks : List ℕ) (ms : List (List ℕ)) → Ending script.now heap.old base s refs rs
         → OperatorEnds k i j w ks ms (length rs)
-        → EndedAs script.now heap.new nodes.new bits.new refs (ended (ms ++ pending_in rs) (operator_item k ks rs ms) s) result }
+        → EndedAs script.now heap.new refs (ended (ms ++ pending_in rs) (operator_item k ks rs ms) s) result }
 {
-    let c = shape(k);
-    if c == ROTATION {
-        let Settled::At(m) = settle_number(heap, nodes, bits, i, w) else {
-            return Settled::Over;
-        };
-        return end_over(script, heap, nodes, bits, base, k, i, j, m);
+    match Shape::from(k) {
+        Shape::Rotation => {
+            let m = settle_number(heap, i, w)?;
+            end_over(script, heap, base, k, i, j, m)
+        }
+        _ => end_over(script, heap, base, k, i, j, 0),
     }
-    end_over(script, heap, nodes, bits, base, k, i, j, 0)
 }
 
 // The end of a call of function g, whose arguments wait from place `base` on.
 // Ruled out: the node before those of the constants among its arguments; another function's number.
-pub fn end_call(
-    script: &[u8],
-    heap: &mut [u64; HEAP],
-    nodes: &mut [u8; NODES],
-    bits: &mut [u8; BITS],
-    base: usize,
-    g: u64,
-    width: u64,
-) -> Settled
-    requires { Ends script.now heap.old nodes.old bits.old base }
-    ensures { (s : List Item) (refs rs : List Ref) → Ending script.now heap.old nodes.old bits.old base s refs rs
-        → EndedAs script.now heap.new nodes.new bits.new refs (ended (pending_in rs) (λ node. a_call g width (map node rs)) s) result }
+pub fn end_call(script: &[u8], heap: &mut Heap, base: usize, g: u64, width: u64) -> Option<u64>
+    requires { Ends script.now heap.old base }
+    ensures { (s : List Item) (refs rs : List Ref) → Ending script.now heap.old base s refs rs
+        → EndedAs script.now heap.new refs (ended (pending_in rs) (λ node. a_call g width (map node rs)) s) result }
 {
-    if !settle_all(script, heap, nodes, bits, base) {
-        return Settled::Over;
-    }
-    add_call(heap, nodes, base, g, width)
+    settle_all(script, heap, base)?;
+    add_call(heap, base, g, width)
 }
 
 // The end of a select under stores, whose operands wait from place `base` on, the innermost store's first.
 // Ruled out: the stores in the order of the script; the first operand for the select's own index.
 pub fn end_select(
     script: &[u8],
-    heap: &mut [u64; HEAP],
-    nodes: &mut [u8; NODES],
-    bits: &mut [u8; BITS],
+    heap: &mut Heap,
     base: usize,
     stores: usize,
     array: u64,
-) -> Settled
-    requires { Ends script.now heap.old nodes.old bits.old base × (base + (2 * stores + 1) ≡ top_in heap.old) }
-    ensures { (s : List Item) (refs rs : List Ref) → Ending script.now heap.old nodes.old bits.old base s refs rs → length rs ≡ 2 * stores + 1
-        → EndedAs script.now heap.new nodes.new bits.new refs
+) -> Option<u64>
+    requires ends { Ends script.now heap.old base }
+    requires stores { base + (2 * stores + 1) ≡ heap.old.top }
+    ensures { (s : List Item) (refs rs : List Ref) → Ending script.now heap.old base s refs rs → length rs ≡ 2 * stores + 1
+        → EndedAs script.now heap.new refs
         (ended (pending_in rs) (λ node. a_select array (get_or (map node rs) (2 * stores) 0) (pairs_back stores (map node rs))) s) result }
 {
-    if !settle_all(script, heap, nodes, bits, base) {
-        return Settled::Over;
-    }
-    add_select(heap, nodes, base, stores, array)
+    settle_all(script, heap, base)?;
+    add_select(heap, base, stores, array)
 }

@@ -1,33 +1,36 @@
 -- What a script's declarations are known by once its header is read, and what is told of a name by them.
-use Rattle.std.specs.Prelude.{ℕ, ◌+◌, ◌-◌, ◌≤◌, ◌<◌, ◌≡◌, List, [], ◌∷◌, ◌++◌, Bool, T, length, drop, get_or}
+use Rattle.std.specs.Prelude.{ℕ, ◌+◌, ◌-◌, ◌≤◌, ◌<◌, ◌≡◌, List, [], ◌∷◌, ◌++◌, Bool, T, length, drop}
+use Rattle.std.specs.Prelude.{Option as Maybe, Some, None}
 use Rattle.std.proofs.Math.Option.{Option, none, some}
 use Rattle.reading.specs.Trees.{Name, Declarations}
 use Rattle.readback.specs.Reader.{took}
 use Rattle.readback.specs.Printable.{variable_names_in, array_names_in, function_names_in, declarable}
 use Rattle.readback.specs.Rebuild.{variable_number, array_number, function_number}
 use Rattle.rebuilt.specs.Built.{variable_at, array_at, function_at}
+use Rattle.script_header.specs.declared.Header.{Header}
+use Rattle.script_names.specs.declared.Table.{Table}
 use Rattle.script_tokens.specs.declared.Number.{Number}
-use Rattle.script_tokens.specs.declared.Number.TheVariants.{No, Is}
-use Rattle.script_names.specs.Entries.{Tabled}
+use Rattle.script_names.specs.Entries.{measure_of, Tabled}
 use Rattle.script_decls.specs.Lines.{sorts_in, names_to}
 use Rattle.script_header.specs.Header.{declared}
+use Rattle.script_entries.specs.declared.Script.{Script}
 use Rattle.script_entries.specs.declared.Entry.{Entry}
-use Rattle.script_entries.specs.declared.Entry.TheVariants.{Nothing, Variable as VariableEntry, Array as ArrayEntry, Function as FunctionEntry}
+use Rattle.script_entries.specs.declared.Entry.TheVariants.{Variable as VariableEntry, Array as ArrayEntry, Function as FunctionEntry}
 
 -- ---------------------------------------------------------------- the header's numbers
 
 -- where the declarations begin; how many variables there are; how many variables and arrays; how many names in all
-abbrev pub first_of : List ℕ → ℕ
-first_of h = get_or h 0 0
+abbrev pub first_of : Header → ℕ
+first_of h = h.first
 
-abbrev pub variables_of : List ℕ → ℕ
-variables_of h = get_or h 1 0
+abbrev pub variables_of : Header → ℕ
+variables_of h = h.variables
 
-abbrev pub arrays_of : List ℕ → ℕ
-arrays_of h = get_or h 2 0
+abbrev pub arrays_of : Header → ℕ
+arrays_of h = h.arrays
 
-abbrev pub names_of : List ℕ → ℕ
-names_of h = get_or h 3 0
+abbrev pub names_of : Header → ℕ
+names_of h = h.names
 
 -- ---------------------------------------------------------------- sorts of arguments
 
@@ -41,26 +44,24 @@ pub record ArgumentsAt (s : List ℕ) (p : ℕ) (ws : List ℕ) : Type 0 where
   pub read : (f : ℕ) → length s < f → sorts_in f first (drop p s) ≡ took ws (drop end s)
 
 -- the next of the sorts that stand at place p, or that there is none
-abbrev pub NextArgument : List ℕ → ℕ → List ℕ → Number → Type 0
-NextArgument s p [] No = Unit
-NextArgument s p [] (Is v e) = ⊥
-NextArgument s p (w ∷ ws) No = ⊥
-NextArgument s p (w ∷ ws) (Is v e) = (p < e) × (e ≤ length s) × (v ≡ w) × ArgumentsAt s e ws
+abbrev pub NextArgument : List ℕ → ℕ → List ℕ → Maybe Number → Type 0
+NextArgument s p [] None = Unit
+NextArgument s p [] (Some n) = ⊥
+NextArgument s p (w ∷ ws) None = ⊥
+NextArgument s p (w ∷ ws) (Some n) = (p < n.end) × (n.end ≤ length s) × (n.value ≡ w) × ArgumentsAt s n.end ws
 
 -- ---------------------------------------------------------------- what is known
 
 -- What line k declares, by two numbers x and y: a variable's width is x; an array's index width is x and its value width y; the sorts of a
 -- function's arguments begin at place x, and y is its width.
-pub record Measured (s h : List ℕ) (D : Declarations) (k x y : ℕ) : Type 0 where
+pub record Measured (s : List ℕ) (h : Header) (D : Declarations) (k x y : ℕ) : Type 0 where
   pub variable : k < variables_of h → (variable_at D k).width ≡ x
   pub array : variables_of h ≤ k → k < arrays_of h → ((array_at D (k - variables_of h)).index ≡ x) × ((array_at D (k - variables_of h)).value ≡ y)
   pub function : arrays_of h ≤ k → ArgumentsAt s x (function_at D (k - arrays_of h)).arguments × ((function_at D (k - arrays_of h)).width ≡ y)
 
 -- The script s declares D: the lines of D stand from the header's first place on, the numbers h count them and the table t has their names.
--- Where there are at most 1,536 lines, the table has what the first m of them declare: the first number of line k at place 7,168 + k, the second
--- 1,536 places on.
-pub record KnownTo (m : ℕ) (s t h : List ℕ) (D : Declarations) : Type 0 where
-  pub long : length h ≡ 4
+-- Where there are at most 1,536 lines, the table has what the first m of them declare.
+pub record KnownTo (m : ℕ) (s : List ℕ) (t : Table) (h : Header) (D : Declarations) : Type 0 where
   pub begin : first_of h ≤ length s
   pub end : ℕ
   pub inside : end ≤ length s
@@ -71,15 +72,19 @@ pub record KnownTo (m : ℕ) (s t h : List ℕ) (D : Declarations) : Type 0 wher
   pub names : names_to (drop (first_of h) s) (names_of h) ≡ (variable_names_in D ++ array_names_in D) ++ function_names_in D
   pub tabled : Tabled s (first_of h) t (names_of h)
   pub declarable : T (declarable D)
-  pub measured : names_of h ≤ 1536 → (k : ℕ) → k < m → Measured s h D k (get_or t (7168 + k) 0) (get_or t (8704 + k) 0)
+  pub measured : names_of h ≤ 1536 → (k : ℕ) → k < m → Measured s h D k (measure_of t k).first (measure_of t k).second
 
 -- once the header is read
-abbrev pub Entered : List ℕ → List ℕ → List ℕ → Declarations → Type 0
+abbrev pub Entered : List ℕ → Table → Header → Declarations → Type 0
 Entered s t h D = KnownTo 0 s t h D
 
 -- once the table has what every line declares
-abbrev pub Known : List ℕ → List ℕ → List ℕ → Declarations → Type 0
+abbrev pub Known : List ℕ → Table → Header → Declarations → Type 0
 Known s t h D = KnownTo (names_of h) s t h D
+
+-- the script declares D
+abbrev pub Declares : Script → Declarations → Type 0
+Declares x D = Known x.text.now x.table.now x.header D
 
 -- ---------------------------------------------------------------- what a name is
 
@@ -107,15 +112,14 @@ pub record FunctionIs (s : List ℕ) (D : Declarations) (n : Name) (g p w : ℕ)
   pub arguments : ArgumentsAt s p (function_at D g).arguments
   pub width : (function_at D g).width ≡ w
 
-abbrev pub EntryIs : List ℕ → Declarations → Name → Entry → Type 0
-EntryIs s D n Nothing = Numbers D n none none none
-EntryIs s D n (VariableEntry k w) = VariableIs D n k w
-EntryIs s D n (ArrayEntry k i v) = ArrayIs D n k i v
-EntryIs s D n (FunctionEntry g p w) = FunctionIs s D n g p w
+abbrev pub EntryIs : List ℕ → Declarations → Name → Maybe Entry → Type 0
+EntryIs s D n None = Numbers D n none none none
+EntryIs s D n (Some (VariableEntry k w)) = VariableIs D n k w
+EntryIs s D n (Some (ArrayEntry k x)) = ArrayIs D n k x.index x.value
+EntryIs s D n (Some (FunctionEntry g x)) = FunctionIs s D n g x.arguments x.width
 
 -- what line k declares, its name left aside
-abbrev pub EntryOf : List ℕ → List ℕ → Declarations → ℕ → Entry → Type 0
-EntryOf s h D k Nothing = ⊥
+abbrev pub EntryOf : List ℕ → Header → Declarations → ℕ → Entry → Type 0
 EntryOf s h D k (VariableEntry i w) = (k < variables_of h) × (i ≡ k) × ((variable_at D i).width ≡ w)
-EntryOf s h D k (ArrayEntry i x v) = (variables_of h ≤ k) × (k < arrays_of h) × (i ≡ k - variables_of h) × ((array_at D i).index ≡ x) × ((array_at D i).value ≡ v)
-EntryOf s h D k (FunctionEntry g p w) = (arrays_of h ≤ k) × (g ≡ k - arrays_of h) × ArgumentsAt s p (function_at D g).arguments × ((function_at D g).width ≡ w)
+EntryOf s h D k (ArrayEntry i x) = (variables_of h ≤ k) × (k < arrays_of h) × (i ≡ k - variables_of h) × ((array_at D i).index ≡ x.index) × ((array_at D i).value ≡ x.value)
+EntryOf s h D k (FunctionEntry g x) = (arrays_of h ≤ k) × (g ≡ k - arrays_of h) × ArgumentsAt s x.arguments (function_at D g).arguments × ((function_at D g).width ≡ x.width)

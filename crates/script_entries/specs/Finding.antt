@@ -17,6 +17,8 @@ use Rattle.readback.specs.Printable.{variable_names_in, array_names_in, function
 use Rattle.readback.specs.Rebuild.{variable_number, array_number, function_number}
 use Rattle.rebuilt.specs.Built.{no-variable, no-array, no-function, variable_at, array_at, function_at}
 use Rattle.rebuilt.specs.NameTables.{tables-distinct}
+use Rattle.script_header.specs.declared.Header.{Header}
+use Rattle.script_names.specs.declared.Table.{Table}
 use Rattle.script_names.specs.Entries.{name_at}
 use Rattle.script_decls.specs.Lines.{names_to}
 use Rattle.script_entries.specs.Entries.{first_of, variables_of, arrays_of, names_of, KnownTo, Numbers}
@@ -68,7 +70,7 @@ names_at b (suc c) j l = by_place (eqb j c) refl (λ m. names_at b c j m)
 
 -- ---------------------------------------------------------------- the lines of the header
 
-module _ {m : ℕ} {s t h : List ℕ} {D : Declarations} (κ : KnownTo m s t h D) where
+module _ {m : ℕ} {s : List ℕ} {t : Table} {h : Header} {D : Declarations} (κ : KnownTo m s t h D) where
   abbrev b : List ℕ
   b = drop (first_of h) s
 

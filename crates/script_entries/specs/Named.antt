@@ -1,6 +1,6 @@
 -- What is known of declarations, for those who ask by name.
 use Rattle.std.specs.Prelude.{ℕ, suc, ◌+◌, ◌≡◌, refl, List, [], ◌∷◌, Bool, true, false, ◌&&◌, T, get_or}
-use Rattle.std.proofs.Common.{ap, sym, ◌∙◌, subst, arith}
+use Rattle.std.proofs.Common.{ap, ◌∙◌, arith}
 use Rattle.std.proofs.Math.Option.{none, some}
 use Rattle.lists.specs.Tests.{same, every, and_0, and-1}
 use Rattle.lists.specs.Build.{find_from, find}
@@ -12,17 +12,18 @@ use Rattle.readback.specs.Rebuild.{variable_number, array_number, function_numbe
 use Rattle.rebuilt.specs.Built.{no-variable, no-array, no-function, variable_at, array_at, function_at}
 use Rattle.rebuilt.specs.Known as rebuilt
 use Rattle.rebuilt.specs.Known.{Declared}
+use Rattle.script_header.specs.declared.Header.{Header}
+use Rattle.script_names.specs.declared.Table.{Table}
 use Rattle.script_header.specs.Header.{HeaderAt}
 use Rattle.script_entries.specs.Entries.{Entered, Known}
 
 -- ---------------------------------------------------------------- the header
 
--- the numbers of a header that was read, put into an array
-pub known-header : {s t h : List ℕ} {at first v w c e : ℕ} (x : HeaderAt s at t first v w c e) → h ≡ first ∷ v ∷ w ∷ c ∷ [] → T (declarable x.value) → Entered s t h x.value
-known-header {s} {t} {h} {at} {first} {v} {w} {c} {e} x q d = subst (λ (l : List ℕ). Entered s t l x.value) (sym q) (record {
-  long = refl;
+-- the numbers of a header that was read
+pub known-header : {s : List ℕ} {t : Table} {h : Header} {at : ℕ} (x : HeaderAt s at t h.first h.variables h.arrays h.names h.end) → T (declarable x.value) → Entered s t h x.value
+known-header {h = h} x d = record {
   begin = x.begin;
-  end = e;
+  end = h.end;
   inside = x.place;
   read = x.lines;
   variables = x.variables;
@@ -32,10 +33,10 @@ known-header {s} {t} {h} {at} {first} {v} {w} {c} {e} x q d = subst (λ (l : Lis
   tabled = x.tabled;
   declarable = d;
   measured = λ few k l. absurd (omega arith);
-})
+}
 
 -- the widths are proper
-pub known-declared : {s t h : List ℕ} {D : Declarations} → Known s t h D → Declared D
+pub known-declared : {s : List ℕ} {t : Table} {h : Header} {D : Declarations} → Known s t h D → Declared D
 unfolding declarable
 known-declared {s} {t} {h} {D} κ =
     let p : Bool = names_permitted (variable_names_in D) (array_names_in D) (function_names_in D) in

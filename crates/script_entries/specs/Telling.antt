@@ -1,37 +1,28 @@
 -- What is read at a line's place is told of the entry that the line declares.
-use Rattle.std.specs.Prelude.{ℕ, suc, ◌+◌, ◌-◌, ◌≤◌, ◌<◌, ◌≡◌, refl, List, [], ◌∷◌, ◌++◌, true, length, drop}
+use Rattle.std.specs.Prelude.{ℕ, suc, ◌+◌, ◌-◌, ◌≤◌, ◌<◌, ◌≡◌, List, [], ◌∷◌, ◌++◌, true, length, drop}
+use Rattle.std.specs.Prelude.{Option as Maybe, Some, None, unwrap_or}
 use Rattle.std.proofs.Common.{ap, sym, ◌∙◌, subst, append_assoc, arith, length-append, length-drop, drop-drop}
 use Rattle.std.proofs.Math.Option.{none, some}
 use Rattle.std.proofs.Math.Seq.{drop-append_seam}
 use Rattle.lists.specs.Tests.{same, same→eq, true→T}
 use Rattle.reading.specs.Trees.{Name, Variable, Array, Function, Declarations}
 use Rattle.readback.specs.Reader.{took, name_read}
-use Rattle.reader_laws.specs.TermsStrict.{impossible}
 use Rattle.rebuilt.specs.Built.{variable_at, array_at, function_at}
+use Rattle.script_header.specs.declared.Header.{Header}
+use Rattle.script_names.specs.declared.Table.{Table}
 use Rattle.script_tokens.specs.Reached.{between, NameTo}
-use Rattle.script_tokens.specs.declared.Step.{Step}
-use Rattle.script_tokens.specs.declared.Step.TheVariants.{No, To}
 use Rattle.script_names.specs.Entries.{after_bar, entry_from, name_here, name_at, Named, Tabled, Sought}
-use Rattle.script_names.specs.Laws.{after-name, taken, between-length}
-use Rattle.script_names.specs.declared.Found.{Found}
-use Rattle.script_names.specs.declared.Found.TheVariants.{Nothing as NoLine, At}
+use Rattle.script_names.specs.Laws.{after-place, taken, between-length}
 use Rattle.script_decls.specs.Lines.{variable_tail, array_tail_of, function_tail}
 use Rattle.script_entries.specs.declared.Entry.{Entry}
-use Rattle.script_entries.specs.declared.Entry.TheVariants.{Nothing, Variable as VariableEntry, Array as ArrayEntry, Function as FunctionEntry}
+use Rattle.script_entries.specs.declared.Entry.TheVariants.{Variable as VariableEntry, Array as ArrayEntry, Function as FunctionEntry}
 use Rattle.script_entries.specs.Entries.{first_of, variables_of, arrays_of, names_of, Measured, KnownTo, ArgumentsAt, Numbers, EntryIs, EntryOf}
 use Rattle.script_entries.specs.Lined.{DeclaredLines, declared-lines}
 use Rattle.script_entries.specs.Finding.{no-numbers, variable-numbers, array-numbers, function-numbers}
 
-pub sought-at : (s : List ℕ) (first c : ℕ) (n : Name) {r : Found} {k p : ℕ} → Sought s first c n r → r ≡ At k p
-    → (k < c) × (p ≤ length s) × (drop p s ≡ entry_from k (drop first s)) × (same n (name_at (drop first s) k) ≡ true)
-sought-at s first c n h q = subst (Sought s first c n) q h
-
 -- ---------------------------------------------------------------- the place after a name
 
-module _ {s : List ℕ} {first : ℕ} {t : List ℕ} {c : ℕ} (x : Tabled s first t c) (k p : ℕ) (low : k < c) (here : drop p s ≡ entry_from k (drop first s)) where
-  pub line-closed : {P : Type 0} {r : Step} → NameTo s p (name_read (drop p s)) r → r ≡ No → P
-  line-closed h q = absurd (impossible (sym (subst (NameTo s p (name_read (drop p s))) q h) ∙ ap name_read here ∙ (x.closed k low).read))
-
+module _ {s : List ℕ} {first : ℕ} {t : Table} {c : ℕ} (x : Tabled s first t c) (k p : ℕ) (low : k < c) (here : drop p s ≡ entry_from k (drop first s)) where
   -- a name that is found is as long as the one that was looked for
   pub found_after : (a f : ℕ) → Named s a f → p ≤ length s → same (between s a (f - 1)) (name_at (drop first s) k) ≡ true
       → (p + (f - a) ≤ length s) × (drop (p + (f - a)) s ≡ after_bar (entry_from k (drop first s)))
@@ -47,12 +38,12 @@ module _ {s : List ℕ} {first : ℕ} {t : List ℕ} {c : ℕ} (x : Tabled s fir
         sym (drop-drop (f - a) p s) ∙ ap (drop (f - a)) w ∙ ap (λ (i : ℕ). drop i ((name_here b ++ (124 ∷ [])) ++ r)) (sym l) ∙ drop-append_seam (name_here b ++ (124 ∷ [])) r ∙ sym t.after,
       )
 
-  pub line_after : {r : Step} {e : ℕ} → NameTo s p (name_read (drop p s)) r → r ≡ To e → (e ≤ length s) × (drop e s ≡ after_bar (entry_from k (drop first s)))
-  line_after h q = let y = after-name s p h q in (y.0, y.1 ∙ ap after_bar here)
+  pub line_after : (r : Maybe ℕ) → NameTo s p (name_read (drop p s)) r → (unwrap_or r (length s) ≤ length s) × (drop (unwrap_or r (length s)) s ≡ after_bar (entry_from k (drop first s)))
+  line_after r h = let y = after-place s p r h in (y.0, y.1 ∙ ap after_bar here)
 
 -- ---------------------------------------------------------------- the entry of a line
 
-module _ {m : ℕ} {s t h : List ℕ} {D : Declarations} (κ : KnownTo m s t h D) where
+module _ {m : ℕ} {s : List ℕ} {t : Table} {h : Header} {D : Declarations} (κ : KnownTo m s t h D) where
   known-lines : DeclaredLines (drop (first_of h) s) D
   known-lines = declared-lines (suc (length s)) (drop (first_of h) s) D (drop κ.end s) (κ.read (suc (length s)) (omega arith))
 
@@ -109,24 +100,23 @@ module _ {m : ℕ} {s t h : List ℕ} {D : Declarations} (κ : KnownTo m s t h D
   -- ---------------------------------------------------------------- the entry of a name
 
   -- no line has the name
-  pub entry-none : (n : Name) {r : Found} → Sought s (first_of h) (names_of h) n r → r ≡ NoLine → EntryIs s D n Nothing
-  entry-none n x q = no-numbers κ n (subst (Sought s (first_of h) (names_of h) n) q x)
+  pub entry-none : (n : Name) → Sought s (first_of h) (names_of h) n None → EntryIs s D n None
+  entry-none n x = no-numbers κ n x
 
   -- line k has it
-  pub entry-is : (n : Name) (k : ℕ) → k < names_of h → same n (name_at (drop (first_of h) s) k) ≡ true → (r : Entry) → EntryOf s h D k r → EntryIs s D n r
-  entry-is n k l e Nothing x = absurd x
+  pub entry-is : (n : Name) (k : ℕ) → k < names_of h → same n (name_at (drop (first_of h) s) k) ≡ true → (r : Entry) → EntryOf s h D k r → EntryIs s D n (Some r)
   entry-is n k l e (VariableEntry i w) (m, q, u) = record {
     numbers = subst (λ (j : ℕ). Numbers D n (some j) none none) (sym q) (variable-numbers κ n k l e m);
     low = omega (arith, κ.variables);
     width = u;
   }
-  entry-is n k l e (ArrayEntry i x v) (o, m, q, u₁, u₂) = record {
+  entry-is n k l e (ArrayEntry i x) (o, m, q, u₁, u₂) = record {
     numbers = subst (λ (j : ℕ). Numbers D n none (some j) none) (sym q) (array-numbers κ n k l e o m);
     low = omega (arith, κ.arrays);
     index = u₁;
     value = u₂;
   }
-  entry-is n k l e (FunctionEntry g p w) (o, q, u₁, u₂) = record {
+  entry-is n k l e (FunctionEntry g x) (o, q, u₁, u₂) = record {
     numbers = subst (λ (j : ℕ). Numbers D n none none (some j)) (sym q) (function-numbers κ n k l e o);
     low = omega (arith, κ.functions);
     arguments = u₁;

@@ -1,5 +1,6 @@
 -- Laws of the rest of a line after its name, a step at a time: what is read of it belongs to the entry.
 use Rattle.std.specs.Prelude.{ℕ, suc, ◌+◌, ◌≤◌, ◌<◌, ◌≡◌, Bool, true, false, eqb, length, get_or}
+use Rattle.std.specs.Prelude.{Option as Maybe, Some, None}
 use Rattle.std.proofs.Math.Path.{refl, ap, sym, subst}
 use Rattle.std.proofs.Common.{◌∙◌, arith, eqb→eq, length-drop}
 use mathlib.Core.List.{List, [], ◌∷◌}
@@ -14,15 +15,13 @@ use Rattle.readback.specs.ScriptReader.{read_sort, separator}
 use Rattle.reader_laws.specs.TermsStrict.{impossible, and-then, took-both}
 use Rattle.script_tokens.specs.Reached.{Numbered}
 use Rattle.script_tokens.specs.Stretches.{bytes-at}
-use Rattle.script_tokens.specs.declared.Step.TheVariants.{No}
 use Rattle.script_tokens.specs.declared.Number.{Number}
-use Rattle.script_tokens.specs.declared.Number.TheVariants.{No as NoNumber, Is}
 use Rattle.script_decls.specs.Lines.{LineType, sort_in, sorts_in, variable_tail, array_tail_of, function_tail, tail_of, TailTo}
 use Rattle.script_decls.specs.Tails.{SortsAt, sort-less}
 use Rattle.script_entries.specs.Entries.{ArgumentsAt, NextArgument}
 
 -- a line that is there is not refused
-pub no-tail : (k : ℕ) (s : List ℕ) (f : ℕ) {P : Type 0} → TailTo k s f No → (n : Name) (x : LineType k) (z : List ℕ) → tail_of k n (drop f s) ≡ took x z → P
+pub no-tail : (k : ℕ) (s : List ℕ) (f : ℕ) {P : Type 0} → TailTo k s f None → (n : Name) (x : LineType k) (z : List ℕ) → tail_of k n (drop f s) ≡ took x z → P
 no-tail k s f h n x z e = absurd (impossible (sym (h n) ∙ e))
 
 -- ---------------------------------------------------------------- widths
@@ -87,29 +86,29 @@ one_list e end s v ws h =
         e₁ ∙ (λ a. took (n a) (j a))
 
 next-is : (s : List ℕ) (p q : ℕ) → p ≤ q → q ≤ length s → (ws : List ℕ) (end : ℕ) → end ≤ length s → ((f : ℕ) → length s < f → onward f s q ≡ took ws (drop end s))
-    → (r : Number) → Numbered s (sort_in largest (drop q s)) r → NextArgument s p ws r
+    → (r : Maybe Number) → Numbered s (sort_in largest (drop q s)) r → NextArgument s p ws r
 unfolding and_then
-next-is s p q l m ws end n h NoNumber e = absurd (impossible (sym (ap (λ (o : Option (Took ℕ)). and_then o (λ w r. and_then (sorts_in (suc (length s)) false r) (λ ws z. took (w ∷ ws) z))) e) ∙ h (suc (length s)) (omega arith)))
-next-is s p q l m ws end n h (Is v z) (o, e) =
-    let (us, i, j) = one_list z end s v ws (λ f k. sym (ap (λ (o : Option (Took ℕ)). and_then o (λ w r. and_then (sorts_in f false r) (λ ws z. took (w ∷ ws) z))) e) ∙ h f k) in
-    let less = sort-less largest (drop q s) v (drop z s) e in
+next-is s p q l m ws end n h None e = absurd (impossible (sym (ap (λ (o : Option (Took ℕ)). and_then o (λ w r. and_then (sorts_in (suc (length s)) false r) (λ ws z. took (w ∷ ws) z))) e) ∙ h (suc (length s)) (omega arith)))
+next-is s p q l m ws end n h (Some r) (o, e) =
+    let (us, i, j) = one_list r.end end s r.value ws (λ f k. sym (ap (λ (o : Option (Took ℕ)). and_then o (λ w y. and_then (sorts_in f false y) (λ ws z. took (w ∷ ws) z))) e) ∙ h f k) in
+    let less = sort-less largest (drop q s) r.value (drop r.end s) e in
     let d₁ = length-drop q s in
-    let d₂ = length-drop z s in
-    subst (λ (xs : List ℕ). NextArgument s p xs (Is v z)) (sym i) (omega arith, o, refl, record { begin = o; first = false; end = end; inside = n; read = j })
+    let d₂ = length-drop r.end s in
+    subst (λ (xs : List ℕ). NextArgument s p xs (Some r)) (sym i) (omega arith, o, refl, record { begin = o; first = false; end = end; inside = n; read = j })
 
 module _ (s : List ℕ) (p : ℕ) (ws : List ℕ) (x : ArgumentsAt s p ws) where
   -- the sorts have a bracket after them
-  pub next-end : length s ≤ p → NextArgument s p ws NoNumber
+  pub next-end : length s ≤ p → NextArgument s p ws None
   unfolding sorts_in
   next-end l =
       let z : drop p s ≡ [] = drop_of_length-le s {i = p} l in
       absurd (impossible (sym (ap (sorts_in (suc (length s)) x.first) z) ∙ x.read (suc (length s)) (omega arith)))
 
-  pub next-close : p < length s → get_or s p 0 ≡ 41 → NextArgument s p ws NoNumber
+  pub next-close : p < length s → get_or s p 0 ≡ 41 → NextArgument s p ws None
   unfolding sorts_in
   next-close l e =
       let g : took [] (drop (p + 1) s) ≡ took ws (drop x.end s) = sym (ap (sorts_in (suc (length s)) x.first) (bytes-at s p l ∙ ap (λ (c : ℕ). c ∷ drop (p + 1) s) e)) ∙ x.read (suc (length s)) (omega arith) in
-      subst (λ (us : List ℕ). NextArgument s p us NoNumber) (took-both {A = List ℕ} [] ws (drop (p + 1) s) (drop x.end s) g).0 tt
+      subst (λ (us : List ℕ). NextArgument s p us None) (took-both {A = List ℕ} [] ws (drop (p + 1) s) (drop x.end s) g).0 tt
 
   -- another byte: what is read goes through the separator
   separated : p < length s → (get_or s p 0 ≡ 41 → ⊥) → (f : ℕ) → sorts_in (suc f) x.first (drop p s)
@@ -124,7 +123,7 @@ module _ (s : List ℕ) (p : ℕ) (ws : List ℕ) (x : ArgumentsAt s p ws) where
   unfolding sort_in read_sort and_then expect bytes
   no-sort l e = ap (sort_in largest) (bytes-at s p l ∙ ap (λ (c : ℕ). c ∷ drop (p + 1) s) e)
 
-  pub next-blank : p < length s → get_or s p 0 ≡ 32 → (r : Number) → Numbered s (sort_in largest (drop (p + 1) s)) r → NextArgument s p ws r
+  pub next-blank : p < length s → get_or s p 0 ≡ 32 → (r : Maybe Number) → Numbered s (sort_in largest (drop (p + 1) s)) r → NextArgument s p ws r
   unfolding expect bytes and_then separator
   next-blank l e r h = next-is s p (p + 1) (omega arith) (omega arith) ws x.end x.inside (λ f m. by_first x.first refl f m) r h
     where
@@ -139,7 +138,7 @@ module _ (s : List ℕ) (p : ℕ) (ws : List ℕ) (x : ArgumentsAt s p ws) where
           let g = sym (separated l (λ i. omega arith) f) ∙ x.read (suc f) (omega arith) in
           rw (q, blank) at g
 
-  pub next-first : p < length s → (get_or s p 0 ≡ 41 → ⊥) → (get_or s p 0 ≡ 32 → ⊥) → (r : Number) → Numbered s (sort_in largest (drop p s)) r → NextArgument s p ws r
+  pub next-first : p < length s → (get_or s p 0 ≡ 41 → ⊥) → (get_or s p 0 ≡ 32 → ⊥) → (r : Maybe Number) → Numbered s (sort_in largest (drop p s)) r → NextArgument s p ws r
   unfolding expect bytes and_then separator
   next-first l n b r h = next-is s p p (omega arith) (omega arith) ws x.end x.inside (λ f m. by_first x.first refl f m) r h
     where

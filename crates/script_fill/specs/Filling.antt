@@ -4,7 +4,10 @@ use Rattle.reading.specs.Trees.{Name, Variable, Array, Function, Declarations}
 use Rattle.echo_spec.specs.Answers.{at_front, zeroed}
 use Rattle.readback.specs.Printable.{variable_names_in, array_names_in, function_names_in}
 use Rattle.readback.specs.Rebuild.{starts_counted_from, count_from, arena}
-use Rattle.script_names.specs.Entries.{name_here}
+use Rattle.script_names.specs.Entries.{name_here, place_of}
+use Rattle.script_names.specs.declared.Table.{Table}
+use Rattle.script_header.specs.declared.Header.{Header}
+use Rattle.script_entries.specs.declared.Script.{Script}
 use Rattle.script_entries.specs.Entries.{names_of, Known}
 
 -- an acceptance writes a list to the front of an output, and a refusal clears all of it
@@ -15,25 +18,29 @@ change (suc n) l o = zeroed o
 -- ---------------------------------------------------------------- names
 
 -- the name at the place that the table has for line k
-abbrev pub line_name : List ℕ → List ℕ → ℕ → Name
-line_name s t k = name_here (drop (get_or t k 0) s)
+abbrev pub line_name : List ℕ → Table → ℕ → Name
+line_name s t k = name_here (drop (place_of t k) s)
 
 -- the names of `count` lines, from line `from` on
-unfoldable pub line_names : List ℕ → List ℕ → ℕ → ℕ → List Name
+unfoldable pub line_names : List ℕ → Table → ℕ → ℕ → List Name
 line_names s t from zero = []
 line_names s t from (suc c) = line_names s t from c ++ (line_name s t (from + c) ∷ [])
 
 -- the table has the places of these lines
-pub record Lines (s t : List ℕ) (from count : ℕ) : Type 0 where
+pub record Lines (s : List ℕ) (t : Table) (from count : ℕ) : Type 0 where
   pub inside : from + count ≤ 7168
-  pub place : (i : ℕ) → i < count → get_or t (from + i) 0 ≤ length s
+  pub place : (i : ℕ) → i < count → place_of t (from + i) ≤ length s
 
 -- ---------------------------------------------------------------- tables
 
 -- the declarations are known, and few enough for the table of names
-pub record Few (s t h : List ℕ) (D : Declarations) : Type 0 where
+pub record Few (s : List ℕ) (t : Table) (h : Header) (D : Declarations) : Type 0 where
   pub known : Known s t h D
   pub few : names_of h ≤ 1536
+
+-- the same of a script whose header was read
+abbrev pub FewOf : Script → Declarations → Type 0
+FewOf script D = Few script.text.now script.table.now script.header D
 
 -- the outputs have room for a table of names
 pub record NamesFit (ns : List Name) (a b c : List ℕ) : Type 0 where

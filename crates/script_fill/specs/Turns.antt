@@ -19,7 +19,9 @@ use Rattle.readback.specs.Reader.{Took}
 use Rattle.readback.specs.Rebuild.{starts_counted_from, arena}
 use Rattle.rebuilt.specs.Built.{no-variable, no-array, no-function}
 use Rattle.script_tokens.specs.Reached.{between, Stretch, ends_name}
-use Rattle.script_names.specs.Entries.{name_here, name_at}
+use Rattle.script_names.specs.Entries.{name_here, name_at, place_of}
+use Rattle.script_names.specs.declared.Table.{Table}
+use Rattle.script_header.specs.declared.Header.{Header}
 use Rattle.script_names.specs.Laws.{between-length}
 use Rattle.script_entries.specs.Entries.{first_of, variables_of, arrays_of, names_of, Known}
 use Rattle.script_entries.specs.Finding.{variable-name, array-name, function-name}
@@ -28,7 +30,7 @@ use Rattle.script_fill.specs.Laws.{change-write, change-clear, change-same, fron
 
 -- ---------------------------------------------------------------- names of lines
 
-module _ (s t : List ℕ) (from : ℕ) where
+module _ (s : List ℕ) (t : Table) (from : ℕ) where
   abbrev names : ℕ → List Name
   names c = line_names s t from c
 
@@ -84,7 +86,7 @@ module _ (s t : List ℕ) (from : ℕ) where
   measured-none = refl
 
   module _ (n i : ℕ) (e : n ≡ length (arena (names i))) where
-    module _ (p q : ℕ) (here : p ≡ get_or t (from + i) 0) (st : Stretch ends_name s p q) where
+    module _ (p q : ℕ) (here : p ≡ place_of t (from + i)) (st : Stretch ends_name s p q) where
       size-next : length (arena (names (i + 1))) ≡ n + (q - p)
       size-next =
           let y = arena-next i in
@@ -123,7 +125,7 @@ module _ (s t : List ℕ) (from : ℕ) where
     pub written-lengths : i ≤ length c₀ → length c ≡ length c₀
     written-lengths l = let x = length-map (names i) length in let y = names-long i in ap length w.lengths ∙ front_long (map length (names i)) c₀ (omega arith)
 
-    module _ (p e : ℕ) (here : p ≡ get_or t (from + i) 0) (st : Stretch ends_name s p e) where
+    module _ (p e : ℕ) (here : p ≡ place_of t (from + i)) (st : Stretch ends_name s p e) where
       name-is : line_name s t (from + i) ≡ between s p e
       name-is = ap (λ (k : ℕ). name_here (drop k s)) (sym here) ∙ stretch-name p e st
 
@@ -160,7 +162,7 @@ module _ (s t : List ℕ) (from : ℕ) where
           }
 
 -- all names are written
-pub written_all : (s t : List ℕ) (from count : ℕ) {i at : ℕ} {a₀ b₀ c₀ a b c : List ℕ} → Written s t from i at a₀ b₀ c₀ a b c → i ≡ count → NamesFilled 0 (line_names s t from count) a₀ b₀ c₀ a b c
+pub written_all : (s : List ℕ) (t : Table) (from count : ℕ) {i at : ℕ} {a₀ b₀ c₀ a b c : List ℕ} → Written s t from i at a₀ b₀ c₀ a b c → i ≡ count → NamesFilled 0 (line_names s t from count) a₀ b₀ c₀ a b c
 written_all s t from count {i} {at} {a₀} {b₀} {c₀} {a} {b} {c} w e =
     let q : line_names s t from i ≡ line_names s t from count = ap (line_names s t from) e in
     record {
@@ -188,7 +190,7 @@ module _ {number : ℕ} {ns : List Name} {a b c a' b' c' : List ℕ} where
 
 -- ---------------------------------------------------------------- the lines of a known table
 
-module _ {s t h : List ℕ} {D : Declarations} (x : Few s t h D) where
+module _ {s : List ℕ} {t : Table} {h : Header} {D : Declarations} (x : Few s t h D) where
   abbrev κ : Known s t h D
   κ = x.known
 

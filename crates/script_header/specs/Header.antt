@@ -1,17 +1,18 @@
 -- The lines of a script before its assertions, with everything that is asked of them: the logic that fits the declarations, and an
 -- assertion or the last line after them.
-use Rattle.std.specs.Prelude.{ℕ, zero, suc, ◌+◌, ◌≤◌, ◌<◌, ◌≡◌, List, [], ◌∷◌, ◌++◌, map, Bool, true, false, ◌&&◌, ◌||◌, cond, eqb, length, drop, get_or}
+use Rattle.std.specs.Prelude.{ℕ, zero, suc, ◌+◌, ◌≤◌, ◌<◌, ◌≡◌, List, [], ◌++◌, Bool, true, false, ◌&&◌, ◌||◌, cond, eqb, length, drop}
+use Rattle.std.specs.Prelude.{Option as Maybe, Some, None}
 use Rattle.std.proofs.Math.Option.{Option, none, some}
 use Rattle.lists.specs.Bytes.{bytes}
 use Rattle.lists.specs.Tests.{same}
-use Rattle.reading.specs.Trees.{Name, Declarations}
+use Rattle.reading.specs.Trees.{Declarations}
 use Rattle.echo_spec.specs.Render.{logic_of}
 use Rattle.readback.specs.Printable.{variable_names_in, array_names_in, function_names_in}
 use Rattle.readback.specs.Reader.{Took, took, and_then, expect, up_to}
 use Rattle.script_names.specs.Entries.{Tabled}
 use Rattle.script_decls.specs.Lines.{checked, names_to}
 use Rattle.script_header.specs.declared.Header.{Header}
-use Rattle.script_header.specs.declared.Header.TheVariants.{No, Read}
+use Rattle.script_names.specs.declared.Table.{Table}
 
 -- what ends the logic's name
 abbrev pub ends_logic : ℕ → Bool
@@ -46,13 +47,8 @@ logic_for (suc f) a = bytes "QF_AUFBV"
 logic_for zero (suc a) = bytes "QF_ABV"
 logic_for zero zero = bytes "QF_BV"
 
--- no line is in the table
-pub record Empty (t : List ℕ) : Type 0 where
-  pub long : length t ≡ 10240
-  pub zeros : (h : ℕ) → h < 4096 → get_or t (3072 + h) 0 ≡ 0
-
 -- what was read from place `at` on: declarations from place `first` on, with v variables, w variables and arrays, c names in all, up to place e
-pub record HeaderAt (s : List ℕ) (at : ℕ) (t : List ℕ) (first v w c e : ℕ) : Type 0 where
+pub record HeaderAt (s : List ℕ) (at : ℕ) (t : Table) (first v w c e : ℕ) : Type 0 where
   pub value : Declarations
   pub read : (f : ℕ) → length s < f → header_in f (drop at s) ≡ took value (drop e s)
   pub lines : (f : ℕ) → length s < f → declared f (drop first s) ≡ took value (drop e s)
@@ -64,6 +60,10 @@ pub record HeaderAt (s : List ℕ) (at : ℕ) (t : List ℕ) (first v w c e : �
   pub names : names_to (drop first s) c ≡ (variable_names_in value ++ array_names_in value) ++ function_names_in value
   pub tabled : Tabled s first t c
 
-abbrev pub HeaderTo : List ℕ → ℕ → List ℕ → Header → Type 0
-HeaderTo s at t No = (f : ℕ) → length s < f → header_in f (drop at s) ≡ none
-HeaderTo s at t (Read first v w c e) = HeaderAt s at t first v w c e
+-- nothing that a header is
+abbrev pub NoHeader : List ℕ → ℕ → Type 0
+NoHeader s at = (f : ℕ) → length s < f → header_in f (drop at s) ≡ none
+
+abbrev pub HeaderTo : List ℕ → ℕ → Table → Maybe Header → Type 0
+HeaderTo s at t None = NoHeader s at
+HeaderTo s at t (Some h) = HeaderAt s at t h.first h.variables h.arrays h.names h.end

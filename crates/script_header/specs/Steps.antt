@@ -1,28 +1,26 @@
 -- Laws of the header, a step at a time.
-use Rattle.std.specs.Prelude.{ℕ, zero, suc, ◌+◌, ◌-◌, ◌≤◌, ◌<◌, ◌≡◌, Bool, true, false, ◌&&◌, ◌||◌, cond, length, drop}
+use Rattle.std.specs.Prelude.{ℕ, zero, suc, ◌-◌, ◌≤◌, ◌<◌, ◌≡◌, Bool, true, false, ◌&&◌, cond, length, drop}
 use Rattle.std.proofs.Math.Path.{refl, ap, sym}
-use Rattle.std.proofs.Common.{◌∙◌, subst, arith, length-drop}
+use Rattle.std.proofs.Common.{◌∙◌, arith, length-drop}
 use mathlib.Core.List.{List, [], ◌∷◌, ◌++◌, map}
-use Rattle.std.proofs.Math.Option.{Option, none, some}
+use Rattle.std.specs.Prelude.{Option as Maybe, Some, None, is_some}
+use Rattle.std.proofs.Math.Option.{none}
 use Rattle.lists.specs.Bytes.{bytes}
 use Rattle.lists.specs.Tests.{same}
 use Rattle.reading.specs.Trees.{Name, Array, Function, Declarations}
 use Rattle.echo_spec.specs.Render.{logic_of}
-use Rattle.readback.specs.Printable.{variable_names_in, array_names_in, function_names_in}
-use Rattle.readback.specs.Reader.{Took, took, and_then, expect, up_to}
+use Rattle.readback.specs.Printable.{array_names_in, function_names_in}
+use Rattle.readback.specs.Reader.{took, and_then, expect}
 use Rattle.script_tokens.specs.Reached.{between, Stretch, Reached}
-use Rattle.script_tokens.specs.declared.Step.{Step}
-use Rattle.script_tokens.specs.declared.Step.TheVariants.{No as NoStep, To}
-use Rattle.script_names.specs.Entries.{entry_from, Tabled}
+use Rattle.script_names.specs.declared.Table.{Table}
+use Rattle.script_names.specs.Entries.{entry_from, Empty}
 use Rattle.script_names.specs.Laws.{tabled_start}
 use Rattle.script_decls.specs.Lines.{name_in, checked, names_to, Ready, StageAt, StageTo}
-use Rattle.script_decls.specs.declared.Lines.TheVariants.{No as NoLines}
-use Rattle.script_header.specs.declared.Header.TheVariants.{No, Read}
-use Rattle.script_header.specs.Header.{ends_logic, begins, begun, declared, header_in, logic_for, Empty, HeaderAt, HeaderTo}
+use Rattle.script_header.specs.Header.{ends_logic, begins, begun, declared, header_in, logic_for, HeaderAt, NoHeader}
 
-pub ready-start : (s t : List ℕ) (first : ℕ) → first ≤ length s → Empty t → Ready s first t 0 first
+pub ready-start : (s : List ℕ) (t : Table) (first : ℕ) → first ≤ length s → Empty t → Ready s first t 0 first
 unfolding entry_from
-ready-start s t first l e = record { begin = l; place = l; few = omega arith; tabled = tabled_start s first t e.long e.zeros; here = refl }
+ready-start s t first l e = record { begin = l; place = l; few = omega arith; tabled = tabled_start s first t e; here = refl }
 
 pub logic-for : (fs : List Function) (rs : List Array) {f a : ℕ} → f ≡ length fs → a ≡ length rs → logic_for f a ≡ logic_of fs rs
 unfolding logic_for logic_of
@@ -32,27 +30,26 @@ logic-for (f ∷ fs) rs p q = (λ i. logic_for (p i) (q i))
 
 -- ---------------------------------------------------------------- what follows
 
-pub begun_first : (b v r : List ℕ) → expect (bytes "(assert ") b ≡ took v r → true ≡ begun b
+pub begun_first : (s b : List ℕ) (r : Maybe ℕ) → Reached s (expect (bytes "(assert ") b) r → is_some r ≡ true → true ≡ begun b
 unfolding begun begins
-begun_first b v r e = rw e refl
+begun_first s b None h q = cc
+begun_first s b (Some e) h q = rw h.1 refl
 
-pub begun-second : (b v r : List ℕ) → expect (bytes "(assert ") b ≡ none → expect (bytes "(check-sat)\n") b ≡ took v r → true ≡ begun b
+pub begun-second : (s b : List ℕ) (r q : Maybe ℕ) → Reached s (expect (bytes "(assert ") b) r → is_some r ≡ false → Reached s (expect (bytes "(check-sat)\n") b) q → is_some q ≡ begun b
 unfolding begun begins
-begun-second b v r e g = rw (e, g) refl
-
-pub begun-none : (b : List ℕ) → expect (bytes "(assert ") b ≡ none → expect (bytes "(check-sat)\n") b ≡ none → false ≡ begun b
-unfolding begun begins
-begun-none b e g = rw (e, g) refl
+begun-second s b (Some e) q h p g = cc
+begun-second s b None (Some f) h p g = rw (h, g.1) refl
+begun-second s b None None h p g = rw (h, g) refl
 
 -- ---------------------------------------------------------------- steps
 
 module _ (s : List ℕ) (at : ℕ) where
-  pub header-1 : expect (bytes "(set-logic ") (drop at s) ≡ none → HeaderTo s at [] No
+  pub header-1 : expect (bytes "(set-logic ") (drop at s) ≡ none → NoHeader s at
   unfolding header_in and_then
   header-1 h f l = rw h
 
   module _ (p : ℕ) (h : expect (bytes "(set-logic ") (drop at s) ≡ took [] (drop p s)) (z : ℕ) (st : Stretch ends_logic s p z) where
-    pub header-2 : expect (bytes ")\n") (drop z s) ≡ none → HeaderTo s at [] No
+    pub header-2 : expect (bytes ")\n") (drop z s) ≡ none → NoHeader s at
     unfolding header_in and_then
     header-2 g f l = rw (h, st.read, g)
 
@@ -64,23 +61,23 @@ module _ (s : List ℕ) (at : ℕ) where
       less : (f e : ℕ) → length s < f → length (drop e s) < f
       less f e l = let x = length-drop e s in omega arith
 
-      pub header-3 : (t : List ℕ) → StageTo 0 s first 0 first t NoLines → HeaderTo s at [] No
+      pub header-3 : (t : Table) → StageTo 0 s first 0 first t None → NoHeader s at
       unfolding declared and_then names_to
       header-3 t q f l = lines_then f ∙ rw (q f (less f first l)) refl
 
-      module _ (t₁ : List ℕ) (v e₁ : ℕ) (x : StageAt 0 s first 0 first t₁ v e₁) where
-        pub header-4 : (t : List ℕ) → StageTo 1 s first v e₁ t NoLines → HeaderTo s at [] No
+      module _ (t₁ : Table) (v e₁ : ℕ) (x : StageAt 0 s first 0 first t₁ v e₁) where
+        pub header-4 : (t : Table) → StageTo 1 s first v e₁ t None → NoHeader s at
         unfolding declared and_then names_to
         header-4 t q f l = lines_then f ∙ rw (x.read f (less f first l)) (rw (sym (ap (λ (ns : List Name). checked 1 f ns (drop e₁ s)) x.names) ∙ q f (less f e₁ l)) refl)
 
-        module _ (t₂ : List ℕ) (w e₂ : ℕ) (y : StageAt 1 s first v e₁ t₂ w e₂) where
-          pub header-5 : (t : List ℕ) → StageTo 2 s first w e₂ t NoLines → HeaderTo s at [] No
+        module _ (t₂ : Table) (w e₂ : ℕ) (y : StageAt 1 s first v e₁ t₂ w e₂) where
+          pub header-5 : (t : Table) → StageTo 2 s first w e₂ t None → NoHeader s at
           unfolding declared and_then names_to
           header-5 t q f l =
               lines_then f ∙ rw (x.read f (less f first l)) (rw (sym (ap (λ (ns : List Name). checked 1 f ns (drop e₁ s)) x.names) ∙ y.read f (less f e₁ l))
               (rw (sym (ap (λ (ns : List Name). checked 2 f ns (drop e₂ s)) (y.names ∙ ap (λ (ns : List Name). ns ++ map (name_in 1) y.lines) x.names)) ∙ q f (less f e₂ l)) refl))
 
-          module _ (t₃ : List ℕ) (c e₃ : ℕ) (k : StageAt 2 s first w e₂ t₃ c e₃) where
+          module _ (t₃ : Table) (c e₃ : ℕ) (k : StageAt 2 s first w e₂ t₃ c e₃) where
             abbrev D : Declarations
             D = record { variables = x.lines; arrays = y.lines; functions = k.lines }
 
@@ -97,10 +94,10 @@ module _ (s : List ℕ) (at : ℕ) where
             logic-is : same (between s p z) (logic_for (c - w) (w - v)) ≡ same (between s p z) (logic_of k.lines y.lines)
             logic-is = ap (same (between s p z)) (logic-for k.lines y.lines (omega (arith, k.counted)) (omega (arith, y.counted)))
 
-            pub header-6 : {r : Bool} → r ≡ same (between s p z) (logic_for (c - w) (w - v)) → r ≡ false → HeaderTo s at [] No
+            pub header-6 : {r : Bool} → r ≡ same (between s p z) (logic_for (c - w) (w - v)) → r ≡ false → NoHeader s at
             header-6 u i f l = ending f l ∙ rw (sym (u ∙ logic-is) ∙ i) refl
 
-            pub header-7 : {r : Bool} → r ≡ begun (drop e₃ s) → r ≡ false → HeaderTo s at [] No
+            pub header-7 : {r : Bool} → r ≡ begun (drop e₃ s) → r ≡ false → NoHeader s at
             header-7 u i f l = ending f l ∙ rw (sym u ∙ i) (neither (same (between s p z) (logic_of k.lines y.lines)))
               where
                 neither : (b : Bool) → cond (b && false) (took D (drop e₃ s)) none ≡ none
@@ -140,9 +137,3 @@ unfolding logic_for
 logic-plain (suc f) a h l = absurd (omega arith)
 logic-plain zero (suc a) h l = absurd (omega arith)
 logic-plain zero zero h l = refl
-
--- ---------------------------------------------------------------- what an enum answered
-
-pub word-there : (s : List ℕ) (o : Option (Took (List ℕ))) (r : Step) → Reached s o r → (r ≡ NoStep → ⊥) → (x : List ℕ) × (o ≡ took [] x)
-word-there s o NoStep h f = absurd (f refl)
-word-there s o (To e) h f = (drop e s, h.1)

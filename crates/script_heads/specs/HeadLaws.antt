@@ -5,6 +5,7 @@ use Rattle.std.proofs.Common.{◌∙◌, subst, leb→le, ltb→lt, le→leb, lt
 use mathlib.Core.List.{List, [], ◌∷◌, ◌++◌, map}
 use Rattle.std.specs.Prelude.{Bool, not, cond, T, leb, ltb}
 use Rattle.std.proofs.Math.Bool.{true, false}
+use Rattle.std.specs.Prelude.{Option as Maybe, Some, None}
 use Rattle.std.proofs.Math.Option.{Option, none, some}
 use native.Mathlib.Omega.{arith}
 use borrow.Author.Tests.{ltb-false, eqb-true, ne_eqb}
@@ -33,15 +34,15 @@ use Rattle.sort_reader.specs.Selects.{opened, raised, raised_by, raised-suc, and
 use Rattle.script_tokens.specs.Reached.{between, Stretch, ends_digits, ends_word, numeral64, Numbered}
 use Rattle.script_tokens.specs.Stretches.{bytes-at}
 use Rattle.script_tokens.specs.declared.Number.{Number}
-use Rattle.script_tokens.specs.declared.Number.TheVariants.{No as NoNumber, Is}
-use Rattle.script_symbols.specs.Packed.{kind_number}
 use Rattle.script_names.specs.Entries.{Named}
 use Rattle.script_names.specs.Laws.{between-length}
 use Rattle.script_decls.specs.Sorts.{fits_read}
 use Rattle.script_decls.specs.Tails.{word-less}
 use Rattle.script_entries.specs.Entries.{NextArgument, Numbers, VariableIs, ArrayIs, FunctionIs, EntryIs}
 use Rattle.script_entries.specs.declared.Entry.{Entry}
-use Rattle.script_entries.specs.declared.Entry.TheVariants.{Nothing, Variable as VariableEntry, Array as ArrayEntry, Function as FunctionEntry}
+use Rattle.script_entries.specs.declared.Widths.{Widths}
+use Rattle.script_entries.specs.declared.Signature.{Signature}
+use Rattle.script_entries.specs.declared.Entry.TheVariants.{Variable as VariableEntry, Array as ArrayEntry, Function as FunctionEntry}
 use Rattle.script_entries.specs.Named.{variable-named, function-named, array-unnamed, function-unnamed}
 use Rattle.script_heads.specs.Heads.{numerals_of, select_then, name_to, NothingAt, ConstantAt, VariableAt, NullaryAt, OperatorAt, CallAt, select_name, SelectAt}
 use Rattle.script_heads.specs.Numerals.{blank_numeral, Bad, first-wide, second-wide, bad-headed, numerals-end, numerals-next, numeral-fails, numeral-many}
@@ -143,28 +144,25 @@ module _ (s : List ℕ) (at e : ℕ) (h : get_or s at 0 ≡ 35) (b : get_or s (a
 
 -- ---------------------------------------------------------------- what is told of a function's arguments
 
-pub no-argument : (s : List ℕ) (p : ℕ) (ws : List ℕ) {r : Number} → NextArgument s p ws r → r ≡ NoNumber → ws ≡ []
-no-argument s p [] h q = refl
-no-argument s p (w ∷ ws) h q = absurd (subst (NextArgument s p (w ∷ ws)) q h)
+pub no-argument : (s : List ℕ) (p : ℕ) (ws : List ℕ) → NextArgument s p ws None → ws ≡ []
+no-argument s p [] h = refl
+no-argument s p (w ∷ ws) h = absurd h
 
-pub an-argument : (s : List ℕ) (p : ℕ) (ws : List ℕ) {r : Number} {v e : ℕ} → NextArgument s p ws r → r ≡ Is v e → 0 < length ws
-an-argument s p [] h q = absurd (subst (NextArgument s p []) q h)
-an-argument s p (w ∷ ws) h q = omega arith
+pub an-argument : (s : List ℕ) (p : ℕ) (ws : List ℕ) (n : Number) → NextArgument s p ws (Some n) → 0 < length ws
+an-argument s p [] n h = absurd h
+an-argument s p (w ∷ ws) n h = omega arith
 
 -- ---------------------------------------------------------------- what is told of a name
 
-module _ (s : List ℕ) (D : Declarations) (n : Name) (r : Entry) (x : EntryIs s D n r) where
-  pub told-nothing : r ≡ Nothing → Numbers D n none none none
-  told-nothing q = subst (EntryIs s D n) q x
-
+module _ (s : List ℕ) (D : Declarations) (n : Name) (r : Entry) (x : EntryIs s D n (Some r)) where
   pub told-variable : {k w : ℕ} → r ≡ VariableEntry k w → VariableIs D n k w
-  told-variable q = subst (EntryIs s D n) q x
+  told-variable {k} {w} q = let y : EntryIs s D n (Some (VariableEntry k w)) = subst (λ (e : Entry). EntryIs s D n (Some e)) q x in y
 
-  pub told_array : {k i v : ℕ} → r ≡ ArrayEntry k i v → ArrayIs D n k i v
-  told_array q = subst (EntryIs s D n) q x
+  pub told_array : {k : ℕ} {u : Widths} → r ≡ ArrayEntry k u → ArrayIs D n k u.index u.value
+  told_array {k} {u} q = let y : EntryIs s D n (Some (ArrayEntry k u)) = subst (λ (e : Entry). EntryIs s D n (Some e)) q x in y
 
-  pub told-function : {g p w : ℕ} → r ≡ FunctionEntry g p w → FunctionIs s D n g p w
-  told-function q = subst (EntryIs s D n) q x
+  pub told-function : {g : ℕ} {u : Signature} → r ≡ FunctionEntry g u → FunctionIs s D n g u.arguments u.width
+  told-function {g} {u} q = let y : EntryIs s D n (Some (FunctionEntry g u)) = subst (λ (e : Entry). EntryIs s D n (Some e)) q x in y
 
 -- ---------------------------------------------------------------- names
 
@@ -300,14 +298,6 @@ select-no-kind : kind_of (bytes "select") ≡ none
 unfolding kind_of find_from symbols bytes same
 select-no-kind = refl
 
-kind-is : {k : ℕ} {o : Option ℕ} → kind_number k ≡ o → (k ≡ 255 → ⊥) → o ≡ some k
-unfolding kind_number
-kind-is {k} e q = sym e ∙ rw (ne_eqb k 255 q)
-
-kind-none : {k : ℕ} {o : Option ℕ} → kind_number k ≡ o → k ≡ 255 → o ≡ none
-unfolding kind_number
-kind-none {k} e q = sym e ∙ rw q
-
 module _ (s : List ℕ) (at e : ℕ) (h : get_or s at 0 ≡ 40) (p : get_or s (at + 1) 0 ≡ 40 → ⊥) (q : get_or s (at + 1) 0 ≡ 124 → ⊥) (there : at + 1 < length s) (st : Stretch ends_word s (at + 1) e)
     (n : expect (bytes "(select ") (drop at s) ≡ none) where
   abbrev c : ℕ
@@ -333,14 +323,14 @@ module _ (s : List ℕ) (at e : ℕ) (h : get_or s at 0 ≡ 40) (p : get_or s (a
       let k : drop at s ≡ 40 ∷ (bytes "select" ++ drop e s) = byte-here s at h (omega arith) ∙ ap (λ (x : List ℕ). 40 ∷ x) (sym j ∙ ap (λ (x : List ℕ). x ++ drop e s) z) in
       sym (ap (expect (bytes "(select ")) k) ∙ n
 
-  pub plain-none : {k : ℕ} → kind_number k ≡ kind_of w → k ≡ 255 → (D : Declarations) → NothingAt s D at
-  plain-none {k} g z D = record { unsorted = none-sorted }
+  pub plain-none : none ≡ kind_of w → (D : Declarations) → NothingAt s D at
+  plain-none g D = record { unsorted = none-sorted }
     where
       by_word : (t : Bool) → same w (bytes "select") ≡ t → (f : ℕ) → sorted (suc (suc f)) D (40 ∷ c ∷ b) ≡ none
       by_word true u f =
           let v : w ≡ bytes "select" = same→eq w (bytes "select") (true→T u) in
           select-alone D f c b (drop e s) (ne_eqb c 40 p) (ne_eqb c 124 q) (word ∙ ap (λ (x : List ℕ). record { value = x; rest = drop e s }) v) (no-blank v)
-      by_word false u f = plain-sorted D f c b w (drop e s) (ne_eqb c 40 p) (ne_eqb c 124 q) word u ∙ ap (λ (o : Option ℕ). headed D f o [] (drop e s)) (kind-none g z)
+      by_word false u f = plain-sorted D f c b w (drop e s) (ne_eqb c 40 p) (ne_eqb c 124 q) word u ∙ ap (λ (o : Option ℕ). headed D f o [] (drop e s)) (sym g)
 
       none-sorted : (f : ℕ) → length (drop at s) < f → sorted f D (drop at s) ≡ none
       none-sorted zero l = absurd (omega arith)
@@ -355,20 +345,20 @@ module _ (s : List ℕ) (at e : ℕ) (h : get_or s at 0 ≡ 40) (p : get_or s (a
   unfolding applied numerals_of
   plain-applied D f k o z = rw z
 
-  pub plain-head : {k : ℕ} → kind_number k ≡ kind_of w → (k ≡ 255 → ⊥) → (D : Declarations) → OperatorAt s D at k 0 0 0 e
-  plain-head {k} g z D = record {
+  pub plain-head : {k : ℕ} → some k ≡ kind_of w → (D : Declarations) → OperatorAt s D at k 0 0 0 e
+  plain-head {k} g D = record {
     low = omega (arith, st.low);
     room = omega (arith, st.low);
     high = st.high;
     few = omega arith;
-    read = λ f l. ap (read_term (suc (suc f)) D) plain-bytes ∙ plain-read D f no-select ∙ plain-applied D f k (kind_of w) (kind-is g z);
+    read = λ f l. ap (read_term (suc (suc f)) D) plain-bytes ∙ plain-read D f no-select ∙ plain-applied D f k (kind_of w) (sym g);
   }
     where
       no-select : same w (bytes "select") ≡ false
       no-select = by_word (same w (bytes "select")) refl
         where
           by_word : (t : Bool) → same w (bytes "select") ≡ t → t ≡ false
-          by_word true u = absurd (impossible (sym select-no-kind ∙ ap kind_of (sym (same→eq w (bytes "select") (true→T u))) ∙ kind-is g z))
+          by_word true u = absurd (impossible (sym select-no-kind ∙ ap kind_of (sym (same→eq w (bytes "select") (true→T u))) ∙ sym g))
           by_word false u = refl
 
 -- the end after the bracket
@@ -383,7 +373,7 @@ pub no-blank-there : (s : List ℕ) (at : ℕ) → (get_or s at 0 ≡ 32 → ⊥
 unfolding blank_numeral and_then bytes
 no-blank-there s at q = rw (byte-apart s at 32 q)
 
-pub blank-there : (s : List ℕ) (at : ℕ) (r : Number) → get_or s at 0 ≡ 32 → Numbered s (numeral64 (drop (at + 1) s)) r → Numbered s (blank_numeral (drop at s)) r
+pub blank-there : (s : List ℕ) (at : ℕ) (r : Maybe Number) → get_or s at 0 ≡ 32 → Numbered s (numeral64 (drop (at + 1) s)) r → Numbered s (blank_numeral (drop at s)) r
 unfolding blank_numeral and_then bytes expect
 blank-there s at r h x = subst (λ (o : Option (Took ℕ)). Numbered s o r) (sym (rw (byte-here s at h (omega arith)))) x
 
@@ -457,13 +447,13 @@ module _ (s : List ℕ) (at : ℕ) (h : get_or s at 0 ≡ 40) (k : get_or s (at 
     bad-numbered D f [] r p = refl
     bad-numbered D f (i ∷ is) r p = bad-headed D f (kind_of name) (i ∷ is) r p
 
-    pub indexed-no-kind : {c : ℕ} → kind_number c ≡ kind_of name → c ≡ 255 → (D : Declarations) → NothingAt s D at
+    pub indexed-no-kind : none ≡ kind_of name → (D : Declarations) → NothingAt s D at
     unfolding numbered
-    indexed-no-kind g z D = unsorted-open D (λ f. indexed-is D f ∙ and-nothing (read_numerals f (drop e s)) _ (λ ks r. by-list f ks r))
+    indexed-no-kind g D = unsorted-open D (λ f. indexed-is D f ∙ and-nothing (read_numerals f (drop e s)) _ (λ ks r. by-list f ks r))
       where
         by-list : (f : ℕ) (ks r : List ℕ) → numbered D f ks r ≡ none
         by-list f [] r = refl
-        by-list f (i ∷ is) r = ap (λ (o : Option ℕ). headed D f o (i ∷ is) r) (kind-none g z)
+        by-list f (i ∷ is) r = ap (λ (o : Option ℕ). headed D f o (i ∷ is) r) (sym g)
 
     pub no-first : blank_numeral (drop e s) ≡ none → (D : Declarations) → NothingAt s D at
     unfolding numbered
@@ -518,9 +508,9 @@ module _ (s : List ℕ) (at : ℕ) (h : get_or s at 0 ≡ 40) (k : get_or s (at 
       low_first : a ≤ e
       low_first = st.low
 
-      pub one-numeral : {c : ℕ} → kind_number c ≡ kind_of name → (c ≡ 255 → ⊥) → at < p → p < length s → get_or s p 0 ≡ 41 → (D : Declarations) → OperatorAt s D at c 1 i 0 (p + 1)
+      pub one-numeral : {c : ℕ} → some c ≡ kind_of name → at < p → p < length s → get_or s p 0 ≡ 41 → (D : Declarations) → OperatorAt s D at c 1 i 0 (p + 1)
       unfolding numerals_of
-      one-numeral {c} g z l m y D = record { low = omega arith; room = omega arith; high = omega arith; few = omega arith; read = reads }
+      one-numeral {c} g l m y D = record { low = omega arith; room = omega arith; high = omega arith; few = omega arith; read = reads }
         where
           reads : (f : ℕ) → 1 < f → read_term (suc (suc f)) D (drop at s) ≡ and_then (read_terms f D (drop (p + 1) s)) (λ ts z. took (apply c (numerals_of 1 i 0) ts) z)
           reads zero n = absurd (omega arith)
@@ -528,7 +518,7 @@ module _ (s : List ℕ) (at : ℕ) (h : get_or s at 0 ≡ 40) (k : get_or s (at 
           reads (suc (suc f)) n =
               ap (read_term (suc (suc (suc (suc f)))) D) open-bytes ∙ indexed-read D (suc (suc f)) ∙ numeral-then (suc f) (drop e s) i (drop p s) _ q
               ∙ ap (λ (x : List ℕ). and_then (read_numerals (suc f) x) (λ js r. and_then (read_terms (suc (suc f)) D r) (λ ts z. applied_indexed (kind_of name) (i ∷ js) ts z))) (byte-here s p y (omega arith))
-              ∙ numerals-end f (drop (p + 1) s) _ ∙ applied-is D (suc (suc f)) c 1 0 [] (drop (p + 1) s) (kind_of name) (kind-is g z) refl
+              ∙ numerals-end f (drop (p + 1) s) _ ∙ applied-is D (suc (suc f)) c 1 0 [] (drop (p + 1) s) (kind_of name) (sym g) refl
 
       module _ (j d : ℕ) (v : blank_numeral (drop p s) ≡ took j (drop d s)) where
         pub no_third : (get_or s d 0 ≡ 41 → ⊥) → (D : Declarations) → NothingAt s D at
@@ -548,9 +538,9 @@ module _ (s : List ℕ) (at : ℕ) (h : get_or s at 0 ≡ 40) (k : get_or s (at 
                 numeral-then f (drop p s) j (drop d s) (λ js r. numbered D (suc (suc f)) (i ∷ js) r) v
                 ∙ numeral-many (drop d s) _ not_end (λ k js r. bad-numbered D (suc (suc f)) (i ∷ j ∷ k ∷ js) r tt) f
 
-        pub two-numerals : {c : ℕ} → kind_number c ≡ kind_of name → (c ≡ 255 → ⊥) → at + 1 < d → d < length s → get_or s d 0 ≡ 41 → (D : Declarations) → OperatorAt s D at c 2 i j (d + 1)
+        pub two-numerals : {c : ℕ} → some c ≡ kind_of name → at + 1 < d → d < length s → get_or s d 0 ≡ 41 → (D : Declarations) → OperatorAt s D at c 2 i j (d + 1)
         unfolding numerals_of
-        two-numerals {c} g z l m y D = record { low = omega arith; room = omega arith; high = omega arith; few = omega arith; read = reads }
+        two-numerals {c} g l m y D = record { low = omega arith; room = omega arith; high = omega arith; few = omega arith; read = reads }
           where
             reads : (f : ℕ) → 2 < f → read_term (suc (suc f)) D (drop at s) ≡ and_then (read_terms f D (drop (d + 1) s)) (λ ts z. took (apply c (numerals_of 2 i j) ts) z)
             reads zero n = absurd (omega arith)
@@ -560,7 +550,7 @@ module _ (s : List ℕ) (at : ℕ) (h : get_or s at 0 ≡ 40) (k : get_or s (at 
                 ap (read_term (suc (suc (suc (suc (suc f))))) D) open-bytes ∙ indexed-read D (suc (suc (suc f))) ∙ numeral-then (suc (suc f)) (drop e s) i (drop p s) _ q
                 ∙ numeral-then (suc f) (drop p s) j (drop d s) _ v
                 ∙ ap (λ (x : List ℕ). and_then (read_numerals (suc f) x) (λ js r. and_then (read_terms (suc (suc (suc f))) D r) (λ ts z. applied_indexed (kind_of name) (i ∷ j ∷ js) ts z))) (byte-here s d y (omega arith))
-                ∙ numerals-end f (drop (d + 1) s) _ ∙ applied-is D (suc (suc (suc f))) c 2 j (j ∷ []) (drop (d + 1) s) (kind_of name) (kind-is g z) refl
+                ∙ numerals-end f (drop (d + 1) s) _ ∙ applied-is D (suc (suc (suc f))) c 2 j (j ∷ []) (drop (d + 1) s) (kind_of name) (sym g) refl
 
 -- ---------------------------------------------------------------- selects
 

@@ -1,6 +1,7 @@
 -- The head of a term at a place of a script: what stands there, and what the reader of the specification makes of it. Each is said of the
 -- reading of the tree, so that the sorts and the nodes of a term are both taken from it.
 use Rattle.std.specs.Prelude.{ℕ, zero, suc, ◌+◌, ◌*◌, ◌-◌, ◌≤◌, ◌<◌, ◌≡◌, List, [], ◌∷◌, ◌++◌, T, length, drop}
+use Rattle.std.specs.Prelude.{Option as Maybe, Some, None}
 use Rattle.std.proofs.Math.Option.{Option, none, some}
 use Rattle.lists.specs.Bytes.{bytes}
 use Rattle.reading.specs.Trees.{Name, Tree, variable, constant, apply, select, call, none as noTrees, Stores, store, Declarations}
@@ -14,7 +15,7 @@ use Rattle.script_tokens.specs.Reached.{between}
 use Rattle.script_names.specs.Entries.{Named}
 use Rattle.script_entries.specs.Entries.{VariableIs, ArrayIs, FunctionIs}
 use Rattle.script_heads.specs.declared.Head.{Head}
-use Rattle.script_heads.specs.declared.Head.TheVariants.{No, Constant, Variable, Nullary, Operator, Call, Select}
+use Rattle.script_heads.specs.declared.Head.TheVariants.{Constant, Variable, Nullary, Operator, Call, Select}
 
 -- the first m of two numerals
 unfoldable pub numerals_of : ℕ → ℕ → ℕ → List ℕ
@@ -93,11 +94,11 @@ pub record SelectAt (s : List ℕ) (D : Declarations) (at a i v n e : ℕ) : Typ
   pub value_fits : (0 < v) × (v ≤ 65536)
 
 -- WHAT STANDS at a place: nothing that is the head of a term that has a sort, or one of these.
-abbrev pub HeadAt : List ℕ → Declarations → ℕ → Head → Type 0
-HeadAt s D at No = NothingAt s D at
-HeadAt s D at (Constant e) = ConstantAt s D at e
-HeadAt s D at (Variable k w e) = VariableAt s D at k w e
-HeadAt s D at (Nullary g w e) = NullaryAt s D at g w e
-HeadAt s D at (Operator k m i j e) = OperatorAt s D at k m i j e
-HeadAt s D at (Call g p w e) = CallAt s D at g p w e
-HeadAt s D at (Select a i v n e) = SelectAt s D at a i v n e
+abbrev pub HeadAt : List ℕ → Declarations → ℕ → Maybe Head → Type 0
+HeadAt s D at None = NothingAt s D at
+HeadAt s D at (Some (Constant e)) = ConstantAt s D at e
+HeadAt s D at (Some (Variable k w e)) = VariableAt s D at k w e
+HeadAt s D at (Some (Nullary g w e)) = NullaryAt s D at g w e
+HeadAt s D at (Some (Operator k m i j e)) = OperatorAt s D at k m i j e
+HeadAt s D at (Some (Call g p w e)) = CallAt s D at g p w e
+HeadAt s D at (Some (Select a i v n e)) = SelectAt s D at a i v n e

@@ -8,65 +8,89 @@ ghost use Rattle.lists.specs.Bytes.{bytes};
 ghost use Rattle.reading.specs.Trees.{Declarations};
 ghost use Rattle.readback.specs.Reader.{expect};
 ghost use Rattle.script_tokens.specs.Reached.{Numbered};
-ghost use Rattle.script_entries.specs.Entries.{Known};
+ghost use Rattle.script_entries.specs.Entries.{Declares};
 ghost use Rattle.script_heads.specs.Heads.{HeadAt};
 ghost use Rattle.script_heads.specs.Numerals.{blank_numeral};
 ghost use Rattle.script_heads.specs.HeadLaws.{Opens};
 
-use script_entries::{Entry, entry_of, next_argument};
-use script_names::TABLE;
+use script_entries::{Entry, Script, next_argument};
 use script_symbols::kind_of;
-use script_tokens::{Number, Step, byte_at, digits_end, literal, name_end, numeral, word_end};
+use script_tokens::{Number, byte_at, digits_end, literal, name_end, numeral, word_end};
 
-// The head of a term, and where what follows it begins.
-#[derive(Clone, Copy)]
+// The head of a term that can have a sort, and where what follows it begins.
+#[derive(Clone, Copy, Debug, PartialEq, Eq)]
 pub enum Head {
-    // no term that has a sort begins here
-    No,
-    // the place after the digits
+    // after the digits
     Constant(usize),
-    // number, width, the place after the name
-    Variable(usize, u64, usize),
-    // a function without arguments: number, width, the place after the name
-    Nullary(usize, u64, usize),
-    // kind, how many numerals, the two numerals, the place of the operands
-    Operator(u8, u64, u64, u64, usize),
-    // number, the place of the argument sorts, width, the place of the arguments
-    Call(usize, usize, u64, usize),
-    // array number, index width, value width, how many stores open, the place after the array's name
-    Select(usize, u64, u64, usize, usize),
+    // after the name
+    Variable {
+        number: usize,
+        width: u64,
+        end: usize,
+    },
+    // a function without arguments, after the name
+    Nullary {
+        number: usize,
+        width: u64,
+        end: usize,
+    },
+    // so many of the two numerals; where the operands begin
+    Operator {
+        kind: u8,
+        numerals: u64,
+        first: u64,
+        second: u64,
+        end: usize,
+    },
+    // where the sorts of the arguments stand; where the arguments begin
+    Call {
+        number: usize,
+        arguments: usize,
+        width: u64,
+        end: usize,
+    },
+    // so many stores open; after the array's name
+    Select {
+        number: usize,
+        index: u64,
+        value: u64,
+        stores: usize,
+        end: usize,
+    },
 }
 
 // A constant, from its `#` on.
-fn constant_head(s: &[u8], at: usize) -> Head
+fn constant_head(s: &[u8], at: usize) -> Option<Head>
     requires { get_or s.now at 0 ≡ 35 }
     ensures { (D : Declarations) → HeadAt s.now D at result }
 {
     if byte_at(s, at + 1) != b'b' {
-        return Head::No;
+        return None;
     }
     let e = digits_end(s, at + 2);
     if e == at + 2 {
-        return Head::No;
+        return None;
     }
-    Head::Constant(e)
+    Some(Head::Constant(e))
 }
 
 // A name by itself, from its first bar on.
-fn name_head(s: &[u8], t: &[u64; TABLE], h: &[u64; 4], at: usize) -> Head
-    requires { ((D : Declarations) × Known s.now t.now h.now D) × (get_or s.now at 0 ≡ 124) }
-    ensures { (D : Declarations) → Known s.now t.now h.now D → HeadAt s.now D at result }
+fn name_head(script: &Script, at: usize) -> Option<Head>
+    requires { ((D : Declarations) × Declares script.now D) × (get_or script.now.text.now at 0 ≡ 124) }
+    ensures { (D : Declarations) → Declares script.now D → HeadAt script.now.text.now D at result }
 {
-    let Step::To(e) = name_end(s, at + 1) else {
-        return Head::No;
-    };
-    match entry_of(s, t, h, at + 1, e) {
-        Entry::Nothing => Head::No,
-        Entry::Variable(k, w) => Head::Variable(k, w, e),
-        Entry::Array(a, i, v) => Head::No,
-        Entry::Function(g, p, w) => match next_argument(s, p) {
-            Number::No => Head::Nullary(g, w, e),
-            Number::Is(v, q) => Head::No,
+    let end = name_end(script.text, at + 1)?;
+    let entry = script.entry_of(at + 1, end)?;
+    match entry {
+        Entry::Variable(number, width) => Some(Head::Variable { number, width, end }),
+        Entry::Array(_, _) => None,
+        Entry::Function(number, x) => match next_argument(script.text, x.arguments) {
+            None => Some(Head::Nullary {
+                number,
+                width: x.width,
+                end,
+            }),
+            Some(_) => None,
         },
     }
 }
@@ -74,78 +98,87 @@ fn name_head(s: &[u8], t: &[u64; TABLE], h: &[u64; 4], at: usize) -> Head
 // ---------------------------------------------------------------- after an opening bracket
 
 // A call, from its bracket on.
-fn call_head(s: &[u8], t: &[u64; TABLE], h: &[u64; 4], at: usize) -> Head
-    requires { ((D : Declarations) × Known s.now t.now h.now D) × (get_or s.now at 0 ≡ 40) × (get_or s.now (at + 1) 0 ≡ 124) }
-    ensures { (D : Declarations) → Known s.now t.now h.now D → HeadAt s.now D at result }
+fn call_head(script: &Script, at: usize) -> Option<Head>
+    requires { ((D : Declarations) × Declares script.now D) × (get_or script.now.text.now at 0 ≡ 40) × (get_or script.now.text.now (at + 1) 0 ≡ 124) }
+    ensures { (D : Declarations) → Declares script.now D → HeadAt script.now.text.now D at result }
 {
-    let Step::To(e) = name_end(s, at + 2) else {
-        return Head::No;
-    };
-    match entry_of(s, t, h, at + 2, e) {
-        Entry::Nothing => Head::No,
-        Entry::Variable(k, w) => Head::No,
-        Entry::Array(a, i, v) => Head::No,
-        Entry::Function(g, p, w) => match next_argument(s, p) {
-            Number::No => Head::No,
-            Number::Is(v, q) => Head::Call(g, p, w, e),
+    let end = name_end(script.text, at + 2)?;
+    let entry = script.entry_of(at + 2, end)?;
+    match entry {
+        Entry::Variable(_, _) => None,
+        Entry::Array(_, _) => None,
+        Entry::Function(number, x) => match next_argument(script.text, x.arguments) {
+            None => None,
+            Some(_) => Some(Head::Call {
+                number,
+                arguments: x.arguments,
+                width: x.width,
+                end,
+            }),
         },
     }
 }
 
 // An operator without numerals, from its bracket on.
-fn plain_head(s: &[u8], at: usize) -> Head
+fn plain_head(s: &[u8], at: usize) -> Option<Head>
     requires { (get_or s.now at 0 ≡ 40) × (get_or s.now (at + 1) 0 ≡ 40 → ⊥) × (get_or s.now (at + 1) 0 ≡ 124 → ⊥) × (expect (bytes "(select ") (drop at s.now) ≡ none) }
     ensures { (D : Declarations) → HeadAt s.now D at result }
 {
     let a = at + 1;
     if a >= s.len() {
-        return Head::No;
+        return None;
     }
-    let e = word_end(s, a);
-    let k = kind_of(&s[a..e]);
-    if k == 255 {
-        return Head::No;
-    }
-    Head::Operator(k, 0, 0, 0, e)
+    let end = word_end(s, a);
+    let kind = kind_of(&s[a..end])?;
+    Some(Head::Operator {
+        kind,
+        numerals: 0,
+        first: 0,
+        second: 0,
+        end,
+    })
 }
 
 // A blank and a numeral.
-fn blank_numeral(s: &[u8], at: usize) -> Number
+fn blank_numeral(s: &[u8], at: usize) -> Option<Number>
     requires { at ≤ length s.now }
     ensures { Numbered s.now (blank_numeral (drop at s.now)) result }
 {
     if byte_at(s, at) != b' ' {
-        return Number::No;
+        return None;
     }
     numeral(s, at + 1)
 }
 
 // An operator with numerals, from the two brackets on.
-fn indexed_head(s: &[u8], at: usize) -> Head
+fn indexed_head(s: &[u8], at: usize) -> Option<Head>
     requires { (get_or s.now at 0 ≡ 40) × (get_or s.now (at + 1) 0 ≡ 40) }
     ensures { (D : Declarations) → HeadAt s.now D at result }
 {
-    let Step::To(a) = literal(s, at + 2, b"_ ") else {
-        return Head::No;
-    };
+    let a = literal(s, at + 2, b"_ ")?;
     let e = word_end(s, a);
-    let k = kind_of(&s[a..e]);
-    if k == 255 {
-        return Head::No;
+    let kind = kind_of(&s[a..e])?;
+    let i = blank_numeral(s, e)?;
+    if byte_at(s, i.end) == b')' {
+        return Some(Head::Operator {
+            kind,
+            numerals: 1,
+            first: i.value,
+            second: 0,
+            end: i.end + 1,
+        });
     }
-    let Number::Is(i, p) = blank_numeral(s, e) else {
-        return Head::No;
-    };
-    if byte_at(s, p) == b')' {
-        return Head::Operator(k, 1, i, 0, p + 1);
+    let j = blank_numeral(s, i.end)?;
+    if byte_at(s, j.end) == b')' {
+        return Some(Head::Operator {
+            kind,
+            numerals: 2,
+            first: i.value,
+            second: j.value,
+            end: j.end + 1,
+        });
     }
-    let Number::Is(j, d) = blank_numeral(s, p) else {
-        return Head::No;
-    };
-    if byte_at(s, d) == b')' {
-        return Head::Operator(k, 2, i, j, d + 1);
-    }
-    Head::No
+    None
 }
 
 // How many stores open one after the other.
@@ -155,69 +188,71 @@ fn stores_at(s: &[u8], at: usize) -> usize
 {
     let mut n = 0;
     let mut p = at;
-    loop {
-        let Step::To(q) = literal(s, p, b"(store ") else {
-            return n;
-        };
+    while let Some(q) = literal(s, p, b"(store ") {
         p = q;
         n += 1;
     }
+    n
 }
 
 // A select, from its bracket on, up to its array's name.
-fn select_head(s: &[u8], t: &[u64; TABLE], h: &[u64; 4], at: usize) -> Head
-    requires { ((D : Declarations) × Known s.now t.now h.now D) × (at + 8 ≤ length s.now) × (drop at s.now ≡ 40 ∷ (bytes "select " ++ drop (at + 8) s.now)) }
-    ensures { (D : Declarations) → Known s.now t.now h.now D → HeadAt s.now D at result }
+fn select_head(script: &Script, at: usize) -> Option<Head>
+    requires { ((D : Declarations) × Declares script.now D) × (at + 8 ≤ length script.now.text.now) × (drop at script.now.text.now ≡ 40 ∷ (bytes "select " ++ drop (at + 8) script.now.text.now)) }
+    ensures { (D : Declarations) → Declares script.now D → HeadAt script.now.text.now D at result }
 {
-    let n = stores_at(s, at + 8);
-    let p = at + 8 + 7 * n;
-    if byte_at(s, p) != b'|' {
-        return Head::No;
+    let stores = stores_at(script.text, at + 8);
+    let p = at + 8 + 7 * stores;
+    if byte_at(script.text, p) != b'|' {
+        return None;
     }
-    let Step::To(e) = name_end(s, p + 1) else {
-        return Head::No;
-    };
-    match entry_of(s, t, h, p + 1, e) {
-        Entry::Nothing => Head::No,
-        Entry::Variable(k, w) => Head::No,
-        Entry::Array(a, i, v) => Head::Select(a, i, v, n, e),
-        Entry::Function(g, q, w) => Head::No,
+    let end = name_end(script.text, p + 1)?;
+    let entry = script.entry_of(p + 1, end)?;
+    match entry {
+        Entry::Variable(_, _) => None,
+        Entry::Array(number, x) => Some(Head::Select {
+            number,
+            index: x.index,
+            value: x.value,
+            stores,
+            end,
+        }),
+        Entry::Function(_, _) => None,
     }
 }
 
 // What stands after an opening bracket.
-fn open_head(s: &[u8], t: &[u64; TABLE], h: &[u64; 4], at: usize) -> Head
-    requires { ((D : Declarations) × Known s.now t.now h.now D) × (get_or s.now at 0 ≡ 40) }
-    ensures { (D : Declarations) → Known s.now t.now h.now D → HeadAt s.now D at result }
+fn open_head(script: &Script, at: usize) -> Option<Head>
+    requires { ((D : Declarations) × Declares script.now D) × (get_or script.now.text.now at 0 ≡ 40) }
+    ensures { (D : Declarations) → Declares script.now D → HeadAt script.now.text.now D at result }
 {
-    let c = byte_at(s, at + 1);
+    let c = byte_at(script.text, at + 1);
     if c == b'(' {
-        return indexed_head(s, at);
+        return indexed_head(script.text, at);
     }
     if c == b'|' {
-        return call_head(s, t, h, at);
+        return call_head(script, at);
     }
-    match literal(s, at, b"(select ") {
-        Step::To(e) => select_head(s, t, h, at),
-        Step::No => plain_head(s, at),
+    match literal(script.text, at, b"(select ") {
+        Some(_) => select_head(script, at),
+        None => plain_head(script.text, at),
     }
 }
 
 // The head of the term at a place. Ruled out: a name of an array taken for a term; a second numeral left out; a numeral of more than 64 bits
 // taken by its lowest bits; one store too few counted before an array's name.
-pub fn head_at(s: &[u8], t: &[u64; TABLE], h: &[u64; 4], at: usize) -> Head
-    requires { (D : Declarations) × Known s.now t.now h.now D }
-    ensures { (D : Declarations) → Known s.now t.now h.now D → HeadAt s.now D at result }
+pub fn head_at(script: &Script, at: usize) -> Option<Head>
+    requires { (D : Declarations) × Declares script.now D }
+    ensures { (D : Declarations) → Declares script.now D → HeadAt script.now.text.now D at result }
 {
-    let c = byte_at(s, at);
+    let c = byte_at(script.text, at);
     if c == b'#' {
-        return constant_head(s, at);
+        return constant_head(script.text, at);
     }
     if c == b'|' {
-        return name_head(s, t, h, at);
+        return name_head(script, at);
     }
     if c == b'(' {
-        return open_head(s, t, h, at);
+        return open_head(script, at);
     }
-    Head::No
+    None
 }

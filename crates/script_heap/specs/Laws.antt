@@ -1,5 +1,5 @@
 -- Laws of single stores, and of a record that is written and counted. Assumes nothing.
-use Rattle.std.specs.Prelude.{ℕ, ◌+◌, ◌*◌, ◌/◌, ◌%◌, ◌≤◌, ◌<◌, ◌≡◌, List, [], ◌∷◌, ◌++◌, false, T, leb, length, get_or, set}
+use Rattle.std.specs.Prelude.{ℕ, ◌+◌, ◌*◌, ◌/◌, ◌%◌, ◌≤◌, ◌<◌, ◌≡◌, List, [], ◌∷◌, ◌++◌, false, T, leb, length, set, Option, Some, None}
 use Rattle.std.proofs.Common.{ap, sym, ◌∙◌, subst, inl, inr, arith, le-leb, leb→le, length-set, get_or-set_other}
 use Rattle.std.proofs.lemmas.Bool.{lt-leb}
 use Rattle.std.proofs.lemmas.List.{set-get_or}
@@ -7,12 +7,11 @@ use Rattle.lists.specs.Tests.{and_0, and-1}
 use Rattle.echo_spec.specs.Input.{Node}
 use Rattle.readback.specs.Records.{le32, record_bytes, holdable}
 use Rattle.readback.specs.Rebuild.{Item, side_in, record_of}
-use Rattle.heap_laws.specs.Heap.{nodes_size, side_at, count_in, bit_count_in, side_count_in, top_in, stack_in, Held}
-use Rattle.heap_laws.specs.Filled.{filled, filled_none, filled_more, filled-filled, length-filled, get_or-filled}
+use Rattle.heap_laws.specs.Heap.{nodes_size, Held}
+use Rattle.heap_laws.specs.Filled.{filled, filled_none, filled_more, filled-filled, length-filled}
 use Rattle.heap_laws.specs.Within.{over-nodes, over-record}
-use Rattle.heap_laws.specs.Adding.{Plain, added, added-top, added-stack, held-added}
-use Rattle.script_heap.specs.declared.Settled.{Settled}
-use Rattle.script_heap.specs.declared.Settled.TheVariants.{Over, At}
+use Rattle.heap_laws.specs.Adding.{Plain, added, held-added}
+use Rattle.heap_laws.specs.declared.Heap.{Heap}
 use Rattle.script_heap.specs.Told.{Told, Recorded}
 
 -- ---------------------------------------------------------------- stores one after the other
@@ -86,41 +85,38 @@ module _ (n : Node) where
 
 -- ---------------------------------------------------------------- a node more
 
-module _ {heap nodes bits : List ℕ} {s : List Item} (h : Held heap nodes bits s) (x : Item) (p : Plain x) where
+module _ {heap : Heap} {s : List Item} (h : Held heap s) (x : Item) (p : Plain x) where
   -- where the side entries, their number and the number of operands that are left stand already
-  pub told-record : (xs : List ℕ) (top : ℕ) → side_in x ≡ xs → side_count_in heap + length xs ≤ 8192 → (heap₁ heap' nodes' : List ℕ) (n : Node) (r : Settled)
-      → heap₁ ≡ set (set (filled heap (side_at + side_count_in heap) xs) 2 (side_count_in heap + length xs)) 3 top → n ≡ record_of (bit_count_in heap) (side_count_in heap) x
-      → Recorded heap₁ nodes heap' nodes' n r → Told heap heap' nodes' bits top (s ++ (x ∷ [])) (length s) r
-  told-record xs top q room heap₁ heap' nodes' n r e f w = by_answer r w
+  pub told-record : (xs : List ℕ) (top : ℕ) → side_in x ≡ xs → heap.side_count + length xs ≤ 8192 → (heap₁ heap' : Heap) (n : Node) (r : Option ℕ)
+      → heap₁ ≡ record heap { side_count = heap.side_count + length xs; top = top; side = filled heap.side heap.side_count xs } → n ≡ record_of heap.bit_count heap.side_count x
+      → Recorded heap₁ heap' n r → Told heap heap' top (s ++ (x ∷ [])) (length s) r
+  told-record xs top q room heap₁ heap' n r e f w = by_answer r w
     where
-      same : count_in heap₁ ≡ length s
-      same =
-          let front : List ℕ = filled heap (side_at + side_count_in heap) xs in
-          ap (λ (l : List ℕ). get_or l 0 0) e ∙ get_or-set_other (set front 2 (side_count_in heap + length xs)) 3 0 top 0 (λ z. omega arith)
-          ∙ get_or-set_other front 2 0 (side_count_in heap + length xs) 0 (λ z. omega arith)
-          ∙ get_or-filled heap (side_at + side_count_in heap) xs 0 (omega (arith, h.heap_long)) (omega arith) ∙ h.count
+      same : heap₁.count ≡ length s
+      same = ap (λ (y : Heap). y.count) e ∙ h.count
 
-      by_answer : (r : Settled) → Recorded heap₁ nodes heap' nodes' n r → Told heap heap' nodes' bits top (s ++ (x ∷ [])) (length s) r
-      by_answer Over (inl a) = over-nodes s x (omega (arith, same))
-      by_answer Over (inr a) = over-record s x (sym (λ i. holdable (record_of (h.bit_count i) (h.side_count i) x)) ∙ ap holdable (sym f) ∙ a)
-      by_answer (At m) (a, b, c, d, g) =
-          let z : heap' ≡ added heap xs top =
-          d ∙ (λ i. set (e i) 0 ((same ∙ sym h.count) i + 1)) in
-          let k : nodes' ≡ filled nodes (17 * length s) (record_bytes (record_of (bit_count_in heap) (side_count_in heap) x)) = g h.nodes_long ∙ (λ i. filled nodes (17 * same i) (record_bytes (f i))) in (
+      by_answer : (r : Option ℕ) → Recorded heap₁ heap' n r → Told heap heap' top (s ++ (x ∷ [])) (length s) r
+      by_answer None (inl a) = over-nodes s x (omega (arith, same))
+      by_answer None (inr a) = over-record s x (sym (λ i. holdable (record_of (h.bit_count i) (h.side_count i) x)) ∙ ap holdable (sym f) ∙ a)
+      by_answer (Some m) (a, b, c, d) =
+          let n' : Node = record_of heap.bit_count heap.side_count x in
+          let z : heap' ≡ added heap xs top n' =
+          d (ap (λ (y : Heap). length y.records) e ∙ h.nodes_long)
+          ∙ (λ i. record (e i) { count = (e i).count + 1; records = filled (e i).records (17 * (e i).count) (record_bytes (f i)) }) in (
             a ∙ same,
-            subst (λ (l : List ℕ). Held l nodes' bits (s ++ (x ∷ []))) (sym z) (held-added h xs top room x p q (omega (arith, same)) (subst (λ (y : Node). T (holdable y)) f c) k),
-            ap top_in z ∙ added-top h xs top room,
-            ap stack_in z ∙ added-stack h xs top room,
+            subst (λ (y : Heap). Held y (s ++ (x ∷ []))) (sym z) (held-added h xs top room x p q (omega (arith, same)) (subst (λ (y : Node). T (holdable y)) f c)),
+            ap (λ (y : Heap). y.top) z,
+            ap (λ (y : Heap). y.stack) z,
           )
 
 -- nothing is stored
-pub same_heap : (heap : List ℕ) → heap ≡ set (set (filled heap (side_at + side_count_in heap) []) 2 (side_count_in heap + 0)) 3 (top_in heap)
+pub same_heap : (heap : Heap) → heap ≡ record heap { side_count = heap.side_count + 0; side = filled heap.side heap.side_count [] }
 same_heap heap =
-    let z : side_count_in heap + 0 ≡ side_count_in heap = omega arith in
-    sym ((λ i. set (set (filled_none heap (side_at + side_count_in heap) i) 2 (z i)) 3 (top_in heap)) ∙ ap (λ (l : List ℕ). set l 3 (top_in heap)) (set-get_or heap 2 0) ∙ set-get_or heap 3 0)
+    let z : heap.side_count ≡ heap.side_count + 0 = omega arith in
+    λ i. record heap { side_count = z i; side = sym (filled_none heap.side heap.side_count) i }
 
 -- the number of operands that wait
-pub top-heap : (heap : List ℕ) (top : ℕ) → set heap 3 top ≡ set (set (filled heap (side_at + side_count_in heap) []) 2 (side_count_in heap + 0)) 3 top
+pub top-heap : (heap : Heap) (top : ℕ) → record heap { top = top } ≡ record heap { side_count = heap.side_count + 0; top = top; side = filled heap.side heap.side_count [] }
 top-heap heap top =
-    let z : side_count_in heap + 0 ≡ side_count_in heap = omega arith in
-    sym ((λ i. set (set (filled_none heap (side_at + side_count_in heap) i) 2 (z i)) 3 top) ∙ ap (λ (l : List ℕ). set l 3 top) (set-get_or heap 2 0))
+    let z : heap.side_count ≡ heap.side_count + 0 = omega arith in
+    λ i. record heap { side_count = z i; top = top; side = sym (filled_none heap.side heap.side_count) i }

@@ -1,21 +1,22 @@
 -- The search for the first check-sat line as code goes about it: place by place, and by blocks in which none can start.
-use Rattle.std.specs.Prelude.{ℕ, zero, suc, ◌+◌, ◌-◌, ◌≤◌, ◌<◌, ◌≡◌, List, Bool, true, false, ◌&&◌, T, eqb, ltb, length, get_or, drop}
+use Rattle.std.specs.Prelude.{ℕ, zero, suc, ◌+◌, ◌-◌, ◌≤◌, ◌<◌, ◌≡◌, List, [], ◌∷◌, Bool, true, false, ◌&&◌, T, eqb, ltb, length, get_or, take, drop}
 use Rattle.std.proofs.Math.Path.{refl}
 use Rattle.std.proofs.Common.{ap, sym, ◌∙◌, arith, length-drop, drop_of_length-le, eq-eqb, ne_eqb, ltb-true, ltb-false}
 use Rattle.std.proofs.Math.Option.{Option, none, some}
 use Rattle.std.proofs.Math.Numerals.{add-one}
 use Rattle.std.proofs.Math.Seq.{drop-cons}
+use Rattle.std.proofs.lemmas.Slice.{between_to_end}
 use Rattle.lists.specs.Bytes.{bytes}
 use Rattle.lists.specs.Tests.{and-1, no→false, true→T}
-use Rattle.script_lines.specs.declared.Found.{Found}
-use Rattle.script_lines.specs.declared.Found.TheVariants.{Script, Nothing}
+use Rattle.std.specs.Prelude.{Option as Found, Some, None}
+use Rattle.std.specs.Cmp.Lexicographic.{pointwise}
 use Rattle.script_lines.specs.Lines.{check_sat_line, begins, until_check, following_script}
 use Rattle.script_lines.specs.Laws.{back, back_none, begins-long}
 
 -- the answer as the definitions have it
-abbrev pub found_of : Found → Option ℕ
-found_of (Script n) = some n
-found_of Nothing = none
+abbrev pub found_of : Found ℕ → Option ℕ
+found_of (Some n) = some n
+found_of None = none
 
 -- does a line start at this place
 abbrev pub fresh_at : List ℕ → ℕ → Bool
@@ -31,9 +32,9 @@ unfoldable pub ahead : List ℕ → ℕ → Option ℕ
 ahead f k = back k (until_check (fresh_at f k) (drop k f))
 
 -- what is left of a search, once it came to place e or found a line
-abbrev pub scanned : List ℕ → ℕ → Found → Option ℕ
-scanned f e (Script n) = some n
-scanned f e Nothing = ahead f e
+abbrev pub scanned : List ℕ → ℕ → Found ℕ → Option ℕ
+scanned f e (Some n) = some n
+scanned f e None = ahead f e
 
 -- ---------------------------------------------------------------- one place further
 
@@ -77,6 +78,17 @@ begins-all p s j l = rw (drop_of_length-le p l) refl
 
 -- ---------------------------------------------------------------- as the code has it
 
+-- what `starts_with` of a slice gives
+pub starts-begins : (p s : List ℕ) → pointwise eqb p (take (length p) s) ≡ begins p s
+unfolding begins
+starts-begins [] s = refl
+starts-begins (x ∷ xs) [] = refl
+starts-begins (x ∷ xs) (y ∷ ys) = ap (λ (b : Bool). eqb x y && b) (starts-begins xs ys)
+
+-- the same of what a file has from a place on
+pub starts-begins-at : (p f : List ℕ) (k : ℕ) → pointwise eqb p (take (length p) (take (length f - k) (drop k f))) ≡ begins p (drop k f)
+starts-begins-at p f k = rw (between_to_end f k (length f) (omega arith)) (starts-begins p (drop k f))
+
 pub fresh-after : (f : List ℕ) (k : ℕ) → (k ≡ 0 → ⊥) → eqb 10 (get_or f (k - 1) 0) ≡ fresh_at f k
 fresh-after f zero n = absurd (n refl)
 fresh-after f (suc k) n = let e : suc k - 1 ≡ k = omega arith in rw e refl
@@ -108,14 +120,14 @@ starts-inside f k l e =
 
 -- ---------------------------------------------------------------- from one search to the next
 
-module _ (f : List ℕ) (i e : ℕ) (r : Found) (before : following_script f ≡ ahead f i) (found : ahead f i ≡ scanned f e r) where
-  pub search-found : {n : ℕ} → r ≡ Script n → some n ≡ following_script f
+module _ (f : List ℕ) (i e : ℕ) (r : Found ℕ) (before : following_script f ≡ ahead f i) (found : ahead f i ≡ scanned f e r) where
+  pub search-found : {n : ℕ} → r ≡ Some n → some n ≡ following_script f
   search-found q = sym (before ∙ found ∙ ap (scanned f e) q)
 
-  pub search-on : r ≡ Nothing → following_script f ≡ ahead f e
+  pub search-on : r ≡ None → following_script f ≡ ahead f e
   search-on q = before ∙ found ∙ ap (scanned f e) q
 
 -- at the end of the file
-pub search-end : (f : List ℕ) (i e : ℕ) (r : Found) → following_script f ≡ ahead f i → ahead f i ≡ scanned f e r → length f ≤ e → found_of r ≡ following_script f
-search-end f i e (Script n) before found l = sym (before ∙ found)
-search-end f i e Nothing before found l = sym (before ∙ found ∙ ahead-end f e l)
+pub search-end : (f : List ℕ) (i e : ℕ) (r : Found ℕ) → following_script f ≡ ahead f i → ahead f i ≡ scanned f e r → length f ≤ e → found_of r ≡ following_script f
+search-end f i e (Some n) before found l = sym (before ∙ found)
+search-end f i e None before found l = sym (before ∙ found ∙ ahead-end f e l)

@@ -4,19 +4,12 @@
 
 pub mod numbers;
 
-ghost use Rattle.std.specs.Prelude.{◌≡◌, false, ◌+◌, ◌≤◌, ◌<◌, length, drop};
-ghost use Rattle.script_lines.specs.Lines.{check_sat_line, begins, following_script};
+ghost use Rattle.std.specs.Prelude.{◌≡◌, false, ◌+◌, ◌≤◌, length};
+ghost use Rattle.script_lines.specs.Lines.{following_script};
 ghost use Rattle.script_lines.specs.Scanning.{found_of, fresh_at, starts_at, ahead, scanned, Without};
 
-// What a search for the first script found: its length, or that there is no check-sat line.
-#[derive(Clone, Copy)]
-pub enum Found {
-    Script(usize),
-    Nothing,
-}
-
-// The bytes of a check-sat line, with its byte 10.
-const LINE: usize = 12;
+// A check-sat line, with its byte 10.
+static LINE: [u8; 12] = *b"(check-sat)\n";
 
 // So many places are looked at together.
 const BLOCK: usize = 64;
@@ -26,25 +19,7 @@ fn fresh(file: &[u8], k: usize) -> bool
     requires { k ≤ length file.now }
     ensures { result ≡ fresh_at file.now k }
 {
-    if k == 0 {
-        return true;
-    }
-    10 == file[k - 1]
-}
-
-// Do the bytes from this place on begin with these twelve?
-fn alike(file: &[u8], k: usize, line: &[u8]) -> bool
-    requires { (k + 12 ≤ length file.now) × (length line.now ≡ 12) }
-    ensures { result ≡ begins line.now (drop k file.now) }
-{
-    let mut j = 0;
-    while j < LINE {
-        if file[k + j] != line[j] {
-            return false;
-        }
-        j += 1;
-    }
-    true
+    k == 0 || file[k - 1] == b'\n'
 }
 
 // Does a check-sat line start at this place?
@@ -52,28 +27,20 @@ fn starts(file: &[u8], k: usize) -> bool
     requires { k ≤ length file.now }
     ensures { result ≡ starts_at file.now k }
 {
-    if !fresh(file, k) {
-        return false;
-    }
-    if file.len() - k < LINE {
-        return false;
-    }
-    alike(file, k, b"(check-sat)\n")
+    fresh(file, k) && file[k..].starts_with(&LINE)
 }
 
 // The places from a up to e, one by one: the end of the first check-sat line that starts there.
-fn first_line(file: &[u8], a: usize, e: usize) -> Found
+fn first_line(file: &[u8], a: usize, e: usize) -> Option<usize>
     requires { (a ≤ e) × (e ≤ length file.now) }
     ensures { ahead file.now a ≡ scanned file.now e result }
 {
-    let mut k = a;
-    while k < e {
+    for k in a..e {
         if starts(file, k) {
-            return Found::Script(k + LINE);
+            return Some(k + LINE.len());
         }
-        k += 1;
     }
-    Found::Nothing
+    None
 }
 
 // Does the byte stand in the block from this place on? (All places are looked at: a loop that is not left midway is done many places at once.)
@@ -82,27 +49,22 @@ fn in_reach(file: &[u8], i: usize, b: u8) -> bool
     ensures { result ≡ false → Without file.now i 64 b }
 {
     let mut seen = false;
-    let mut k = 0;
-    while k < BLOCK {
-        if file[i + k] == b {
+    for x in &file[i..i + BLOCK] {
+        if *x == b {
             seen = true;
         }
-        k += 1;
     }
     seen
 }
 
 // The places of a block. Where none of them has the line's `k` five bytes on, or none its `-` six bytes on, no check-sat line starts there.
 // The scripts have a `k` nowhere else but in names.
-fn in_block(file: &[u8], i: usize) -> Found
+fn in_block(file: &[u8], i: usize) -> Option<usize>
     requires { i + 70 ≤ length file.now }
     ensures { ahead file.now i ≡ scanned file.now (i + 64) result }
 {
-    if !in_reach(file, i + 5, b'k') {
-        return Found::Nothing;
-    }
-    if !in_reach(file, i + 6, b'-') {
-        return Found::Nothing;
+    if !in_reach(file, i + 5, b'k') || !in_reach(file, i + 6, b'-') {
+        return None;
     }
     first_line(file, i, i + BLOCK)
 }
@@ -110,17 +72,15 @@ fn in_block(file: &[u8], i: usize) -> Found
 // The length of the first script in a file: up to and with its first check-sat line. It asks nothing of the file, and takes time by the
 // length that it answers, or by the file's where there is none.
 // Ruled out: a check-sat line taken for one that starts inside a line; a length without the last byte 10; the last script for the first.
-pub fn next_script(file: &[u8]) -> Found
+pub fn next_script(file: &[u8]) -> Option<usize>
     ensures { found_of result ≡ following_script file.now }
 {
-    let n = file.len();
-    let mut i = 0;
-    while n - i >= BLOCK + 6 {
-        match in_block(file, i) {
-            Found::Script(m) => return Found::Script(m),
-            Found::Nothing => {}
+    // (A block is looked at six bytes on.)
+    let blocks = file.len().saturating_sub(6) / BLOCK;
+    for k in 0..blocks {
+        if let Some(end) = in_block(file, BLOCK * k) {
+            return Some(end);
         }
-        i += BLOCK;
     }
-    first_line(file, i, n)
+    first_line(file, BLOCK * blocks, file.len())
 }

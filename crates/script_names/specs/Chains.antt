@@ -1,9 +1,11 @@
 -- The table keeps what is asked of it where a line is entered.
-use Rattle.std.specs.Prelude.{ℕ, zero, suc, ◌+◌, ◌-◌, ◌*◌, ◌%◌, ◌≤◌, ◌<◌, ◌≡◌, refl, List, [], ◌∷◌, Bool, true, false, eqb, leb, length, take, drop, get_or, set}
+use Rattle.std.specs.Prelude.{ℕ, ◌+◌, ◌-◌, ◌*◌, ◌%◌, ◌≤◌, ◌<◌, ◌≡◌, refl, List, [], ◌∷◌, Bool, true, false, eqb, leb, length, take, drop, set}
 use Rattle.std.proofs.Common.{ap, sym, ◌∙◌, subst, arith, eqb→eq, length-set, get_or-set_same, get_or-set_other}
 use Rattle.std.proofs.lemmas.Bool.{eqb-false}
 use Rattle.lists.specs.Tests.{true→T}
-use Rattle.script_names.specs.Entries.{entry_from, name_here, name_at, hash_from, hash_of, hash_at, Closed, Chains, Tabled}
+use Rattle.script_names.specs.declared.Line.{Line}
+use Rattle.script_names.specs.declared.Table.{Table}
+use Rattle.script_names.specs.Entries.{entry_from, name_at, hash_from, hash_of, hash_at, no_line, place_of, before_of, last_of, Chains, Long}
 
 hash-from-small : (h : ℕ) (w : List ℕ) → h < 4096 → hash_from h w < 4096
 unfolding hash_from
@@ -27,45 +29,32 @@ by_equal {P} k c f g = go (eqb k c) refl
     go false e = g (eqb-false k c e)
 
 -- a line entered at place a, with hash h
-abbrev pub entered : List ℕ → ℕ → ℕ → ℕ → List ℕ
-entered t c a h = set (set (set t c a) (1536 + c) (get_or t (3072 + h) 0)) (3072 + h) (c + 1)
+abbrev pub entered : Table → ℕ → ℕ → ℕ → Table
+entered t c a h = record { lines = set t.lines c (record { place = a; before = last_of t h }); last = set t.last h (c + 1); measures = t.measures }
 
-module _ (t : List ℕ) (c a h : ℕ) (room : c < 1536) (long : length t ≡ 10240) (small : h < 4096) where
-  l₁ : length (set t c a) ≡ 10240
-  l₁ = length-set t c a ∙ long
+pub entered-long : (t : Table) (c a h : ℕ) → Long t → Long (entered t c a h)
+entered-long t c a h l = record { lines = length-set _ _ _ ∙ l.lines; last = length-set _ _ _ ∙ l.last; measures = l.measures }
 
-  l₂ : length (set (set t c a) (1536 + c) (get_or t (3072 + h) 0)) ≡ 10240
-  l₂ = length-set (set t c a) (1536 + c) (get_or t (3072 + h) 0) ∙ l₁
+module _ (t : Table) (c a h : ℕ) (room : c < 1536) (long : Long t) (small : h < 4096) where
+  place_other : (k : ℕ) → (k ≡ c → ⊥) → place_of (entered t c a h) k ≡ place_of t k
+  place_other k f = ap (λ (x : Line). x.place) (get_or-set_other t.lines c k _ no_line f)
 
-  place_other : (k : ℕ) → k < 1536 → (k ≡ c → ⊥) → get_or (entered t c a h) k 0 ≡ get_or t k 0
-  place_other k l f =
-      get_or-set_other (set (set t c a) (1536 + c) (get_or t (3072 + h) 0)) (3072 + h) k (c + 1) 0 (λ e. omega arith)
-      ∙ get_or-set_other (set t c a) (1536 + c) k (get_or t (3072 + h) 0) 0 (λ e. omega arith) ∙ get_or-set_other t c k a 0 f
+  place-own : place_of (entered t c a h) c ≡ a
+  place-own = ap (λ (x : Line). x.place) (get_or-set_same t.lines c _ no_line (omega (arith, long.lines)))
 
-  place-own : get_or (entered t c a h) c 0 ≡ a
-  place-own =
-      get_or-set_other (set (set t c a) (1536 + c) (get_or t (3072 + h) 0)) (3072 + h) c (c + 1) 0 (λ e. omega arith)
-      ∙ get_or-set_other (set t c a) (1536 + c) c (get_or t (3072 + h) 0) 0 (λ e. omega arith) ∙ get_or-set_same t c a 0 (omega arith)
+  next-other : (k : ℕ) → (k ≡ c → ⊥) → before_of (entered t c a h) k ≡ before_of t k
+  next-other k f = ap (λ (x : Line). x.before) (get_or-set_other t.lines c k _ no_line f)
 
-  next-other : (k : ℕ) → k < 1536 → (k ≡ c → ⊥) → get_or (entered t c a h) (1536 + k) 0 ≡ get_or t (1536 + k) 0
-  next-other k l f =
-      get_or-set_other (set (set t c a) (1536 + c) (get_or t (3072 + h) 0)) (3072 + h) (1536 + k) (c + 1) 0 (λ e. omega arith)
-      ∙ get_or-set_other (set t c a) (1536 + c) (1536 + k) (get_or t (3072 + h) 0) 0 (λ e. f (omega arith)) ∙ get_or-set_other t c (1536 + k) a 0 (λ e. omega arith)
+  next_here : before_of (entered t c a h) c ≡ last_of t h
+  next_here = ap (λ (x : Line). x.before) (get_or-set_same t.lines c _ no_line (omega (arith, long.lines)))
 
-  next_here : get_or (entered t c a h) (1536 + c) 0 ≡ get_or t (3072 + h) 0
-  next_here =
-      get_or-set_other (set (set t c a) (1536 + c) (get_or t (3072 + h) 0)) (3072 + h) (1536 + c) (c + 1) 0 (λ e. omega arith)
-      ∙ get_or-set_same (set t c a) (1536 + c) (get_or t (3072 + h) 0) 0 (omega (arith, l₁))
+  head-other : (j : ℕ) → (j ≡ h → ⊥) → last_of (entered t c a h) j ≡ last_of t j
+  head-other j f = get_or-set_other t.last h j (c + 1) 0 f
 
-  head-other : (j : ℕ) → j < 4096 → (j ≡ h → ⊥) → get_or (entered t c a h) (3072 + j) 0 ≡ get_or t (3072 + j) 0
-  head-other j l f =
-      get_or-set_other (set (set t c a) (1536 + c) (get_or t (3072 + h) 0)) (3072 + h) (3072 + j) (c + 1) 0 (λ e. f (omega arith))
-      ∙ get_or-set_other (set t c a) (1536 + c) (3072 + j) (get_or t (3072 + h) 0) 0 (λ e. omega arith) ∙ get_or-set_other t c (3072 + j) a 0 (λ e. omega arith)
+  head-here : last_of (entered t c a h) h ≡ c + 1
+  head-here = get_or-set_same t.last h (c + 1) 0 (omega (arith, long.last))
 
-  head-here : get_or (entered t c a h) (3072 + h) 0 ≡ c + 1
-  head-here = get_or-set_same (set (set t c a) (1536 + c) (get_or t (3072 + h) 0)) (3072 + h) (c + 1) 0 (omega (arith, l₂))
-
-module _ (s b t : List ℕ) (c a : ℕ) (room : c < 1536) (long : length t ≡ 10240) (x : Chains s b t c) (low : a ≤ length s) (here : drop a s ≡ entry_from c b) where
+module _ (s b : List ℕ) (t : Table) (c a : ℕ) (room : c < 1536) (long : Long t) (x : Chains s b t c) (low : a ≤ length s) (here : drop a s ≡ entry_from c b) where
   abbrev h : ℕ
   h = hash_at b c
 
@@ -75,23 +64,23 @@ module _ (s b t : List ℕ) (c a : ℕ) (room : c < 1536) (long : length t ≡ 1
   pub chains-more : Chains s b (entered t c a (hash_at b c)) (c + 1)
   chains-more = record {
     place = λ k l. by_equal k c (λ e. rw (e, place-own t c a h room long small) low)
-        (λ f. rw (place_other t c a h room long small k (omega arith) f) (x.place k (omega arith)));
+        (λ f. rw (place_other t c a h room long small k f) (x.place k (omega arith)));
     entry = λ k l. by_equal k c (λ e. rw (e, place-own t c a h room long small) here)
-        (λ f. rw (place_other t c a h room long small k (omega arith) f) (x.entry k (omega arith)));
+        (λ f. rw (place_other t c a h room long small k f) (x.entry k (omega arith)));
     head_all = λ k l. by_equal (hash_at b k) h (λ e. rw (e, head-here t c a h room long small) l)
-        (λ f. rw (head-other t c a h room long small (hash_at b k) (hash-small (name_at b k)) f)
+        (λ f. rw (head-other t c a h room long small (hash_at b k) f)
         (x.head_all k (by_equal k c (λ e. absurd (f (ap (hash_at b) e))) (λ g. omega arith))));
     head-own = λ j l k q. by_equal j h
-        (λ e. (let z : k ≡ c = omega (arith, sym q ∙ ap (λ (i : ℕ). get_or (entered t c a h) (3072 + i) 0) e ∙ head-here t c a h room long small) in
+        (λ e. (let z : k ≡ c = omega (arith, sym q ∙ ap (λ (i : ℕ). last_of (entered t c a h) i) e ∙ head-here t c a h room long small) in
         (omega arith, ap (hash_at b) z ∙ sym e)))
-        (λ f. (let r = x.head-own j l k (sym (head-other t c a h room long small j l f) ∙ q) in (omega (arith, r.0), r.1)));
+        (λ f. (let r = x.head-own j l k (sym (head-other t c a h room long small j f) ∙ q) in (omega (arith, r.0), r.1)));
     next_all = λ k l j m q. by_equal k c
         (λ e. (let w : hash_at b j ≡ h = q ∙ ap (hash_at b) e in
-        let y : j < get_or t (3072 + h) 0 = subst (λ (i : ℕ). j < get_or t (3072 + i) 0) w (x.head_all j (omega arith)) in
+        let y : j < last_of t h = subst (λ (i : ℕ). j < last_of t i) w (x.head_all j (omega arith)) in
         rw (e, next_here t c a h room long small) y))
-        (λ f. rw (next-other t c a h room long small k (omega arith) f) (x.next_all k (omega arith) j m q));
+        (λ f. rw (next-other t c a h room long small k f) (x.next_all k (omega arith) j m q));
     next_own = λ k l j q. by_equal k c
-        (λ e. (let r = x.head-own h small j (sym (next_here t c a h room long small) ∙ ap (λ (i : ℕ). get_or (entered t c a h) (1536 + i) 0) (sym e) ∙ q) in
+        (λ e. (let r = x.head-own h small j (sym (next_here t c a h room long small) ∙ ap (λ (i : ℕ). before_of (entered t c a h) i) (sym e) ∙ q) in
         (omega (arith, r.0), r.1 ∙ ap (hash_at b) (sym e))))
-        (λ f. x.next_own k (omega arith) j (sym (next-other t c a h room long small k (omega arith) f) ∙ q));
+        (λ f. x.next_own k (omega arith) j (sym (next-other t c a h room long small k f) ∙ q));
   }

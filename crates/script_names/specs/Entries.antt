@@ -1,12 +1,14 @@
 -- The names that a script declares, by the bars in it: each line of a declaration has a bar before the name and a bar after it, and no other.
 -- What is found of a name, and the table by which it is found.
-use Rattle.std.specs.Prelude.{ℕ, zero, suc, ◌+◌, ◌*◌, ◌-◌, ◌%◌, ◌≤◌, ◌<◌, ◌≡◌, List, [], ◌∷◌, Bool, true, false, leb, length, take, drop, get_or}
+use Rattle.std.specs.Prelude.{ℕ, zero, suc, ◌+◌, ◌*◌, ◌-◌, ◌%◌, ◌≤◌, ◌<◌, ◌≡◌, List, [], ◌∷◌, true, false, leb, length, take, drop, get_or, Option, Some, None}
 use Rattle.lists.specs.Tests.{same}
 use Rattle.reading.specs.Trees.{Name}
-use Rattle.readback.specs.Reader.{Took, took, up_to, name_read}
+use Rattle.readback.specs.Reader.{took, up_to, name_read}
 use Rattle.script_tokens.specs.Reached.{between, ends_name}
+use Rattle.script_names.specs.declared.Line.{Line}
+use Rattle.script_names.specs.declared.Measure.{Measure}
+use Rattle.script_names.specs.declared.Table.{Table}
 use Rattle.script_names.specs.declared.Found.{Found}
-use Rattle.script_names.specs.declared.Found.TheVariants.{Nothing, At}
 
 -- the bytes after the first bar
 unfoldable pub after_bar : List ℕ → List ℕ
@@ -40,11 +42,11 @@ AllClosed b count = (k : ℕ) → k < count → Closed (entry_from k b)
 
 -- ---------------------------------------------------------------- what is found
 
--- Of the first `count` lines of the bytes from place `first` on: none has the name; or line k has it, and place p is where its name begins.
-abbrev pub Sought : List ℕ → ℕ → ℕ → Name → Found → Type 0
-Sought s first count n Nothing = (j : ℕ) → j < count → same n (name_at (drop first s) j) ≡ false
-Sought s first count n (At k p) =
-    (k < count) × (p ≤ length s) × (drop p s ≡ entry_from k (drop first s)) × (same n (name_at (drop first s) k) ≡ true)
+-- Of the first `count` lines of the bytes from place `first` on: none has the name; or one has it, and at the place its name begins.
+abbrev pub Sought : List ℕ → ℕ → ℕ → Name → Option Found → Type 0
+Sought s first count n None = (j : ℕ) → j < count → same n (name_at (drop first s) j) ≡ false
+Sought s first count n (Some x) =
+    (x.line < count) × (x.place ≤ length s) × (drop x.place s ≡ entry_from x.line (drop first s)) × (same n (name_at (drop first s) x.line) ≡ true)
 
 -- ---------------------------------------------------------------- the table
 
@@ -59,19 +61,49 @@ hash_of n = elim (leb (length n) 16) [ true ↦ hash_from 0 n | false ↦ hash_f
 abbrev pub hash_at : List ℕ → ℕ → ℕ
 hash_at b k = hash_of (name_at b k)
 
--- Places 0 to 1,535 hold where the name of each line begins; the next 1,536, for each line, 1 and the number of the last line before it
--- with the same hash, or 0; the next 4,096, for each hash, 1 and the number of the last line with it, or 0.
--- Of the places from 7,168 on nothing is asked here.
-pub record Chains (s b t : List ℕ) (count : ℕ) : Type 0 where
-  pub place : (k : ℕ) → k < count → get_or t k 0 ≤ length s
-  pub entry : (k : ℕ) → k < count → drop (get_or t k 0) s ≡ entry_from k b
-  pub head_all : (k : ℕ) → k < count → k < get_or t (3072 + hash_at b k) 0
-  pub head-own : (h : ℕ) → h < 4096 → (k : ℕ) → get_or t (3072 + h) 0 ≡ suc k → (k < count) × (hash_at b k ≡ h)
-  pub next_all : (k : ℕ) → k < count → (j : ℕ) → j < k → hash_at b j ≡ hash_at b k → j < get_or t (1536 + k) 0
-  pub next_own : (k : ℕ) → k < count → (j : ℕ) → get_or t (1536 + k) 0 ≡ suc j → (j < k) × (hash_at b j ≡ hash_at b k)
+-- where the name of line k begins; 1 and the number of the last line before it with the same hash, or 0
+abbrev pub no_line : Line
+no_line = record { place = 0; before = 0 }
+
+abbrev pub place_of : Table → ℕ → ℕ
+place_of t k = (get_or t.lines k no_line).place
+
+abbrev pub before_of : Table → ℕ → ℕ
+before_of t k = (get_or t.lines k no_line).before
+
+-- 1 and the number of the last line with the hash h, or 0
+abbrev pub last_of : Table → ℕ → ℕ
+last_of t h = get_or t.last h 0
+
+-- the numbers of line k
+abbrev pub no_measure : Measure
+no_measure = record { first = 0; second = 0 }
+
+abbrev pub measure_of : Table → ℕ → Measure
+measure_of t k = get_or t.measures k no_measure
+
+-- Of the numbers of lines nothing is asked here.
+pub record Chains (s b : List ℕ) (t : Table) (count : ℕ) : Type 0 where
+  pub place : (k : ℕ) → k < count → place_of t k ≤ length s
+  pub entry : (k : ℕ) → k < count → drop (place_of t k) s ≡ entry_from k b
+  pub head_all : (k : ℕ) → k < count → k < last_of t (hash_at b k)
+  pub head-own : (h : ℕ) → h < 4096 → (k : ℕ) → last_of t h ≡ suc k → (k < count) × (hash_at b k ≡ h)
+  pub next_all : (k : ℕ) → k < count → (j : ℕ) → j < k → hash_at b j ≡ hash_at b k → j < before_of t k
+  pub next_own : (k : ℕ) → k < count → (j : ℕ) → before_of t k ≡ suc j → (j < k) × (hash_at b j ≡ hash_at b k)
+
+-- the arrays' lengths
+pub record Long (t : Table) : Type 0 where
+  pub lines : length t.lines ≡ 1536
+  pub last : length t.last ≡ 4096
+  pub measures : length t.measures ≡ 1536
+
+-- no line is in the table
+pub record Empty (t : Table) : Type 0 where
+  pub long : Long t
+  pub zeros : (h : ℕ) → h < 4096 → last_of t h ≡ 0
 
 -- The table of the first `count` lines from place `first` on. Past 1,536 lines nothing is asked of it: the lines themselves are looked at.
-pub record Tabled (s : List ℕ) (first : ℕ) (t : List ℕ) (count : ℕ) : Type 0 where
-  pub long : length t ≡ 10240
+pub record Tabled (s : List ℕ) (first : ℕ) (t : Table) (count : ℕ) : Type 0 where
+  pub long : Long t
   pub closed : AllClosed (drop first s) count
   pub chains : count ≤ 1536 → Chains s (drop first s) t count

@@ -1,20 +1,21 @@
 -- Laws of the names between bars, and of their hashes.
-use Rattle.std.specs.Prelude.{ℕ, zero, suc, ◌+◌, ◌*◌, ◌-◌, ◌%◌, ◌≤◌, ◌<◌, min, ◌≡◌, refl, List, [], ◌∷◌, ◌++◌, Bool, true, false, T, eqb, leb, ltb, length, take, drop, get_or, set}
-use Rattle.std.proofs.Common.{ap, sym, ◌∙◌, subst, append_assoc, arith, eqb→eq, ltb→lt, nltb→le, le-leb, length-set, length-append, length-take, length-drop, take-append-drop, drop-drop, drop-cons, take-take, length-take-le, get_or-take, get_or-drop, get_or-set_other}
-use Rattle.std.proofs.Math.Option.{Option, none, some}
+use Rattle.std.specs.Prelude.{ℕ, zero, suc, ◌+◌, ◌*◌, ◌-◌, ◌%◌, ◌≤◌, ◌<◌, min, ◌≡◌, refl, List, [], ◌∷◌, ◌++◌, Bool, true, false, ◌&&◌, T, eqb, leb, ltb, length, take, drop, get_or, Some, None, unwrap_or}
+use Rattle.std.specs.Prelude.{Option as Maybe}
+use Rattle.std.specs.Cmp.Lexicographic.{pointwise}
+use Rattle.std.proofs.Common.{drop_of_length-le, ap, sym, ◌∙◌, subst, append_assoc, arith, eqb→eq, ltb→lt, nltb→le, le-leb, length-take, length-drop, take-append-drop, drop-drop, drop-cons, take-take, length-take-le}
+use Rattle.std.proofs.Math.Option.{Option, none}
 use Rattle.std.proofs.lemmas.Bool.{eqb-false, lt-leb}
 use Rattle.std.proofs.Math.Seq.{drop-length, take-nil}
 use Rattle.lists.specs.Bytes.{bytes}
 use Rattle.lists.specs.Tests.{same, same→eq, same_refl, T→true, true→T, no→false}
 use Rattle.reading.specs.Trees.{Name}
 use Rattle.readback.specs.Reader.{Took, took, and_then, expect, up_to, name_read}
-use Rattle.reader_laws.specs.TermsStrict.{impossible, and-then, took-both, expected, name-strict}
+use Rattle.reader_laws.specs.TermsStrict.{impossible, took-both, name-strict}
 use Rattle.script_tokens.specs.Reached.{between, NameTo, ends_name}
-use Rattle.script_tokens.specs.declared.Step.{Step}
-use Rattle.script_tokens.specs.declared.Step.TheVariants.{No, To}
-use Rattle.echo_names.specs.Compared.{Compared, compared_same, compared-apart, compared_at, compared-past, compared-end}
-use Rattle.script_names.specs.Chains.{entered, chains-more, hash-small}
-use Rattle.script_names.specs.Entries.{after_bar, entry_from, name_here, name_at, Named, Closed, AllClosed, hash_from, hash_of, hash_at, Chains, Tabled}
+use Rattle.script_names.specs.declared.Measure.{Measure}
+use Rattle.script_names.specs.declared.Table.{Table}
+use Rattle.script_names.specs.Chains.{entered, entered-long, chains-more}
+use Rattle.script_names.specs.Entries.{after_bar, entry_from, name_here, name_at, Named, Closed, hash_from, hash_of, hash_at, before_of, last_of, Chains, Empty, Tabled}
 
 -- ---------------------------------------------------------------- a name and its bar
 
@@ -110,19 +111,13 @@ name-same s a f p y h e c =
 
 -- ---------------------------------------------------------------- hashes
 
-between_first : (s : List ℕ) (i e : ℕ) → i < e → e ≤ length s → between s i e ≡ get_or s i 0 ∷ between s (i + 1) e
-between_first s i e l h =
-    let z : e - i ≡ suc (e - (i + 1)) = omega arith in
-    let y : i + 1 ≡ suc i = omega arith in
-    (λ j. take (z j) (drop-cons s i 0 (omega arith) j)) ∙ ap (λ (k : ℕ). get_or s i 0 ∷ take (e - (i + 1)) (drop k s)) (sym y)
-
-pub hash-more : (s : List ℕ) (h i e : ℕ) → i < e → e ≤ length s → hash_from h (between s i e) ≡ hash_from ((h * 31 + get_or s i 0) % 4096) (between s (i + 1) e)
+pub hash-more : (xs : List ℕ) (h i : ℕ) → i < length xs → hash_from h (drop i xs) ≡ hash_from ((h * 31 + get_or xs i 0) % 4096) (drop (i + 1) xs)
 unfolding hash_from
-hash-more s h i e l m = ap (hash_from h) (between_first s i e l m)
+hash-more xs h i l = let z : i + 1 ≡ suc i = omega arith in rw (z, drop-cons xs i 0 l, hash_from)
 
-pub hash-end : (s : List ℕ) (h i : ℕ) → hash_from h (between s i i) ≡ h
+pub hash-end : (xs : List ℕ) (h i : ℕ) → length xs ≤ i → hash_from h (drop i xs) ≡ h
 unfolding hash_from
-hash-end s h i = let z : i - i ≡ 0 = omega arith in rw z refl
+hash-end xs h i l = rw (drop_of_length-le xs {i = i} l)
 
 pub between-length : (s : List ℕ) (a e : ℕ) → a ≤ e → e ≤ length s → length (between s a e) ≡ e - a
 between-length s a e l m = let d = length-drop a s in length-take-le (e - a) (drop a s) (omega arith)
@@ -166,15 +161,9 @@ other-hash n m f = no→false (same n m) (λ h. f (ap hash_of (sym (same→eq n 
 
 -- ---------------------------------------------------------------- for the functions
 
-pub after-name : (s : List ℕ) (at : ℕ) {e : ℕ} {r : Step} → NameTo s at (name_read (drop at s)) r → r ≡ To e → (e ≤ length s) × (drop e s ≡ after_bar (drop at s))
-after-name s at {e} {r} h q =
-    let k : NameTo s at (name_read (drop at s)) (To e) = subst (NameTo s at (name_read (drop at s))) q h in
-    (k.1, sym (taken (drop at s) (between s at (e - 1)) (drop e s) k.2).after)
-
-pub after-end : (s : List ℕ) (at : ℕ) {r : Step} → NameTo s at (name_read (drop at s)) r → r ≡ No → (length s ≤ length s) × (drop (length s) s ≡ after_bar (drop at s))
-after-end s at {r} h q =
-    let k : NameTo s at (name_read (drop at s)) No = subst (NameTo s at (name_read (drop at s))) q h in
-    (omega arith, drop-length s ∙ sym (after_open (drop at s) k))
+pub after-place : (s : List ℕ) (at : ℕ) (r : Maybe ℕ) → NameTo s at (name_read (drop at s)) r → (unwrap_or r (length s) ≤ length s) × (drop (unwrap_or r (length s)) s ≡ after_bar (drop at s))
+after-place s at None h = (omega arith, drop-length s ∙ sym (after_open (drop at s) h))
+after-place s at (Some e) h = (h.1, sym (taken (drop at s) (between s at (e - 1)) (drop e s) h.2).after)
 
 pub name-short : (s : List ℕ) (a f p : ℕ) → a ≤ f → f ≤ length s → length s - p < f - a → false ≡ same (between s a f) (take (f - a) (drop p s))
 name-short s a f p l m k = sym (no→false (same (between s a f) (take (f - a) (drop p s))) (λ h.
@@ -186,32 +175,13 @@ name-short s a f p l m k = sym (no→false (same (between s a f) (take (f - a) (
 pub name-part : (s : List ℕ) (a f p : ℕ) → same (between s a f) (take (p + (f - a) - p) (drop p s)) ≡ same (between s a f) (take (f - a) (drop p s))
 name-part s a f p = let z : p + (f - a) - p ≡ f - a = omega arith in rw z refl
 
--- a byte of a part
-part_at : (s : List ℕ) (a m i : ℕ) → i < m → get_or (take m (drop a s)) i 0 ≡ get_or s (a + i) 0
-part_at s a m i l = get_or-take m (drop a s) i 0 l ∙ get_or-drop a s i 0
-
--- two parts of m bytes, compared up to place i
-abbrev pub Alike : List ℕ → ℕ → ℕ → ℕ → ℕ → Bool → Type 0
-Alike s a p m i ok = Compared (take m (drop a s)) (take m (drop p s)) 0 i ok
-
-module _ (s : List ℕ) (a p m : ℕ) where
-  pub alike-more : (i : ℕ) → i < m → get_or s (a + i) 0 ≡ get_or s (p + i) 0 → Alike s a p m i true → Alike s a p m (i + 1) true
-  alike-more i l e h = compared_same h (part_at s a m i l ∙ e ∙ sym (part_at s p m i l))
-
-  module _ (low : a + m ≤ length s) (high : p + m ≤ length s) where
-    long-a : length (take m (drop a s)) ≡ m
-    long-a = let d = length-drop a s in length-take-le m (drop a s) (omega arith)
-
-    long-p : length (take m (drop p s)) ≡ m
-    long-p = let d = length-drop p s in length-take-le m (drop p s) (omega arith)
-
-    pub alike-not : (i : ℕ) → i < m → (get_or s (a + i) 0 ≡ get_or s (p + i) 0 → ⊥) → Alike s a p m i true → false ≡ same (take m (drop a s)) (take m (drop p s))
-    alike-not i l f h =
-        compared-end (long-a ∙ sym long-p) (λ j x y. absurd (omega arith))
-        (compared-past (compared-apart h (λ e. f (sym (part_at s a m i l) ∙ e ∙ part_at s p m i l))))
-
-    pub alike_end : (i : ℕ) → i ≡ m → Alike s a p m i true → true ≡ same (take m (drop a s)) (take m (drop p s))
-    alike_end i e h = compared-end (long-a ∙ sym long-p) (λ j x y. absurd (omega arith)) (compared_at h (e ∙ sym long-a))
+-- comparing as slices
+pub same-slices : (x y : List ℕ) → pointwise eqb x y ≡ same x y
+unfolding same
+same-slices [] [] = refl
+same-slices [] (y ∷ ys) = refl
+same-slices (x ∷ xs) [] = refl
+same-slices (x ∷ xs) (y ∷ ys) = ap (λ (t : Bool). eqb x y && t) (same-slices xs ys)
 
 -- what holds of each number below k, and of k
 pub all_more : (P : ℕ → Type 0) (k : ℕ) → ((j : ℕ) → j < k → P j) → P k → (j : ℕ) → j < k + 1 → P j
@@ -242,13 +212,13 @@ pub walked-bound : {b : List ℕ} {n : Name} {count : ℕ} (c : ℕ) → Walked 
 walked-bound zero w = omega arith
 walked-bound (suc k) w = omega (arith, (w.own k refl).0)
 
-pub walk_start : (s b t : List ℕ) (count : ℕ) (n : Name) (h : ℕ) → Chains s b t count → h ≡ hash_of n → h < 4096 → Walked b n count (get_or t (3072 + h) 0)
+pub walk_start : (s b : List ℕ) (t : Table) (count : ℕ) (n : Name) (h : ℕ) → Chains s b t count → h ≡ hash_of n → h < 4096 → Walked b n count (last_of t h)
 walk_start s b t count n h x e l = record {
-  past = λ j m q. other-hash n (name_at b j) (λ g. (let y = x.head_all j q in let z : get_or t (3072 + hash_at b j) 0 ≡ get_or t (3072 + h) 0 = ap (λ (i : ℕ). get_or t (3072 + i) 0) (g ∙ sym e) in omega arith));
+  past = λ j m q. other-hash n (name_at b j) (λ g. (let y = x.head_all j q in let z : last_of t (hash_at b j) ≡ last_of t h = ap (λ (i : ℕ). last_of t i) (g ∙ sym e) in omega arith));
   own = λ k q. (let r = x.head-own h l k q in (r.0, r.1 ∙ e));
 }
 
-pub walk-on : (s b t : List ℕ) (count : ℕ) (n : Name) (k : ℕ) → Chains s b t count → Walked b n count (suc k) → same n (name_at b k) ≡ false → Walked b n count (get_or t (1536 + k) 0)
+pub walk-on : (s b : List ℕ) (t : Table) (count : ℕ) (n : Name) (k : ℕ) → Chains s b t count → Walked b n count (suc k) → same n (name_at b k) ≡ false → Walked b n count (before_of t k)
 walk-on s b t count n k x w q =
     let o = w.own k refl in
     record {
@@ -256,7 +226,7 @@ walk-on s b t count n k x w q =
       own = λ j e. (let r = x.next_own k o.0 j e in (omega (arith, r.0, o.0), r.1 ∙ o.1));
     }
   where
-    by_place : (j : ℕ) (t₁ : Bool) → ltb j k ≡ t₁ → (t₂ : Bool) → eqb j k ≡ t₂ → get_or t (1536 + k) 0 ≤ j → j < count → same n (name_at b j) ≡ false
+    by_place : (j : ℕ) (t₁ : Bool) → ltb j k ≡ t₁ → (t₂ : Bool) → eqb j k ≡ t₂ → before_of t k ≤ j → j < count → same n (name_at b j) ≡ false
     by_place j true p t₂ r m l =
         let lower : j < k = ltb→lt j k (true→T p) in
         let o = w.own k refl in
@@ -267,20 +237,20 @@ walk-on s b t count n k x w q =
         let apart = eqb-false j k r in
         w.past j (omega arith) l
 
-module _ (s b t : List ℕ) (count : ℕ) (n : Name) (c : ℕ) (x : Chains s b t count) (w : Walked b n count c) (above : 0 < c) where
+module _ (s b : List ℕ) (t : Table) (count : ℕ) (n : Name) (c : ℕ) (x : Chains s b t count) (w : Walked b n count c) (above : 0 < c) where
   at-line : Walked b n count (suc (c - 1))
   at-line = let z : c ≡ suc (c - 1) = omega arith in subst (Walked b n count) z w
 
   pub walk_inside : c - 1 < count
   walk_inside = (at-line.own (c - 1) refl).0
 
-  pub walk_step : same n (name_at b (c - 1)) ≡ false → Walked b n count (get_or t (1536 + (c - 1)) 0)
+  pub walk_step : same n (name_at b (c - 1)) ≡ false → Walked b n count (before_of t (c - 1))
   walk_step q = walk-on s b t count n (c - 1) x at-line q
 
-  pub walk-less : get_or t (1536 + (c - 1)) 0 < c
-  walk-less = by_next (get_or t (1536 + (c - 1)) 0) refl
+  pub walk-less : before_of t (c - 1) < c
+  walk-less = by_next (before_of t (c - 1)) refl
     where
-      by_next : (y : ℕ) → get_or t (1536 + (c - 1)) 0 ≡ y → y < c
+      by_next : (y : ℕ) → before_of t (c - 1) ≡ y → y < c
       by_next zero e = above
       by_next (suc j) e = let r = x.next_own (c - 1) walk_inside j e in omega (arith, r.0)
 
@@ -298,20 +268,20 @@ entered-closed s a f y h e = record {
   read = ap name_read (sym e) ∙ h.read ∙ ap (λ (m : Name). took m (drop f s)) (sym (entered-name s a f y h e));
 }
 
-pub tabled-more : (s : List ℕ) (first : ℕ) (t : List ℕ) (count a f h : ℕ) → Tabled s first t count → Named s a f → drop a s ≡ entry_from count (drop first s)
+pub tabled-more : (s : List ℕ) (first : ℕ) (t : Table) (count a f h : ℕ) → Tabled s first t count → Named s a f → drop a s ≡ entry_from count (drop first s)
     → count < 1536 → h ≡ hash_of (between s a (f - 1)) → Tabled s first (entered t count a h) (count + 1)
 tabled-more s first t count a f h x n e room q =
     let y : List ℕ = entry_from count (drop first s) in
     let g : h ≡ hash_at (drop first s) count = q ∙ ap hash_of (sym (entered-name s a f y n e)) in
     record {
-      long = length-set (set (set t count a) (1536 + count) (get_or t (3072 + h) 0)) (3072 + h) (count + 1) ∙ length-set (set t count a) (1536 + count) (get_or t (3072 + h) 0) ∙ length-set t count a ∙ x.long;
+      long = entered-long t count a h x.long;
       closed = all_more (λ k. Closed (entry_from k (drop first s))) count x.closed (entered-closed s a f y n e);
       chains = λ m. subst (λ (i : ℕ). Chains s (drop first s) (entered t count a i) (count + 1)) (sym g)
           (chains-more s (drop first s) t count a room x.long (x.chains (omega arith)) (omega (arith, n.low, n.high)) e);
     }
 
 -- past the table's room
-pub tabled-past : (s : List ℕ) (first : ℕ) (t : List ℕ) (count a f : ℕ) → Tabled s first t count → Named s a f → drop a s ≡ entry_from count (drop first s)
+pub tabled-past : (s : List ℕ) (first : ℕ) (t : Table) (count a f : ℕ) → Tabled s first t count → Named s a f → drop a s ≡ entry_from count (drop first s)
     → 1536 ≤ count → Tabled s first t (count + 1)
 tabled-past s first t count a f x n e l = record {
   long = x.long;
@@ -320,36 +290,29 @@ tabled-past s first t count a f x n e l = record {
 }
 
 -- the table before any line
-pub tabled_start : (s : List ℕ) (first : ℕ) (t : List ℕ) → length t ≡ 10240 → ((h : ℕ) → h < 4096 → get_or t (3072 + h) 0 ≡ 0) → Tabled s first t 0
-tabled_start s first t l z = record {
-  long = l;
+pub tabled_start : (s : List ℕ) (first : ℕ) (t : Table) → Empty t → Tabled s first t 0
+tabled_start s first t z = record {
+  long = z.long;
   closed = λ k m. absurd (omega arith);
   chains = λ m. record {
     place = λ k q. absurd (omega arith);
     entry = λ k q. absurd (omega arith);
     head_all = λ k q. absurd (omega arith);
-    head-own = λ h q k e. absurd (let y : 0 ≡ suc k = sym (z h q) ∙ e in omega arith);
+    head-own = λ h q k e. absurd (let y : 0 ≡ suc k = sym (z.zeros h q) ∙ e in omega arith);
     next_all = λ k q. absurd (omega arith);
     next_own = λ k q. absurd (omega arith);
   };
 }
 
--- ---------------------------------------------------------------- places past the chains
+-- ---------------------------------------------------------------- the numbers of lines
 
--- what is written from place 7,168 on leaves the chains as they are
-chains-kept : (s b t u : List ℕ) (count : ℕ) → count ≤ 1536 → ((i : ℕ) → i < 7168 → get_or u i 0 ≡ get_or t i 0) → Chains s b t count → Chains s b u count
-chains-kept s b t u count few same_at x = record {
-  place = λ k l. rw (same_at k (omega arith)) (x.place k l);
-  entry = λ k l. rw (same_at k (omega arith)) (x.entry k l);
-  head_all = λ k l. (let y = hash-small (name_at b k) in rw (same_at (3072 + hash_at b k) (omega arith)) (x.head_all k l));
-  head-own = λ h l k q. x.head-own h l k (sym (same_at (3072 + h) (omega arith)) ∙ q);
-  next_all = λ k l j m q. rw (same_at (1536 + k) (omega arith)) (x.next_all k l j m q);
-  next_own = λ k l j q. x.next_own k l j (sym (same_at (1536 + k) (omega arith)) ∙ q);
-}
+-- what is written there leaves the chains as they are
+chains-kept : (s b : List ℕ) (t : Table) (count : ℕ) (ms : List Measure) → Chains s b t count → Chains s b (record t { measures = ms }) count
+chains-kept s b t count ms x = record { place = x.place; entry = x.entry; head_all = x.head_all; head-own = x.head-own; next_all = x.next_all; next_own = x.next_own }
 
-pub tabled-kept : {s : List ℕ} {first : ℕ} {t : List ℕ} {count : ℕ} (i x : ℕ) → 7168 ≤ i → Tabled s first t count → Tabled s first (set t i x) count
-tabled-kept {s} {first} {t} {count} i x l y = record {
-  long = length-set t i x ∙ y.long;
+pub tabled-kept : {s : List ℕ} {first : ℕ} {t : Table} {count : ℕ} (ms : List Measure) → length ms ≡ 1536 → Tabled s first t count → Tabled s first (record t { measures = ms }) count
+tabled-kept {s} {first} {t} {count} ms l y = record {
+  long = record { lines = y.long.lines; last = y.long.last; measures = l };
   closed = y.closed;
-  chains = λ m. chains-kept s (drop first s) t (set t i x) count m (λ j p. get_or-set_other t i j x 0 (λ e. omega arith)) (y.chains m);
+  chains = λ m. chains-kept s (drop first s) t count ms (y.chains m);
 }

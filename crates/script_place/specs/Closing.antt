@@ -1,5 +1,6 @@
 -- A term at its bracket: its node, by its head and the operands that wait.
-use Rattle.std.specs.Prelude.{ℕ, zero, suc, ◌+◌, ◌*◌, ◌≤◌, ◌<◌, ◌≡◌, T, length, drop, get_or}
+use Rattle.std.specs.Prelude.{ℕ, zero, suc, ◌+◌, ◌*◌, ◌≤◌, ◌<◌, ◌≡◌, T, length, drop, get_or, Result, Ok, Err, Some, None}
+use Rattle.std.specs.Prelude as code
 use Rattle.std.proofs.Math.Path.{refl, ap}
 use Rattle.std.proofs.Common.{sym, ◌∙◌, subst, arith, length-append}
 use mathlib.Core.List.{List, [], ◌∷◌, ◌++◌, map}
@@ -12,7 +13,8 @@ use Rattle.readback.specs.Rebuild.{Item, an_operator, a_select, a_call, Ref, Put
 use Rattle.readback.specs.Reader.{took, read_term}
 use Rattle.rebuilt.specs.Built.{array_at, function_at}
 use Rattle.rebuilt.specs.Known.{select-known, call_known}
-use Rattle.heap_laws.specs.Heap.{top_in, pending_in, pairs_back}
+use Rattle.heap_laws.specs.Heap.{pending_in, pairs_back}
+use Rattle.heap_laws.specs.declared.Heap.{Heap}
 use Rattle.heap_laws.specs.Within.{within-parts}
 use Rattle.place_laws.specs.Ahead.{stored_then, stores_in}
 use Rattle.place_laws.specs.Operands.{operands_of, amounts_of, put-operator, put-call, put-select, select-refs}
@@ -22,10 +24,11 @@ use Rattle.place_laws.specs.SoFar.{NoLeaf, so-far-end, node-low}
 use Rattle.script_heads.specs.declared.Head.{Head}
 use Rattle.script_heads.specs.declared.Head.TheVariants.{Operator, Call, Select}
 use Rattle.script_heads.specs.Heads.{numerals_of, name_to, select_name, NullaryAt}
-use Rattle.script_heap.specs.declared.Settled.{Settled}
-use Rattle.script_heap.specs.declared.Settled.TheVariants.{Over as OverLimit, At}
 use Rattle.script_ends.specs.declared.Seen.{Seen}
 use Rattle.script_ends.specs.Ends.{EndedAs, Ending, OperatorEnds, operator_item}
+use Rattle.script_place.specs.declared.Unread.{Unread}
+use Rattle.script_place.specs.declared.Unread.TheVariants.{Limit}
+use Rattle.script_place.specs.declared.Operand.TheVariants.{Node}
 use Rattle.script_place.specs.declared.Placed.{Placed}
 use Rattle.script_place.specs.Terms.{PlacedTo, Finished, Closing}
 use Rattle.script_place.specs.Forms.{at_byte, leaf-form, operator-form, call-form, select-form}
@@ -47,32 +50,32 @@ second-numeral (suc (suc m)) i j b p q = p (omega arith)
 -- ---------------------------------------------------------------- a term that ends
 
 -- the end of a term, as `place` answers it
-module _ (s heap nodes bits : List ℕ) (at : ℕ) (rest : List ℕ) (width : ℕ) (D : Declarations) (tree : Tree) (first : List Item) (refs : List Ref) (levels side : ℕ) where
-  ended-placed : (r : Settled) (w e : ℕ) (p : Placed) → at < e → e ≤ length s → rest ≡ drop e s → w ≡ width → NoLeaf tree → EndedAs s heap nodes bits refs (put D tree first) r → Finished r w e p
-      → PlacedTo s heap nodes bits at rest width (put D tree first) refs levels side p
-  ended-placed OverLimit w e p a b c d f h q =
-      subst (PlacedTo s heap nodes bits at rest width (put D tree first) refs levels side) (sym q) (λ r. over_none levels side (put D tree first).items h r)
-  ended-placed (At i) w e p a b c d f (x, y, z) q =
+module _ (s : List ℕ) (heap : Heap) (at : ℕ) (rest : List ℕ) (width : ℕ) (D : Declarations) (tree : Tree) (first : List Item) (refs : List Ref) (levels side : ℕ) where
+  ended-placed : (r : code.Option ℕ) (w e : ℕ) (p : Result Placed Unread) → at < e → e ≤ length s → rest ≡ drop e s → w ≡ width → NoLeaf tree → EndedAs s heap refs (put D tree first) r → Finished r w e p
+      → PlacedTo s heap at rest width (put D tree first) refs levels side p
+  ended-placed None w e p a b c d f h q =
+      subst (PlacedTo s heap at rest width (put D tree first) refs levels side) (sym q) (λ r. over_none levels side (put D tree first).items h r)
+  ended-placed (Some i) w e p a b c d f (x, y, z) q =
       let l = node-low D tree first i f x in
       let k = (within-parts (put D tree first).items y.inside).nodes in
-      subst (PlacedTo s heap nodes bits at rest width (put D tree first) refs levels side) (sym q)
+      subst (PlacedTo s heap at rest width (put D tree first) refs levels side) (sym q)
       (record { low = a; high = b; ends = c; wide = d; is = x; held = y; stacked = z }, omega arith)
 
-module _ {s heap nodes bits : List ℕ} {x : Head} {base : ℕ} {v : Seen} {e at : ℕ} {D : Declarations} {tree : Tree} {sort : TreeSort} {rest : List ℕ} {first : List Item} {refs : List Ref}
-    (c : Closing s heap nodes bits x base v e at D tree sort rest first refs) where
-  pub ending : Ending s heap nodes bits base c.now refs c.rs
+module _ {s : List ℕ} {heap : Heap} {x : Head} {base : ℕ} {v : Seen} {e at : ℕ} {D : Declarations} {tree : Tree} {sort : TreeSort} {rest : List ℕ} {first : List Item} {refs : List Ref}
+    (c : Closing s heap x base v e at D tree sort rest first refs) where
+  pub ending : Ending s heap base c.now refs c.rs
   ending = record { held = c.held; stacked = c.stacked; below = c.below }
 
   pub bracket-low : e < length s
   bracket-low = (at_byte s e 41 rest c.bracket).0
 
-  pub closed-placed : (heap' nodes' bits' : List ℕ) (p : Put) → p ≡ put D tree first → NoLeaf tree → (r : Settled) (w : ℕ) (z : Placed) → w ≡ width_of (some sort)
-      → EndedAs s heap' nodes' bits' refs p r → Finished r w (e + 1) z → (levels side : ℕ) → PlacedTo s heap' nodes' bits' at rest (width_of (some sort)) (put D tree first) refs levels side z
-  closed-placed heap' nodes' bits' p q n r w z d h f levels side =
+  pub closed-placed : (heap' : Heap) (p : Put) → p ≡ put D tree first → NoLeaf tree → (r : code.Option ℕ) (w : ℕ) (z : Result Placed Unread) → w ≡ width_of (some sort)
+      → EndedAs s heap' refs p r → Finished r w (e + 1) z → (levels side : ℕ) → PlacedTo s heap' at rest (width_of (some sort)) (put D tree first) refs levels side z
+  closed-placed heap' p q n r w z d h f levels side =
       let l = bracket-low in
       let k = c.low in
-      ended-placed s heap' nodes' bits' at rest (width_of (some sort)) D tree first refs levels side r w (e + 1) z (omega arith) (omega arith) (at_byte s e 41 rest c.bracket).1 d n
-      (subst (λ (y : Put). EndedAs s heap' nodes' bits' refs y r) q h) f
+      ended-placed s heap' at rest (width_of (some sort)) D tree first refs levels side r w (e + 1) z (omega arith) (omega arith) (at_byte s e 41 rest c.bracket).1 d n
+      (subst (λ (y : Put). EndedAs s heap' refs y r) q h) f
 
   puts : (ts : Trees) → operands_of tree ≡ ts → put_all D ts first ≡ record { items = c.now; refs = c.rs }
   puts ts q = ap (λ (us : Trees). put_all D us first) (sym q) ∙ (so-far-end D (operands_of tree) first c.now c.rs c.os c.far).0
@@ -94,8 +97,8 @@ pub operands-of-select : (a : Name) (j : Tree) (ss : Stores) → operands_of (se
 unfolding operands_of
 operands-of-select a j ss = refl
 
-module _ {s heap nodes bits : List ℕ} {k m i j from base : ℕ} {v : Seen} {e at : ℕ} {D : Declarations} {tree : Tree} {sort : TreeSort} {rest : List ℕ} {first : List Item} {refs : List Ref}
-    (c : Closing s heap nodes bits (Operator k m i j from) base v e at D tree sort rest first refs) where
+module _ {s : List ℕ} {heap : Heap} {k m i j from base : ℕ} {v : Seen} {e at : ℕ} {D : Declarations} {tree : Tree} {sort : TreeSort} {rest : List ℕ} {first : List Item} {refs : List Ref}
+    (c : Closing s heap (Operator k m i j from) base v e at D tree sort rest first refs) where
   abbrev pub numerals : List ℕ
   numerals = numerals_of m i j
 
@@ -176,8 +179,8 @@ module _ (D : Declarations) (n : Name) (g w : ℕ) (there : function_number D n 
       ∙ ap (λ (o : PutAll). ended (pending_in o.refs) (λ node. a_call (number_or0 (function_number D n)) (width_of (tree_sort D (call n ts))) (map node o.refs)) o.items) q
       ∙ (λ i. ended (pending_in rs) (λ node. a_call (number_is i) (z i) (map node rs)) now))
 
-module _ {s heap nodes bits : List ℕ} {g p w from base : ℕ} {v : Seen} {e at : ℕ} {D : Declarations} {tree : Tree} {sort : TreeSort} {rest : List ℕ} {first : List Item} {refs : List Ref}
-    (c : Closing s heap nodes bits (Call g p w from) base v e at D tree sort rest first refs) where
+module _ {s : List ℕ} {heap : Heap} {g p w from base : ℕ} {v : Seen} {e at : ℕ} {D : Declarations} {tree : Tree} {sort : TreeSort} {rest : List ℕ} {first : List Item} {refs : List Ref}
+    (c : Closing s heap (Call g p w from) base v e at D tree sort rest first refs) where
   call-trees : Trees
   call-trees = (call-form s D at c.steps tree rest c.read c.head).0
 
@@ -214,19 +217,19 @@ module _ {s : List ℕ} {D : Declarations} {at g w e : ℕ} (x : NullaryAt s D a
   alone-put items =
       call-item D (name_to s (at + 1) e) g w x.entry.numbers.function x.entry.width noTrees sort alone-sorted [] items items refl ∙ ap (λ (t : Tree). put D t items) alone-is.0
 
-  pub alone-placed : (heap nodes bits : List ℕ) (items : List Item) (refs : List Ref) (levels side : ℕ) (r : Settled) (p : Placed)
-      → EndedAs s heap nodes bits refs (ended (pending_in []) (λ node. a_call g w (map node [])) items) r → Finished r w e p
-      → PlacedTo s heap nodes bits at rest (width_of (some sort)) (put D tree items) refs levels side p
-  alone-placed heap nodes bits items refs levels side r p h f =
+  pub alone-placed : (heap : Heap) (items : List Item) (refs : List Ref) (levels side : ℕ) (r : code.Option ℕ) (p : Result Placed Unread)
+      → EndedAs s heap refs (ended (pending_in []) (λ node. a_call g w (map node [])) items) r → Finished r w e p
+      → PlacedTo s heap at rest (width_of (some sort)) (put D tree items) refs levels side p
+  alone-placed heap items refs levels side r p h f =
       let l = x.low in
-      ended-placed s heap nodes bits at rest (width_of (some sort)) D tree items refs levels side r w e p (omega arith) x.high (sym alone-is.1)
+      ended-placed s heap at rest (width_of (some sort)) D tree items refs levels side r w e p (omega arith) x.high (sym alone-is.1)
       (call-wide D (name_to s (at + 1) e) g w x.entry.numbers.function x.entry.width noTrees sort alone-sorted) (subst NoLeaf alone-is.0 tt)
-      (subst (λ (y : Put). EndedAs s heap nodes bits refs y r) (alone-put items) h) f
+      (subst (λ (y : Put). EndedAs s heap refs y r) (alone-put items) h) f
 
 -- ---------------------------------------------------------------- selects
 
-module _ {s heap nodes bits : List ℕ} {a i w n from base : ℕ} {v : Seen} {e at : ℕ} {D : Declarations} {tree : Tree} {sort : TreeSort} {rest : List ℕ} {first : List Item} {refs : List Ref}
-    (c : Closing s heap nodes bits (Select a i w n from) base v e at D tree sort rest first refs) where
+module _ {s : List ℕ} {heap : Heap} {a i w n from base : ℕ} {v : Seen} {e at : ℕ} {D : Declarations} {tree : Tree} {sort : TreeSort} {rest : List ℕ} {first : List Item} {refs : List Ref}
+    (c : Closing s heap (Select a i w n from) base v e at D tree sort rest first refs) where
   abbrev array : Name
   array = name_to s (select_name at n) from
 
@@ -265,7 +268,7 @@ module _ {s heap nodes bits : List ℕ} {a i w n from base : ℕ} {v : Seen} {e 
   select-many =
       ap (λ (o : PutAll). length o.refs) (sym select-puts) ∙ select-refs D select-index select-stores first ∙ ap (λ (k : ℕ). 2 * k + 1) select-count
 
-  pub select-top : base + (2 * n + 1) ≡ top_in heap
+  pub select-top : base + (2 * n + 1) ≡ heap.top
   select-top =
       let l = select-many in
       let k = length-append refs c.rs in

@@ -1,36 +1,41 @@
 -- The operands of a term, one after the other: what holds at each turn, and what a turn brings.
-use Rattle.std.specs.Prelude.{ℕ, suc, ◌+◌, ◌-◌, ◌≤◌, ◌<◌, ◌≡◌, refl, List, [], ◌∷◌, ◌++◌, length, drop, get_or}
+use Rattle.std.specs.Prelude.{ℕ, suc, ◌+◌, ◌-◌, ◌≤◌, ◌<◌, ◌≡◌, refl, List, [], ◌∷◌, ◌++◌, length, drop, get_or, Result, Ok, Err, Some, ⊤}
 use Rattle.std.proofs.Common.{ap, sym, ◌∙◌, subst, append_assoc, append-nil, arith, add-one, ne_eqb, length-append, drop-cons}
 use Rattle.std.proofs.Math.Option.{Option, some}
 use Rattle.lists.specs.Places.{grows-length}
 use Rattle.reading.specs.Trees.{Trees, more, Declarations}
 use Rattle.echo_spec.specs.TreeSorts.{TreeSort, width_of, tree_sort}
 use Rattle.readback.specs.Rebuild.{Item, Ref, here, pending, Put, put}
-use Rattle.heap_laws.specs.Heap.{top_in, stack_size, count_in, bits_at, Held, Stacked}
+use Rattle.heap_laws.specs.Heap.{stack_size, Held, Stacked}
+use Rattle.heap_laws.specs.declared.Heap.{Heap}
 use Rattle.place_laws.specs.Ahead.{Ahead, Next, at-blank, at-close, at-end, begins}
 use Rattle.place_laws.specs.Operands.{operands_of}
 use Rattle.place_laws.specs.Room.{Room, put-grows}
 use Rattle.place_laws.specs.SoFar.{SoFar, sides_of, so-far-start, so-far-next, operand-room, few-wait, Sorts, operand-sorts}
 use Rattle.script_heads.specs.declared.Head.{Head}
 use Rattle.script_heads.specs.Heads.{HeadAt}
+use Rattle.script_names.specs.declared.Table.{Table}
+use Rattle.script_header.specs.declared.Header.{Header}
 use Rattle.script_ends.specs.declared.Seen.{Seen}
 use Rattle.script_ends.specs.Parts.{SeenOf, OneMore}
 use Rattle.script_ends.specs.Ends.{Ending}
+use Rattle.script_place.specs.declared.Unread.{Unread}
+use Rattle.script_place.specs.declared.Unread.TheVariants.{NoScript, Limit}
+use Rattle.script_place.specs.declared.Operand.{Operand}
+use Rattle.script_place.specs.declared.Operand.TheVariants.{Node, Constant as Digits}
 use Rattle.script_place.specs.declared.Placed.{Placed}
-use Rattle.script_place.specs.declared.Placed.TheVariants.{No as NotPlaced, Over, Node, Constant as Digits}
-use Rattle.script_place.specs.declared.More.TheVariants.{Over as NoMore, To}
-use Rattle.script_place.specs.Terms.{Term, State, After, PlacedAs, Pushable, MoreTo, Opening, Closing}
+use Rattle.script_place.specs.Terms.{Term, State, After, ref_of, Pushable, PlacedAs, MoreTo, Opening, Closing}
 use Rattle.script_place.specs.Forms.{at_byte}
 use Rattle.script_place.specs.Going.{Opened}
 
 -- The operands are placed up to place e, with n stores left to close.
-pub record Going {s t h heap₀ nodes₀ bits₀ : List ℕ} {at levels : ℕ} (q : Term s t h at) (g : State q.declarations s heap₀ nodes₀ bits₀ levels) (heap nodes bits : List ℕ) (base e n : ℕ) (v : Seen) : Type 0 where
+pub record Going {s : List ℕ} {t : Table} {h : Header} {heap₀ : Heap} {at levels : ℕ} (q : Term s t h at) (g : State q.declarations s heap₀ levels) (heap : Heap) (base e n : ℕ) (v : Seen) : Type 0 where
   pub now : List Item
   pub rs : List Ref
   pub os : List (Option TreeSort)
   pub left : Trees
   pub far : SoFar q.declarations (operands_of q.tree) g.items now rs os left
-  pub held : Held heap nodes bits now
+  pub held : Held heap now
   pub stacked : Stacked s heap (g.refs ++ rs)
   pub below : length g.refs ≡ base
   pub seen : SeenOf v os
@@ -41,9 +46,9 @@ pub record Going {s t h heap₀ nodes₀ bits₀ : List ℕ} {at levels : ℕ} (
   pub low : at < e
 
 -- before the first operand
-pub going_start : {s t h heap nodes bits : List ℕ} {at levels : ℕ} (q : Term s t h at) (g : State q.declarations s heap nodes bits levels) (x : Head) (e n base : ℕ) → Opened q x e n
-    → count_in heap + levels < 2048 → base ≡ top_in heap → Going q g heap nodes bits base e n (record { count = 0; first = 0; second = 0 })
-going_start {s} {t} {h} {heap} {nodes} {bits} {at} {levels} q g x e n base o l b = record {
+pub going_start : {s : List ℕ} {t : Table} {h : Header} {heap : Heap} {at levels : ℕ} (q : Term s t h at) (g : State q.declarations s heap levels) (x : Head) (e n base : ℕ) → Opened q x e n
+    → heap.count + levels < 2048 → base ≡ heap.top → Going q g heap base e n (record { count = 0; first = 0; second = 0 })
+going_start {s} {t} {h} {heap} {at} {levels} q g x e n base o l b = record {
   now = g.items;
   rs = [];
   os = [];
@@ -63,23 +68,15 @@ going_start {s} {t} {h} {heap} {nodes} {bits} {at} {levels} q g x e n base o l b
 pub byte-here : (s : List ℕ) (e c : ℕ) → e < length s → get_or s e 0 ≡ c → drop e s ≡ c ∷ drop (e + 1) s
 byte-here s e c l h = drop-cons s e 0 l ∙ (λ i. h i ∷ drop (sym (add-one e) i) s)
 
--- what is placed can wait
-pub placed-pushable : {s t h heap nodes bits : List ℕ} {at levels : ℕ} (q : Term s t h at) (g : State q.declarations s heap nodes bits levels) (heap' nodes' bits' : List ℕ) (z : Placed)
-    → PlacedAs q g heap' nodes' bits' z → Pushable s z
-placed-pushable q g heap' nodes' bits' NotPlaced p = tt
-placed-pushable q g heap' nodes' bits' Over p = tt
-placed-pushable q g heap' nodes' bits' (Node i w e) p = p.1
-placed-pushable q g heap' nodes' bits' (Digits i w e) p = p.1
-
 -- a term without operands ends at once
-pub alone-ending : {D : Declarations} {s heap nodes bits : List ℕ} {levels : ℕ} (g : State D s heap nodes bits levels) → Ending s heap nodes bits (top_in heap) g.items g.refs []
+pub alone-ending : {D : Declarations} {s : List ℕ} {heap : Heap} {levels : ℕ} (g : State D s heap levels) → Ending s heap heap.top g.items g.refs []
 alone-ending {D} {s} {heap} g = record {
   held = g.held;
   stacked = subst (λ (y : List Ref). Stacked s heap y) (sym (append-nil g.refs)) g.stacked;
   below = sym g.stacked.top;
 }
 
-module _ {s t h heap₀ nodes₀ bits₀ heap nodes bits : List ℕ} {at levels base e n : ℕ} {v : Seen} {q : Term s t h at} {g : State q.declarations s heap₀ nodes₀ bits₀ levels} (w : Going q g heap nodes bits base e n v) where
+module _ {s : List ℕ} {t : Table} {h : Header} {heap₀ : Heap} {heap : Heap} {at levels base e n : ℕ} {v : Seen} {q : Term s t h at} {g : State q.declarations s heap₀ levels} (w : Going q g heap base e n v) where
   pub inside : e < length s
   inside =
       let b = begins q.declarations w.ahead in
@@ -136,7 +133,7 @@ module _ {s t h heap₀ nodes₀ bits₀ heap nodes bits : List ℕ} {at levels 
     }
 
     -- what is there before it
-    abbrev pub operand_state : State q.declarations s heap nodes bits (levels + 1)
+    abbrev pub operand_state : State q.declarations s heap (levels + 1)
     operand_state = record {
       items = w.now;
       held = w.held;
@@ -162,21 +159,20 @@ module _ {s t h heap₀ nodes₀ bits₀ heap nodes bits : List ℕ} {at levels 
         let c = operand_state.waiting in
         omega arith
 
-    -- NO ROOM for an operand: there is none for its term.
-    pub step-over : (heap₁ nodes₁ bits₁ heap₂ : List ℕ) (z : Placed) → PlacedAs operand_term operand_state heap₁ nodes₁ bits₁ z → MoreTo s heap₁ heap₂ z NoMore
-        → Room levels g.side (put q.declarations q.tree g.items).items → ⊥
-    step-over heap₁ nodes₁ bits₁ heap₂ NotPlaced p m r = p
-    step-over heap₁ nodes₁ bits₁ heap₂ Over p m r = p (operand-has-room r)
-    step-over heap₁ nodes₁ bits₁ heap₂ (Node i x f) (p, _) m r = stack-full (m nodes₁ bits₁ _ (g.refs ++ w.rs) p.held p.stacked) r
-    step-over heap₁ nodes₁ bits₁ heap₂ (Digits i x f) (p, _) m r = stack-full (m nodes₁ bits₁ _ (g.refs ++ w.rs) p.held p.stacked) r
+    -- NOT PLACED: the term is not.
+    pub step-not : (heap₁ : Heap) (u : Unread) → PlacedAs operand_term operand_state heap₁ (Err u) → PlacedAs q g heap₁ (Err u)
+    step-not heap₁ NoScript p = p
+    step-not heap₁ Limit p = λ r. p (operand-has-room r)
 
-    -- an operand is placed and waits
-    step-with : (heap₁ nodes₁ bits₁ heap₂ : List ℕ) (ref : Ref) (x f : ℕ) (v' : Seen)
-        → After s heap₁ nodes₁ bits₁ (e + 1) next_here.rest (width_of (some sorts-here.0.0)) (put q.declarations next_here.tree w.now) (g.refs ++ w.rs) ref x f
-        → ((nodes bits : List ℕ) (t : List Item) → Held heap₁ nodes bits t → Held heap₂ nodes bits t)
-        → ((nodes bits : List ℕ) (t : List Item) (refs : List Ref) → Held heap₁ nodes bits t → Stacked s heap₁ refs → Stacked s heap₂ (refs ++ (ref ∷ []))) → OneMore v x v'
-        → Going q g heap₂ nodes₁ bits₁ base f n v' × (e < f) × (f ≤ length s)
-    step-with heap₁ nodes₁ bits₁ heap₂ ref x f v' a k l o =
+    -- NO ROOM for an operand that is placed: there is none for its term.
+    pub step-over : (heap₁ heap₂ : Heap) (z : Placed) (u : Unread) → PlacedAs operand_term operand_state heap₁ (Ok z) → MoreTo s heap₁ heap₂ z.operand (Err u) → PlacedAs q g heap₂ (Err u)
+    step-over heap₁ heap₂ z NoScript p m = m
+    step-over heap₁ heap₂ z Limit (p, _) m = λ r. stack-full (m _ (g.refs ++ w.rs) p.held p.stacked) r
+
+    -- AN OPERAND that is placed and waits.
+    pub step-going : (heap₁ heap₂ : Heap) (z : Placed) (u : ⊤) (v' : Seen) → PlacedAs operand_term operand_state heap₁ (Ok z) → MoreTo s heap₁ heap₂ z.operand (Ok u) → OneMore v z.width v'
+        → Going q g heap₂ base z.end n v' × (e < z.end) × (z.end ≤ length s)
+    step-going heap₁ heap₂ z u v' (a, _) (k, l) o =
         let low = a.low in
         let p : Put = put q.declarations next_here.tree w.now in
         let m = grows-length w.now p.items (put-grows q.declarations next_here.tree w.now) in
@@ -188,8 +184,8 @@ module _ {s t h heap₀ nodes₀ bits₀ heap nodes bits : List ℕ} {at levels 
             os = w.os ++ (tree_sort q.declarations next_here.tree ∷ []);
             left = next_here.others;
             far = so-far-next q.declarations (operands_of q.tree) g.items w.now w.rs w.os next_here.tree next_here.others far-here;
-            held = k nodes₁ bits₁ p.items a.held;
-            stacked = subst (λ (y : List Ref). Stacked s heap₂ y) (append_assoc g.refs w.rs (ref ∷ []) ∙ ap (λ (y : Ref). g.refs ++ (w.rs ++ (y ∷ []))) (sym a.is)) (l nodes₁ bits₁ p.items (g.refs ++ w.rs) a.held a.stacked);
+            held = k p.items a.held;
+            stacked = subst (λ (y : List Ref). Stacked s heap₂ y) (append_assoc g.refs w.rs (ref_of s z.operand ∷ []) ∙ ap (λ (y : Ref). g.refs ++ (w.rs ++ (y ∷ []))) (sym a.is)) (l p.items (g.refs ++ w.rs) a.held a.stacked);
             below = w.below;
             seen = o w.os (tree_sort q.declarations next_here.tree) w.seen (a.wide ∙ ap width_of (sym sorts-here.0.1));
             ahead = subst (λ (y : List ℕ). Ahead q.declarations n y next_here.others q.rest) a.ends next_here.ahead;
@@ -202,20 +198,8 @@ module _ {s t h heap₀ nodes₀ bits₀ heap nodes bits : List ℕ} {at levels 
           a.high,
         )
 
-    -- AN OPERAND that is placed and waits.
-    pub step-going : (heap₁ nodes₁ bits₁ heap₂ : List ℕ) (z : Placed) (x f : ℕ) (v' : Seen) → PlacedAs operand_term operand_state heap₁ nodes₁ bits₁ z → MoreTo s heap₁ heap₂ z (To x f) → OneMore v x v'
-        → Going q g heap₂ nodes₁ bits₁ base f n v' × (e < f) × (f ≤ length s)
-    step-going heap₁ nodes₁ bits₁ heap₂ NotPlaced x f v' p m o = absurd p
-    step-going heap₁ nodes₁ bits₁ heap₂ Over x f v' p m o = absurd (let y : ◌≡◌ {A = ℕ} 0 1 = cc in omega arith)
-    step-going heap₁ nodes₁ bits₁ heap₂ (Node i y z) x f v' (p, _) (a, b, c, d) o =
-        step-with heap₁ nodes₁ bits₁ heap₂ (here i) x f v' (subst (λ (k : ℕ). After s heap₁ nodes₁ bits₁ (e + 1) next_here.rest (width_of (some sorts-here.0.0)) (put q.declarations next_here.tree w.now) (g.refs ++ w.rs) (here i) k f) (sym a)
-        (subst (λ (k : ℕ). After s heap₁ nodes₁ bits₁ (e + 1) next_here.rest (width_of (some sorts-here.0.0)) (put q.declarations next_here.tree w.now) (g.refs ++ w.rs) (here i) y k) (sym b) p)) c d o
-    step-going heap₁ nodes₁ bits₁ heap₂ (Digits i y z) x f v' (p, _) (a, b, c, d) o =
-        step-with heap₁ nodes₁ bits₁ heap₂ (pending (bits_at s i)) x f v' (subst (λ (k : ℕ). After s heap₁ nodes₁ bits₁ (e + 1) next_here.rest (width_of (some sorts-here.0.0)) (put q.declarations next_here.tree w.now) (g.refs ++ w.rs) (pending (bits_at s i)) k f) (sym a)
-        (subst (λ (k : ℕ). After s heap₁ nodes₁ bits₁ (e + 1) next_here.rest (width_of (some sorts-here.0.0)) (put q.declarations next_here.tree w.now) (g.refs ++ w.rs) (pending (bits_at s i)) y k) (sym b) p)) c d o
-
   -- A STORE'S BRACKET.
-  pub close-going : (get_or s e 0 ≡ 32 → ⊥) → 0 < n → Going q g heap nodes bits base (e + 1) (n - 1) v
+  pub close-going : (get_or s e 0 ≡ 32 → ⊥) → 0 < n → Going q g heap base (e + 1) (n - 1) v
   close-going f l = record {
     now = w.now;
     rs = w.rs;
@@ -234,8 +218,8 @@ module _ {s t h heap₀ nodes₀ bits₀ heap nodes bits : List ℕ} {at levels 
   }
 
   -- THE TERM'S OWN BRACKET.
-  pub going-closing : (x : Head) → Opening x → HeadAt s q.declarations at x → (get_or s e 0 ≡ 32 → ⊥) → n ≡ 0
-      → Closing s heap nodes bits x base v e at q.declarations q.tree q.sort q.rest g.items g.refs
+  pub going-closing : (x : Head) → Opening x → HeadAt s q.declarations at (Some x) → (get_or s e 0 ≡ 32 → ⊥) → n ≡ 0
+      → Closing s heap x base v e at q.declarations q.tree q.sort q.rest g.items g.refs
   going-closing x o k f z =
       let (a, b) = at-end q.declarations w.ahead (drop (e + 1) s) z (bracket-here f) in
       record {

@@ -1,5 +1,6 @@
 -- A term that is placed as it is checked: what holds at each turn of its operands, whether or not a term stands there.
-use Rattle.std.specs.Prelude.{ℕ, zero, suc, ◌+◌, ◌-◌, ◌≤◌, ◌<◌, ◌≡◌, refl, List, [], ◌∷◌, ◌++◌, map, Bool, true, false, length, drop, get_or}
+use Rattle.std.specs.Prelude.{ℕ, zero, suc, ◌+◌, ◌-◌, ◌≤◌, ◌<◌, ◌≡◌, refl, List, [], ◌∷◌, ◌++◌, map, Bool, true, false, length, drop, get_or, Result, Ok, Err, Some, None, ⊤}
+use Rattle.std.specs.Prelude as code
 use Rattle.std.proofs.Common.{ap, sym, ◌∙◌, subst, inl, inr, arith, length-append, length-drop}
 use Rattle.std.proofs.Math.Option.{Option, none, some}
 use Rattle.lists.specs.Places.{grows-length}
@@ -10,39 +11,43 @@ use Rattle.readback.specs.Rebuild.{Item, a_call, Ref, here, pending, Put, ended 
 use Rattle.readback.specs.Reader.{Took, took, and_then}
 use Rattle.reader_laws.specs.TermsStrict.{and-then, term-strict}
 use Rattle.sort_reader.specs.Sorted.{sorted}
-use Rattle.heap_laws.specs.Heap.{top_in, count_in, pending_in, bits_at, Held, Stacked}
+use Rattle.heap_laws.specs.Heap.{pending_in, Held, Stacked}
+use Rattle.heap_laws.specs.declared.Heap.{Heap}
 use Rattle.place_laws.specs.Ahead.{Ahead, ends, closes, next, at-close, at-end}
 use Rattle.place_laws.specs.Room.{put-grows}
 use Rattle.script_entries.specs.Entries.{Known}
 use Rattle.script_heads.specs.declared.Head.{Head}
 use Rattle.script_heads.specs.declared.Head.TheVariants.{Nullary}
 use Rattle.script_heads.specs.Heads.{HeadAt}
-use Rattle.script_terms.specs.declared.Sort.TheVariants.{No as NoSort, Is}
+use Rattle.script_names.specs.declared.Table.{Table}
+use Rattle.script_header.specs.declared.Header.{Header}
+use Rattle.script_terms.specs.declared.Coded.{Coded}
+use Rattle.script_terms.specs.declared.Opened.{Opened as Begins}
 use Rattle.script_terms.specs.States.{sort_from, State as Standing, rest, after, Held as HeldIn, enough, Going as Reads, Asking, SortedTo, SortAt}
 use Rattle.script_terms.specs.SortLaws.{sorted-term}
 use Rattle.script_terms.specs.Turns.{Begun, Ended, MovedTo, NextTo}
 use Rattle.script_terms.specs.TurnLaws.{came, went, asking-of, sorted_of}
 use Rattle.script_terms.specs.OperandLaws.{not-zero}
 use Rattle.script_terms.specs.Lengths.{sorted-takes, after-takes, exact-by}
-use Rattle.script_heap.specs.declared.Settled.{Settled}
 use Rattle.script_ends.specs.declared.Seen.{Seen}
 use Rattle.script_ends.specs.Ends.{EndedAs, Ending}
 use Rattle.script_ends.specs.Parts.{SeenOf, OneMore}
+use Rattle.script_place.specs.declared.Unread.{Unread}
+use Rattle.script_place.specs.declared.Unread.TheVariants.{NoScript, Limit}
+use Rattle.script_place.specs.declared.Operand.{Operand}
+use Rattle.script_place.specs.declared.Operand.TheVariants.{Node, Constant as Digits}
 use Rattle.script_place.specs.declared.Placed.{Placed}
-use Rattle.script_place.specs.declared.Placed.TheVariants.{No as NotPlaced, Over, Node, Constant as Digits}
 use Rattle.script_place.specs.declared.Begun.TheVariants.{Nullary as Alone}
-use Rattle.script_place.specs.declared.Waits.TheVariants.{At as Waiting}
-use Rattle.script_place.specs.declared.More.{More}
-use Rattle.script_place.specs.declared.More.TheVariants.{No as NoneMore, Over as NoMore, To}
-use Rattle.script_place.specs.Terms.{Term, State, After, SortIs, PlacedTo, PlacedAs, PlacedAt, OpenedTo, BegunTo, Pushable, MoreTo, Finished, Opening, Closing, Closes, ClosedTo}
-use Rattle.script_place.specs.Going.{sorted-at, unsorted, sorts-as, alone-sorts, alone-head, open-head}
+use Rattle.script_place.specs.declared.Nullary.{Nullary as Applied}
+use Rattle.script_place.specs.Terms.{Term, State, After, ref_of, SortIs, PlacedTo, PlacedAs, PlacedAt, OpenedTo, BegunTo, Pushable, MoreTo, Finished, Opening, Closing, Closes, ClosedTo}
+use Rattle.script_place.specs.Going.{sorted-at, unsorted, sorts-as, alone-sorts, alone-head, open-head, deep-at}
 use Rattle.script_place.specs.Closing.{alone-placed}
-use Rattle.script_place.specs.Loop.{Going, going_start, alone-ending, bracket-here, operand_term, operand_state, step-over, step-going, close-going, going-closing}
+use Rattle.script_place.specs.Loop.{Going, going_start, alone-ending, bracket-here, operand_term, operand_state, step-not, step-over, step-going, close-going, going-closing}
 
 -- ---------------------------------------------------------------- from a sort to a term
 
 -- where a sort is told a term stands
-abbrev pub term_told : {s t h : List ℕ} {D : Declarations} {at : ℕ} (n e : ℕ) → Known s t h D → SortAt s D at (Is n e) → Term s t h at
+abbrev pub term_told : {s : List ℕ} {t : Table} {h : Header} {D : Declarations} {at : ℕ} (n e : ℕ) → Known s t h D → SortAt s D at (Some (record { sort = n; end = e })) → Term s t h at
 term_told {s} {t} {h} {D} {at} n e k x = record {
   declarations = D;
   known = k;
@@ -66,7 +71,7 @@ ahead-long {D} (next f q t y us e h k a) =
     omega (arith, ap length e)
 
 -- a term that asks for an operand ends after it
-asking-long : {s t h w : List ℕ} {at p : ℕ} (q : Term s t h at) → Asking s q.declarations at w p → length q.rest < length (drop p s)
+asking-long : {s : List ℕ} {t : Table} {h : Header} {w : Coded} {at p : ℕ} (q : Term s t h at) → Asking s q.declarations at w p → length q.rest < length (drop p s)
 asking-long {s} {t} {h} {w} {at} {p} q a =
     let (f, l, u) = sorted-at q in
     let (g, _, e) = a.reads f l in
@@ -78,75 +83,53 @@ asking-long {s} {t} {h} {w} {at} {p} q a =
 -- ---------------------------------------------------------------- what is there so far
 
 -- The arrays are such that an operand can be placed, and the operands that came wait in them.
-pub record Ready (s t h heap nodes bits : List ℕ) (levels : ℕ) (v : Seen) : Type 0 where
+pub record Ready (s : List ℕ) (t : Table) (h : Header) (heap : Heap) (levels : ℕ) (v : Seen) : Type 0 where
   pub declarations : Declarations
   pub known : Known s t h declarations
-  pub state : State declarations s heap nodes bits (levels + 1)
+  pub state : State declarations s heap (levels + 1)
   pub sorts : List (Option TreeSort)
   pub seen : SeenOf v sorts
   pub many : length sorts ≤ length state.refs
 
-pub few-ready : {s t h heap nodes bits : List ℕ} {levels : ℕ} {v : Seen} → Ready s t h heap nodes bits levels v → v.count < 65536
+pub few-ready : {s : List ℕ} {t : Table} {h : Header} {heap : Heap} {levels : ℕ} {v : Seen} → Ready s t h heap levels v → v.count < 65536
 few-ready r = let a = r.seen.count in let b = r.many in let c = r.state.stacked.room in omega arith
 
-module _ {s t h heap nodes bits heap₁ nodes₁ bits₁ : List ℕ} {levels p : ℕ} {v : Seen} (r : Ready s t h heap nodes bits levels v) where
-  pub ready-pushable : (z : Placed) → PlacedAt s t h heap nodes bits p (levels + 1) heap₁ nodes₁ bits₁ z → Pushable s z
-  ready-pushable NotPlaced x = tt
-  ready-pushable Over x = tt
-  ready-pushable (Node i w e) x = (x.placed (term_told w e r.known (x.sorted r.declarations r.known)) r.state).1
-  ready-pushable (Digits i w e) x = (x.placed (term_told w e r.known (x.sorted r.declarations r.known)) r.state).1
+module _ {s : List ℕ} {t : Table} {h : Header} {heap heap₁ : Heap} {levels p : ℕ} {v : Seen} (r : Ready s t h heap levels v) where
+  pub ready-pushable : (z : Placed) → PlacedAt s t h heap p (levels + 1) heap₁ (Ok z) → Pushable s z.operand
+  ready-pushable z x = (x.placed (term_told z.width z.end r.known (x.sorted r.declarations r.known)) r.state).1
 
-  ready_with : (w e : ℕ) (ref : Ref) (tree : Tree) (heap₂ : List ℕ) (x : ℕ) (v' : Seen)
-      → After s heap₁ nodes₁ bits₁ p (drop e s) (width_of (some (sort_from w))) (put r.declarations tree r.state.items) r.state.refs ref w e
-      → ((nodes bits : List ℕ) (t : List Item) → Held heap₁ nodes bits t → Held heap₂ nodes bits t)
-      → ((nodes bits : List ℕ) (t : List Item) (refs : List Ref) → Held heap₁ nodes bits t → Stacked s heap₁ refs → Stacked s heap₂ (refs ++ (ref ∷ []))) → x ≡ w → OneMore v x v'
-      → Ready s t h heap₂ nodes₁ bits₁ levels v'
-  ready_with w e ref tree heap₂ x v' a k l i o =
-      let p : Put = put r.declarations tree r.state.items in
-      let m = grows-length r.state.items p.items (put-grows r.declarations tree r.state.items) in
+  ready-next : (z : Placed) (heap₂ : Heap) (u : ⊤) (v' : Seen) → PlacedAt s t h heap p (levels + 1) heap₁ (Ok z) → MoreTo s heap₁ heap₂ z.operand (Ok u) → OneMore v z.width v' → Ready s t h heap₂ levels v'
+  ready-next z heap₂ u v' x (k, l) o =
+      let q : Term s t h p = term_told z.width z.end r.known (x.sorted r.declarations r.known) in
+      let a = (x.placed q r.state).0 in
+      let p : Put = put r.declarations q.tree r.state.items in
+      let m = grows-length r.state.items p.items (put-grows r.declarations q.tree r.state.items) in
       let b = r.state.variables in
       let c = r.many in
+      let ref : Ref = ref_of s z.operand in
       let d = length-append r.state.refs (ref ∷ []) in
-      let f = length-append r.sorts (some (sort_from w) ∷ []) in
+      let f = length-append r.sorts (some (sort_from z.width) ∷ []) in
       record {
         declarations = r.declarations;
         known = r.known;
         state = record {
           items = p.items;
-          held = k nodes₁ bits₁ p.items a.held;
+          held = k p.items a.held;
           variables = omega arith;
           refs = r.state.refs ++ (ref ∷ []);
-          stacked = l nodes₁ bits₁ p.items r.state.refs a.held a.stacked;
+          stacked = l p.items r.state.refs a.held a.stacked;
           side = length (r.state.refs ++ (ref ∷ []));
           waiting = omega arith;
           few = r.state.few;
         };
-        sorts = r.sorts ++ (some (sort_from w) ∷ []);
-        seen = o r.sorts (some (sort_from w)) r.seen (i ∙ a.wide);
+        sorts = r.sorts ++ (some (sort_from z.width) ∷ []);
+        seen = o r.sorts (some (sort_from z.width)) r.seen a.wide;
         many = omega arith;
       }
 
-  ready-next : (z : Placed) (heap₂ : List ℕ) (x f : ℕ) (v' : Seen) → PlacedAt s t h heap nodes bits p (levels + 1) heap₁ nodes₁ bits₁ z → MoreTo s heap₁ heap₂ z (To x f) → OneMore v x v'
-      → Ready s t h heap₂ nodes₁ bits₁ levels v'
-  ready-next NotPlaced heap₂ x f v' k m o = absurd (let y : ◌≡◌ {A = ℕ} 0 1 = cc in omega arith)
-  ready-next Over heap₂ x f v' k m o = absurd (let y : ◌≡◌ {A = ℕ} 0 1 = cc in omega arith)
-  ready-next (Node i w e) heap₂ x f v' k (a, b, c, d) o =
-      let q : Term s t h p = term_told w e r.known (k.sorted r.declarations r.known) in
-      ready_with w e (here i) q.tree heap₂ x v' (k.placed q r.state).0 c d a o
-  ready-next (Digits i w e) heap₂ x f v' k (a, b, c, d) o =
-      let q : Term s t h p = term_told w e r.known (k.sorted r.declarations r.known) in
-      ready_with w e (pending (bits_at s i)) q.tree heap₂ x v' (k.placed q r.state).0 c d a o
-
 -- ---------------------------------------------------------------- sorts
 
--- the sort of an operand that waits
-more-sorts : (s heap heap' : List ℕ) (D : Declarations) (p x f : ℕ) (z : Placed) → SortIs s D p z → MoreTo s heap heap' z (To x f) → SortAt s D p (Is x f)
-more-sorts s heap heap' D p x f NotPlaced k m = absurd (let y : ◌≡◌ {A = ℕ} 0 1 = cc in omega arith)
-more-sorts s heap heap' D p x f Over k m = absurd (let y : ◌≡◌ {A = ℕ} 0 1 = cc in omega arith)
-more-sorts s heap heap' D p x f (Node i w e) k (a, b, _, _) = subst (λ (y : ℕ). SortAt s D p (Is y f)) (sym a) (subst (λ (y : ℕ). SortAt s D p (Is w y)) (sym b) k)
-more-sorts s heap heap' D p x f (Digits i w e) k (a, b, _, _) = subst (λ (y : ℕ). SortAt s D p (Is y f)) (sym a) (subst (λ (y : ℕ). SortAt s D p (Is w y)) (sym b) k)
-
-sorted-to : {s : List ℕ} {D : Declarations} {a n e : ℕ} → SortAt s D a (Is n e) → SortedTo s D a n e
+sorted-to : {s : List ℕ} {D : Declarations} {a n e : ℕ} → SortAt s D a (Some (record { sort = n; end = e })) → SortedTo s D a n e
 sorted-to x = record { none-sorted = λ k. absurd (let l = x.0 in omega arith); low = λ _. x.0; high = x.1; is_sorted = λ _. x.2 }
 
 none_then : (o : Option (Took TreeSort)) (K : TreeSort → List ℕ → Option (Took TreeSort)) → o ≡ none → and_then o K ≡ none
@@ -158,43 +141,49 @@ width-of zero = refl
 width-of (suc n) = refl
 
 -- a term that is placed has the sort that was told
-after-sorts : {s heap nodes bits : List ℕ} (D : Declarations) {at : ℕ} (n p : ℕ) {w e : ℕ} {u : Put} {refs : List Ref} {ref : Ref} → After s heap nodes bits at (drop p s) (width_of (some (sort_from n))) u refs ref w e
-    → SortAt s D at (Is n p) → SortAt s D at (Is w e)
-after-sorts {s} {heap} {nodes} {bits} D {at} n p {w} {e} a k =
+after-sorts : {s : List ℕ} {heap : Heap} (D : Declarations) {at : ℕ} (n p : ℕ) {w e : ℕ} {u : Put} {refs : List Ref} {ref : Ref} → After s heap at (drop p s) (width_of (some (sort_from n))) u refs ref w e
+    → SortAt s D at (Some (record { sort = n; end = p })) → SortAt s D at (Some (record { sort = w; end = e }))
+after-sorts {s} {heap} D {at} n p {w} {e} a k =
     let i : n ≡ w = sym (a.wide ∙ width-of n) in
     (a.low, a.high, λ f l. k.2 f l ∙ (λ j. took (sort_from (i j)) (a.ends j)))
 
-pub none-placed : {s t h heap nodes bits : List ℕ} {at levels : ℕ} {heap' nodes' bits' : List ℕ} → ((D : Declarations) → Known s t h D → SortAt s D at NoSort) → PlacedAt s t h heap nodes bits at levels heap' nodes' bits' NotPlaced
+pub none-placed : {s : List ℕ} {t : Table} {h : Header} {heap : Heap} {at levels : ℕ} {heap' : Heap} → ((D : Declarations) → Known s t h D → SortAt s D at None) → PlacedAt s t h heap at levels heap' (Err NoScript)
 none-placed k = record { sorted = k; placed = λ q g. unsorted q (k q.declarations q.known) }
 
+-- A TERM WITH OPERANDS that does not begin.
+pub opened-not : {s : List ℕ} {t : Table} {h : Header} {heap : Heap} {at levels : ℕ} (x : Head) → ((D : Declarations) → Known s t h D → HeadAt s D at (Some x)) → Opening x → (u : Unread) → OpenedTo heap.count x at levels (Err u)
+    → PlacedAt s t h heap at levels heap (Err u)
+opened-not x k o NoScript i = absurd i
+opened-not x k o Limit i = deep-at x k o i
+
 -- A CALL WITHOUT ARGUMENTS.
-pub alone_at : {s t h heap nodes bits : List ℕ} {at levels : ℕ} {heap' nodes' bits' : List ℕ} (x : Head) (f w e : ℕ) → ((D : Declarations) → Known s t h D → HeadAt s D at x) → BegunTo x at (Alone f w e)
-    → (r : Settled) (p : Placed)
-    → ((i : List Item) (refs rs : List Ref) → Ending s heap nodes bits (top_in heap) i refs rs → EndedAs s heap' nodes' bits' refs (endedWith (pending_in rs) (λ node. a_call f w (map node rs)) i) r) → Finished r w e p
-    → PlacedAt s t h heap nodes bits at levels heap' nodes' bits' p
-alone_at {s} {t} {h} {heap} {nodes} {bits} {at} {levels} {heap'} {nodes'} {bits'} x f w e k b r p i j =
-    let known-head : (D : Declarations) → Known s t h D → HeadAt s D at (Nullary f w e) = λ D κ. subst (HeadAt s D at) (alone-head at x f w e b) (k D κ) in
+pub alone_at : {s : List ℕ} {t : Table} {h : Header} {heap : Heap} {at levels : ℕ} {heap' : Heap} (x : Head) (c : Applied) → ((D : Declarations) → Known s t h D → HeadAt s D at (Some x)) → BegunTo x at (Alone c)
+    → (r : code.Option ℕ) (p : Result Placed Unread)
+    → ((i : List Item) (refs rs : List Ref) → Ending s heap heap.top i refs rs → EndedAs s heap' refs (endedWith (pending_in rs) (λ node. a_call c.function c.width (map node rs)) i) r)
+    → Finished r c.width c.end p → PlacedAt s t h heap at levels heap' p
+alone_at {s} {t} {h} {heap} {at} {levels} {heap'} x c k b r p i j =
+    let known-head : (D : Declarations) → Known s t h D → HeadAt s D at (Some (Nullary c.function c.width c.end)) = λ D κ. subst (λ (y : Head). HeadAt s D at (Some y)) (alone-head at x c b) (k D κ) in
     record {
       sorted = λ D κ. alone-sorts (known-head D κ) r p j;
       placed = λ q g.
-          alone-placed (known-head q.declarations q.known) q.steps q.tree q.sort q.rest q.read q.sorted heap' nodes' bits' g.items g.refs levels g.side r p (i g.items g.refs [] (alone-ending g)) j;
+          alone-placed (known-head q.declarations q.known) q.steps q.tree q.sort q.rest q.read q.sorted heap' g.items g.refs levels g.side r p (i g.items g.refs [] (alone-ending g)) j;
     }
 
 -- ---------------------------------------------------------------- turns
 
 -- What was read of the term, whatever it is; the arrays; and if a term stands there, its operands so far.
-pub record Turning (s t h heap₀ nodes₀ bits₀ : List ℕ) (at levels : ℕ) (x : Head) (heap nodes bits : List ℕ) (base : ℕ) (w : List ℕ) (e : ℕ) (v : Seen) : Type 0 where
+pub record Turning (s : List ℕ) (t : Table) (h : Header) (heap₀ : Heap) (at levels : ℕ) (x : Head) (heap : Heap) (base : ℕ) (w : Coded) (e : ℕ) (v : Seen) : Type 0 where
   pub opens : Opening x
-  pub head : (D : Declarations) → Known s t h D → HeadAt s D at x
+  pub head : (D : Declarations) → Known s t h D → HeadAt s D at (Some x)
   pub reads : (D : Declarations) → Known s t h D → Reads s D at w e
-  pub ready : Ready s t h heap nodes bits levels v
-  pub going : (q : Term s t h at) (g : State q.declarations s heap₀ nodes₀ bits₀ levels) → (n : ℕ) × Going q g heap nodes bits base e n v
+  pub ready : Ready s t h heap levels v
+  pub going : (q : Term s t h at) (g : State q.declarations s heap₀ levels) → (n : ℕ) × Going q g heap base e n v
 
 -- BEFORE THE FIRST OPERAND.
-pub turning-start : {s t h heap nodes bits : List ℕ} {at levels : ℕ} {D : Declarations} → Known s t h D → State D s heap nodes bits levels → (x : Head) → ((D : Declarations) → Known s t h D → HeadAt s D at x)
-    → Opening x → {c a b d e : ℕ} → OpenedTo (count_in heap) x at levels (Waiting c a b d e)
-    → Turning s t h heap nodes bits at levels x heap nodes bits (top_in heap) (c ∷ a ∷ b ∷ d ∷ []) e (record { count = 0; first = 0; second = 0 })
-turning-start {s} {t} {h} {heap} {nodes} {bits} {at} {levels} {D} known g x k o {c} {a} {b} {d} {e} (l, i, j) =
+pub turning-start : {s : List ℕ} {t : Table} {h : Header} {heap : Heap} {at levels : ℕ} {D : Declarations} → Known s t h D → State D s heap levels → (x : Head) → ((D : Declarations) → Known s t h D → HeadAt s D at (Some x))
+    → Opening x → (w : Begins) → OpenedTo heap.count x at levels (Ok w)
+    → Turning s t h heap at levels x heap heap.top w.state w.end (record { count = 0; first = 0; second = 0 })
+turning-start {s} {t} {h} {heap} {at} {levels} {D} known g x k o w (l, i, j) =
     let u = g.waiting in
     record {
       opens = o;
@@ -217,11 +206,11 @@ turning-start {s} {t} {h} {heap} {nodes} {bits} {at} {levels} {D} known g x k o 
         seen = record { count = refl; first = refl; second = refl };
         many = omega arith;
       };
-      going = λ q y. let (n, p) = open-head q y x (k q.declarations q.known) o e i in (n, going_start q y x e n (top_in heap) p l refl);
+      going = λ q y. let (n, p) = open-head q y x (k q.declarations q.known) o w.end i in (n, going_start q y x w.end n heap.top p l refl);
     }
 
-module _ {s t h heap₀ nodes₀ bits₀ : List ℕ} {at levels : ℕ} {x₀ : Head} {heap nodes bits : List ℕ} {base : ℕ} {w : List ℕ} {e : ℕ} {v : Seen} (x : Turning s t h heap₀ nodes₀ bits₀ at levels x₀ heap nodes bits base w e v)
-    {w' : List ℕ} {p : ℕ} {r : Bool} (m : NextTo s e w p w' r × MovedTo s e p r) where
+module _ {s : List ℕ} {t : Table} {h : Header} {heap₀ : Heap} {at levels : ℕ} {x₀ : Head} {heap : Heap} {base : ℕ} {w : Coded} {e : ℕ} {v : Seen} (x : Turning s t h heap₀ at levels x₀ heap base w e v)
+    {w' : Coded} {p : ℕ} {r : Bool} (m : NextTo s e w p w' r × MovedTo s e p r) where
   -- ---------------------------------------------------------------- an operand follows
 
   module _ (y : r ≡ true) where
@@ -229,10 +218,10 @@ module _ {s t h heap₀ nodes₀ bits₀ : List ℕ} {at levels : ℕ} {x₀ : H
     asking D k = asking-of s D at p w' (m.0 D at (x.reads D k)).turned y
 
     -- its blank
-    ask-going : (q : Term s t h at) (g : State q.declarations s heap₀ nodes₀ bits₀ levels) → (b : ℕ) × (n : ℕ) × Going q g heap nodes bits base b n v × (get_or s b 0 ≡ 32) × (p ≡ b + 1)
+    ask-going : (q : Term s t h at) (g : State q.declarations s heap₀ levels) → (b : ℕ) × (n : ℕ) × Going q g heap base b n v × (get_or s b 0 ≡ 32) × (p ≡ b + 1)
     ask-going q g = let (n, z) = x.going q g in by_bytes n z (subst (MovedTo s e p) y m.1)
       where
-        by_bytes : (n : ℕ) → Going q g heap nodes bits base e n v → Begun s e p → (b : ℕ) × (n : ℕ) × Going q g heap nodes bits base b n v × (get_or s b 0 ≡ 32) × (p ≡ b + 1)
+        by_bytes : (n : ℕ) → Going q g heap base e n v → Begun s e p → (b : ℕ) × (n : ℕ) × Going q g heap base b n v × (get_or s b 0 ≡ 32) × (p ≡ b + 1)
         by_bytes n z (inl (k, i)) = (e, n, z, k, i)
         by_bytes n z (inr (k, j, i)) = (e + 1, n - 1, close-going z other (not-zero n some_left), j, omega arith)
           where
@@ -246,49 +235,46 @@ module _ {s t h heap₀ nodes₀ bits₀ : List ℕ} {at levels : ℕ} {x₀ : H
                 let a = ap length b in
                 omega (arith, length-drop (e + 1) s, length-drop p s)
 
-    module _ {heap₁ nodes₁ bits₁ : List ℕ} {z : Placed} (k : PlacedAt s t h heap nodes bits p (levels + 1) heap₁ nodes₁ bits₁ z) (heap₂ : List ℕ) where
-      moved : (b : ℕ) → p ≡ b + 1 → (q : Term s t h (b + 1)) (g : State q.declarations s heap nodes bits (levels + 1)) → PlacedAs q g heap₁ nodes₁ bits₁ z
-      moved b i = subst (λ (j : ℕ). (q : Term s t h j) (g : State q.declarations s heap nodes bits (levels + 1)) → PlacedAs q g heap₁ nodes₁ bits₁ z) i k.placed
+    module _ {heap₁ : Heap} {z : Result Placed Unread} (k : PlacedAt s t h heap p (levels + 1) heap₁ z) where
+      moved : (b : ℕ) → p ≡ b + 1 → (q : Term s t h (b + 1)) (g : State q.declarations s heap (levels + 1)) → PlacedAs q g heap₁ z
+      moved b i = subst (λ (j : ℕ). (q : Term s t h j) (g : State q.declarations s heap (levels + 1)) → PlacedAs q g heap₁ z) i k.placed
 
-      -- NO ROOM for it: there is none for the term.
-      pub turn-over : {a : More} → MoreTo s heap₁ heap₂ z a → a ≡ NoMore → PlacedAt s t h heap₀ nodes₀ bits₀ at levels heap₂ nodes₁ bits₁ Over
-      turn-over o a = record {
+    -- IT IS NOT PLACED, and so the term is not.
+    pub turn-not : {heap₁ : Heap} (u : Unread) → PlacedAt s t h heap p (levels + 1) heap₁ (Err u) → PlacedAt s t h heap₀ at levels heap₁ (Err u)
+    turn-not NoScript k = none-placed λ D κ f l. let (g, j, u) = (asking D κ).reads f l in u ∙ none_then (sorted g D (drop p s)) _ (k.sorted D κ g j)
+    turn-not {heap₁} Limit k = record {
+      sorted = λ D κ. tt;
+      placed = λ q g. let (b, n, u, l, i) = ask-going q g in step-not u l heap₁ Limit (moved k b i (operand_term u l) (operand_state u l));
+    }
+
+    module _ {heap₁ : Heap} {z : Placed} (k : PlacedAt s t h heap p (levels + 1) heap₁ (Ok z)) (heap₂ : Heap) where
+      -- NO ROOM for it to wait: there is none for the term.
+      pub turn-over : (u : Unread) → MoreTo s heap₁ heap₂ z.operand (Err u) → PlacedAt s t h heap₀ at levels heap₂ (Err u)
+      turn-over NoScript o = absurd o
+      turn-over Limit o = record {
         sorted = λ D κ. tt;
-        placed = λ q g.
-            let (b, n, u, l, i) = ask-going q g in
-            step-over u l heap₁ nodes₁ bits₁ heap₂ z (moved b i (operand_term u l) (operand_state u l)) (subst (MoreTo s heap₁ heap₂ z) a o);
+        placed = λ q g. let (b, n, u, l, i) = ask-going q g in step-over u l heap₁ heap₂ z Limit (moved k b i (operand_term u l) (operand_state u l)) o;
       }
 
-      -- NO SORT: the term has none.
-      pub turn-none : {a : More} → MoreTo s heap₁ heap₂ z a → a ≡ NoneMore → PlacedAt s t h heap₀ nodes₀ bits₀ at levels heap₂ nodes₁ bits₁ NotPlaced
-      turn-none o a = none-placed λ D κ f l. let (g, j, u) = (asking D κ).reads f l in u ∙ none_then (sorted g D (drop p s)) _ (by-placed D κ z k (subst (MoreTo s heap₁ heap₂ z) a o) g j)
-        where
-          by-placed : (D : Declarations) → Known s t h D → (z : Placed) → PlacedAt s t h heap nodes bits p (levels + 1) heap₁ nodes₁ bits₁ z → MoreTo s heap₁ heap₂ z NoneMore → (g : ℕ) → enough s p ≤ g → sorted g D (drop p s) ≡ none
-          by-placed D κ NotPlaced k o = k.sorted D κ
-          by-placed D κ Over k o = absurd (let y : ◌≡◌ {A = ℕ} 0 1 = cc in omega arith)
-          by-placed D κ (Node i u f) k o = absurd o
-          by-placed D κ (Digits i u f) k o = absurd o
-
       -- IT WAITS, and the term goes on.
-      pub turn-next : {w'' : List ℕ} {a : More} {n f : ℕ} {v' : Seen} → MoreTo s heap₁ heap₂ z a → a ≡ To n f → OneMore v n v' → ((u : Standing) → HeldIn s w' u → HeldIn s w'' (after u (sort_from n)))
-          → Turning s t h heap₀ nodes₀ bits₀ at levels x₀ heap₂ nodes₁ bits₁ base w'' f v' × (e < f) × (f ≤ length s)
-      turn-next {w''} {a} {n} {f} {v'} l q i j =
-          let o : MoreTo s heap₁ heap₂ z (To n f) = subst (MoreTo s heap₁ heap₂ z) q l in
+      pub turn-next : {w'' : Coded} (u : ⊤) {v' : Seen} → MoreTo s heap₁ heap₂ z.operand (Ok u) → OneMore v z.width v' → ((u : Standing) → HeldIn s w' u → HeldIn s w'' (after u (sort_from z.width)))
+          → Turning s t h heap₀ at levels x₀ heap₂ base w'' z.end v' × (e < z.end) × (z.end ≤ length s)
+      turn-next {w''} unit {v'} o i j =
           let D : Declarations = x.ready.declarations in
           let κ = x.ready.known in
           let a = (m.0 D at (x.reads D κ)).further y in
-          let b = more-sorts s heap₁ heap₂ D p n f z (k.sorted D κ) o in
+          let b : SortAt s D p (Some (record { sort = z.width; end = z.end })) = k.sorted D κ in
           let c = b.0 in (
             record {
               opens = x.opens;
               head = x.head;
               reads = λ D κ.
-                  let u = came {n = n} (asking D κ) (exact-by {l = 0} (sorted-to (more-sorts s heap₁ heap₂ D p n f z (k.sorted D κ) o))) (λ d. omega arith) in
+                  let u = came {n = z.width} (asking D κ) (exact-by {l = 0} (sorted-to (k.sorted D κ))) (λ d. omega arith) in
                   went u (j u.state u.held);
-              ready = ready-next x.ready z heap₂ n f v' k o i;
+              ready = ready-next x.ready z heap₂ unit v' k o i;
               going = λ q g.
                   let (d, l, u, y, c) = ask-going q g in
-                  (l, (step-going u y heap₁ nodes₁ bits₁ heap₂ z n f v' (moved d c (operand_term u y) (operand_state u y)) o i).0);
+                  (l, (step-going u y heap₁ heap₂ z unit v' (moved k d c (operand_term u y) (operand_state u y)) o i).0);
             },
             omega arith,
             b.1,
@@ -297,45 +283,45 @@ module _ {s t h heap₀ nodes₀ bits₀ : List ℕ} {at levels : ℕ} {x₀ : H
   -- ---------------------------------------------------------------- none follows
 
   module _ (y : r ≡ false) where
-    ended : (D : Declarations) → Known s t h D → SortedTo s D at (get_or w' 1 0) p
+    ended : (D : Declarations) → Known s t h D → SortedTo s D at w'.x p
     ended D k = sorted_of s D at p w' (m.0 D at (x.reads D k)).turned y
 
     -- NO SORT.
-    pub end_none : p ≡ 0 → PlacedAt s t h heap₀ nodes₀ bits₀ at levels heap nodes bits NotPlaced
+    pub end_none : p ≡ 0 → PlacedAt s t h heap₀ at levels heap (Err NoScript)
     end_none z = none-placed λ D k. (ended D k).none-sorted z
 
     module _ (z : p ≡ 0 → ⊥) where
-      ends_as : (D : Declarations) → Known s t h D → SortAt s D at (Is (get_or w' 1 0) p)
+      ends_as : (D : Declarations) → Known s t h D → SortAt s D at (Some (record { sort = w'.x; end = p }))
       ends_as D κ = let u = ended D κ in (u.low (not-zero p z), u.high, u.is_sorted (not-zero p z))
 
       -- THE BRACKET of the term.
-      pub end-closing : (q : Term s t h at) (g : State q.declarations s heap₀ nodes₀ bits₀ levels)
-          → Closing s heap nodes bits x₀ base v (p - 1) at q.declarations q.tree q.sort q.rest g.items g.refs
+      pub end-closing : (q : Term s t h at) (g : State q.declarations s heap₀ levels)
+          → Closing s heap x₀ base v (p - 1) at q.declarations q.tree q.sort q.rest g.items g.refs
       end-closing q g = let (n, u) = x.going q g in by_bytes n u (subst (MovedTo s e p) y m.1 (not-zero p z))
         where
           rest-is : drop p s ≡ q.rest
-          rest-is = (sorts-as q (get_or w' 1 0) p (ends_as q.declarations q.known)).1
+          rest-is = (sorts-as q w'.x p (ends_as q.declarations q.known)).1
 
-          by_bytes : (n : ℕ) → Going q g heap nodes bits base e n v → Ended s e p → Closing s heap nodes bits x₀ base v (p - 1) at q.declarations q.tree q.sort q.rest g.items g.refs
+          by_bytes : (n : ℕ) → Going q g heap base e n v → Ended s e p → Closing s heap x₀ base v (p - 1) at q.declarations q.tree q.sort q.rest g.items g.refs
           by_bytes n u (inl i) = absurd (let a = ahead-long u.ahead in let b = ap length rest-is in omega (arith, length-drop p s, length-drop e s))
-          by_bytes n u (inr (a, i)) = subst (λ (j : ℕ). Closing s heap nodes bits x₀ base v j at q.declarations q.tree q.sort q.rest g.items g.refs) (omega arith)
+          by_bytes n u (inr (a, i)) = subst (λ (j : ℕ). Closing s heap x₀ base v j at q.declarations q.tree q.sort q.rest g.items g.refs) (omega arith)
               (going-closing u x₀ x.opens (x.head q.declarations q.known) other (none_left n u))
             where
               other : get_or s e 0 ≡ 32 → ⊥
               other j = let c : ◌≡◌ {A = ℕ} 41 32 = sym a ∙ j in omega arith
 
-              none_left : (n : ℕ) → Going q g heap nodes bits base e n v → n ≡ 0
+              none_left : (n : ℕ) → Going q g heap base e n v → n ≡ 0
               none_left zero u = refl
               none_left (suc n) u = absurd
                   (let c = ahead-long (at-close q.declarations u.ahead n (drop (e + 1) s) refl (bracket-here u other)) in
                   let b = ap length rest-is in
                   omega (arith, length-drop p s, length-drop (e + 1) s))
 
-      module _ {D₀ : Declarations} (κ₀ : Known s t h D₀) (g : State D₀ s heap₀ nodes₀ bits₀ levels) where
+      module _ {D₀ : Declarations} (κ₀ : Known s t h D₀) (g : State D₀ s heap₀ levels) where
         abbrev whole : Term s t h at
-        whole = term_told (get_or w' 1 0) p κ₀ (ends_as D₀ κ₀)
+        whole = term_told w'.x p κ₀ (ends_as D₀ κ₀)
 
-        pub end-closes : Closes s heap nodes bits x₀ base v (p - 1)
+        pub end-closes : Closes s heap x₀ base v (p - 1)
         end-closes = record {
           at = at;
           declarations = D₀;
@@ -348,15 +334,14 @@ module _ {s t h heap₀ nodes₀ bits₀ : List ℕ} {at levels : ℕ} {x₀ : H
         }
 
         -- IT IS PLACED.
-        pub end-placed : (heap' nodes' bits' : List ℕ) (b : Placed) → ClosedTo s heap nodes bits heap' nodes' bits' x₀ base v (p - 1) b → PlacedAt s t h heap₀ nodes₀ bits₀ at levels heap' nodes' bits' b
-        end-placed heap' nodes' bits' b c = record {
+        pub end-placed : (heap' : Heap) (b : Result Placed Unread) → ClosedTo s heap heap' x₀ base v (p - 1) b → PlacedAt s t h heap₀ at levels heap' b
+        end-placed heap' b c = record {
           sorted = λ D κ. by-placed D κ b (c at D₀ whole.tree whole.sort whole.rest g.items g.refs (end-closing whole g) levels g.side);
           placed = λ q u. c at q.declarations q.tree q.sort q.rest u.items u.refs (end-closing q u) levels u.side;
         }
           where
-            by-placed : (D : Declarations) → Known s t h D → (b : Placed)
-                → PlacedTo s heap' nodes' bits' at (drop p s) (width_of (some (sort_from (get_or w' 1 0)))) (put D₀ whole.tree g.items) g.refs levels g.side b → SortIs s D at b
-            by-placed D κ NotPlaced u = absurd u
-            by-placed D κ Over u = tt
-            by-placed D κ (Node i f n) u = after-sorts D (get_or w' 1 0) p u.0 (ends_as D κ)
-            by-placed D κ (Digits i f n) u = after-sorts D (get_or w' 1 0) p u.0 (ends_as D κ)
+            by-placed : (D : Declarations) → Known s t h D → (b : Result Placed Unread)
+                → PlacedTo s heap' at (drop p s) (width_of (some (sort_from w'.x))) (put D₀ whole.tree g.items) g.refs levels g.side b → SortIs s D at b
+            by-placed D κ (Err NoScript) u = absurd u
+            by-placed D κ (Err Limit) u = tt
+            by-placed D κ (Ok z) u = after-sorts D w'.x p u.0 (ends_as D κ)

@@ -1,5 +1,5 @@
 -- The outputs of a script that is read back, all eighteen.
-use Rattle.std.specs.Prelude.{ℕ, zero, suc, ◌+◌, ◌-◌, ◌*◌, ◌≤◌, ◌<◌, min, ◌≡◌, refl, Bool, true, false, ◌&&◌, leb, eqb, drop, get_or}
+use Rattle.std.specs.Prelude.{ℕ, zero, suc, ◌+◌, ◌-◌, ◌*◌, ◌≤◌, ◌<◌, min, ◌≡◌, refl, Bool, true, false, ◌&&◌, leb, eqb, drop, get_or, Result, Ok, Err}
 use Rattle.std.proofs.Math.Path.{ap, sym}
 use Rattle.std.proofs.Common.{◌∙◌, subst, arith, leb→le, eqb→eq, length-take}
 use mathlib.Core.List.{List, [], ◌∷◌, ◌++◌, map}
@@ -23,20 +23,16 @@ use Rattle.script_fill.specs.Filling.{change, Few, VariablesFit, VariablesFilled
 use Rattle.script_rebuild.specs.Limits.{Passes, passed, roots-counted as assertions-counted}
 use Rattle.script_rebuild.specs.Rebuilt.{WholeProblem}
 use Rattle.script_rebuild.specs.Steps.{Counts, counts}
-use Rattle.script_rebuild.specs.Decided.{lengths_of, all_within, Ready, Decided}
+use Rattle.heap_laws.specs.declared.Heap.{Heap}
+use Rattle.script_names.specs.declared.Table.{Table}
+use Rattle.script_header.specs.declared.Header.{Header}
+use Rattle.script_rebuild.specs.declared.Sizes.{Sizes as Told}
+use Rattle.script_rebuild.specs.declared.ReadError.{ReadError}
+use Rattle.script_rebuild.specs.declared.ReadError.TheVariants.{NoScript, Limit, Room}
+use Rattle.script_rebuild.specs.Decided.{lengths_of, all_within, needs_of, error_number, Ready}
 use Rattle.script_rebuild.specs.Deciding.{few-names, room-there}
-use Rattle.script_reader.specs.declared.Outcome.{Outcome}
-use Rattle.script_reader.specs.declared.Outcome.TheVariants.{Read, Refused}
-use Rattle.script_reader.specs.declared.ReadError.{ReadError}
-use Rattle.script_reader.specs.declared.ReadError.TheVariants.{NoScript, Limit, Room}
-use Rattle.script_reader.specs.declared.Sizes.{Sizes as Told}
 
 -- ---------------------------------------------------------------- answers
-
-abbrev pub error_number : ReadError → ℕ
-error_number NoScript = 13
-error_number Limit = 9
-error_number Room = 10
 
 abbrev pub sizes_from : Told → Sizes
 sizes_from z = record {
@@ -53,9 +49,9 @@ sizes_from z = record {
 }
 
 -- an answer, with what the outputs became
-abbrev pub read_back : Outcome → Problem → ReadAnswer
-read_back (Read z) p = record { number = 0; sizes = sizes_from z; output = p }
-read_back (Refused e) p = record { number = error_number e; sizes = no_sizes; output = p }
+abbrev pub read_back : Result Told ReadError → Problem → ReadAnswer
+read_back (Ok z) p = record { number = 0; sizes = sizes_from z; output = p }
+read_back (Err e) p = record { number = error_number e; sizes = no_sizes; output = p }
 
 -- the sizes among the eighteen lengths
 abbrev pub sizes_among : List ℕ → Sizes
@@ -72,61 +68,24 @@ sizes_among l = record {
   functions = get_or l 15 0;
 }
 
--- the answer for a number and these lengths
-abbrev pub OutcomeFor : ℕ → List ℕ → Outcome → Type 0
-OutcomeFor zero l (Read z) = sizes_from z ≡ sizes_among l
-OutcomeFor zero l (Refused e) = ⊥
-OutcomeFor (suc n) l (Read z) = ⊥
-OutcomeFor (suc n) l (Refused e) = error_number e ≡ suc n
-
-pub outcome-read : (n : ℕ) (l : List ℕ) (z : Told) → n ≡ 0 → sizes_from z ≡ sizes_among l → OutcomeFor n l (Read z)
-outcome-read n l z e f = subst (λ (k : ℕ). OutcomeFor k l (Read z)) (sym e) f
-
-over_zero : (e : ReadError) (m : ℕ) → error_number e ≡ suc m → (n : ℕ) (l : List ℕ) → n ≡ suc m → OutcomeFor n l (Refused e)
-over_zero e m f zero l g = absurd (omega (arith, g))
-over_zero e m f (suc n) l g = f ∙ sym g
-
-pub outcome-limit : (n : ℕ) (l : List ℕ) → n ≡ 9 → OutcomeFor n l (Refused Limit)
-outcome-limit n l e = over_zero Limit 8 refl n l e
-
-pub outcome-room : (n : ℕ) (l : List ℕ) → n ≡ 10 → OutcomeFor n l (Refused Room)
-outcome-room n l e = over_zero Room 9 refl n l e
-
-pub outcome-none : (n : ℕ) (l : List ℕ) → T (among (0 ∷ 9 ∷ 10 ∷ 13 ∷ []) n) → (n ≡ 0 → ⊥) → (n ≡ 9 → ⊥) → (n ≡ 10 → ⊥) → OutcomeFor n l (Refused NoScript)
-outcome-none n l h a b c =
-    over_zero NoScript 12 refl n l
-    (or_elim (eqb n 0) (among (9 ∷ 10 ∷ 13 ∷ []) n) h (λ e. absurd (a (eqb→eq n 0 e)))
-    (λ h. or_elim (eqb n 9) (among (10 ∷ 13 ∷ []) n) h (λ e. absurd (b (eqb→eq n 9 e)))
-    (λ h. or_elim (eqb n 10) (among (13 ∷ []) n) h (λ e. absurd (c (eqb→eq n 10 e))) (λ h. or_elim (eqb n 13) false h (λ e. eqb→eq n 13 e) (λ z. absurd z)))))
-
 -- ---------------------------------------------------------------- nodes, bits, side entries, roots
 
 -- the arrays have what is needed, and the outputs have room for it
-pub record NodesFit (need heap records digits tops a b c d : List ℕ) : Type 0 where
-  pub nodes : get_or need 0 0 ≤ length records
+pub record NodesFit (need : List ℕ) (heap : Heap) (tops a b c d : List ℕ) : Type 0 where
+  pub nodes : get_or need 0 0 ≤ length heap.records
   pub nodes_room : get_or need 0 0 ≤ length a
-  pub bits : get_or need 1 0 ≤ length digits
+  pub bits : get_or need 1 0 ≤ length heap.bits
   pub bits_room : get_or need 1 0 ≤ length b
-  pub side : 4 + get_or need 2 0 ≤ length heap
+  pub side : get_or need 2 0 ≤ length heap.side
   pub side-room : get_or need 2 0 ≤ length c
-  pub roots : 0 + get_or need 3 0 ≤ length tops
+  pub roots : get_or need 3 0 ≤ length tops
   pub roots_room : get_or need 3 0 ≤ length d
 
-pub record NodesFilled (number : ℕ) (need heap records digits tops a b c d a' b' c' d' : List ℕ) : Type 0 where
-  pub nodes : a' ≡ change number (take (get_or need 0 0) records) a
-  pub bits : b' ≡ change number (take (get_or need 1 0) digits) b
-  pub side : c' ≡ change number (take (get_or need 2 0) (drop 4 heap)) c
-  pub roots : d' ≡ change number (take (get_or need 3 0) (drop 0 tops)) d
-
-pub nodes-filled : {number a b c d : ℕ} {need heap records digits tops x y z w x' y' z' w' : List ℕ} → a ≡ get_or need 0 0 → b ≡ get_or need 1 0 → c ≡ get_or need 2 0 → d ≡ get_or need 3 0
-    → x' ≡ change number (take a records) x → y' ≡ change number (take b digits) y → z' ≡ change number (take c (drop 4 heap)) z → w' ≡ change number (take d (drop 0 tops)) w
-    → NodesFilled number need heap records digits tops x y z w x' y' z' w'
-nodes-filled {number} {need = need} {heap} {records} {digits} {tops} {x} {y} {z} {w} e f g h i j k l = record {
-  nodes = i ∙ ap (λ (n : ℕ). change number (take n records) x) e;
-  bits = j ∙ ap (λ (n : ℕ). change number (take n digits) y) f;
-  side = k ∙ ap (λ (n : ℕ). change number (take n (drop 4 heap)) z) g;
-  roots = l ∙ ap (λ (n : ℕ). change number (take n (drop 0 tops)) w) h;
-}
+pub record NodesFilled (need : List ℕ) (heap : Heap) (tops a b c d a' b' c' d' : List ℕ) : Type 0 where
+  pub nodes : a' ≡ change 0 (take (get_or need 0 0) heap.records) a
+  pub bits : b' ≡ change 0 (take (get_or need 1 0) heap.bits) b
+  pub side : c' ≡ change 0 (take (get_or need 2 0) heap.side) c
+  pub roots : d' ≡ change 0 (take (get_or need 3 0) tops) d
 
 -- ---------------------------------------------------------------- a problem that is ready
 
@@ -137,7 +96,7 @@ all-within (n ∷ ns) [] h i l = absurd h
 all-within (n ∷ ns) (m ∷ ms) h zero l = leb→le n m (and_0 (leb n m) (all_within ns ms) h)
 all-within (n ∷ ns) (m ∷ ms) h (suc i) l = all-within ns ms (and-1 (leb n m) (all_within ns ms) h) i (omega arith)
 
-module _ {s t h heap records digits tops need room : List ℕ} (x : Ready s t h heap records digits tops need room) (lent : Problem) (l : lengths_of lent ≡ room) where
+module _ {s : List ℕ} {t : Table} {h : Header} {heap : Heap} {tops need room : List ℕ} (x : Ready s t h heap tops need room) (lent : Problem) (l : lengths_of lent ≡ room) where
   abbrev D : Declarations
   D = x.whole.declarations
 
@@ -175,17 +134,17 @@ module _ {s t h heap records digits tops need room : List ℕ} (x : Ready s t h 
   unfolding inputs rebuild dag_for
   n-roots = at 3
 
-  records-are : take (get_or need 0 0) records ≡ p.nodes
+  records-are : take (get_or need 0 0) heap.records ≡ p.nodes
   unfolding inputs rebuild dag_for
-  records-are = ap (λ (k : ℕ). take k records) (n-records ∙ length-all (placed r).items) ∙ x.whole.held.records
+  records-are = ap (λ (k : ℕ). take k heap.records) (n-records ∙ length-all (placed r).items) ∙ x.whole.held.records
 
-  bits_are : take (get_or need 1 0) digits ≡ p.bits
+  bits_are : take (get_or need 1 0) heap.bits ≡ p.bits
   unfolding inputs rebuild dag_for
-  bits_are = ap (λ (k : ℕ). take k digits) n-bits ∙ x.whole.held.bits_held
+  bits_are = ap (λ (k : ℕ). take k heap.bits) n-bits ∙ x.whole.held.bits_held
 
-  side-are : take (get_or need 2 0) (drop 4 heap) ≡ p.side
+  side-are : take (get_or need 2 0) heap.side ≡ p.side
   unfolding inputs rebuild dag_for
-  side-are = ap (λ (k : ℕ). take k (drop 4 heap)) n-side ∙ x.whole.held.side_held
+  side-are = ap (λ (k : ℕ). take k heap.side) n-side ∙ x.whole.held.side_held
 
   roots-counted : get_or need 3 0 ≡ x.count
   roots-counted = n-roots ∙ length-map (placed r).refs (node_of (placed r).items) ∙ script-roots
@@ -193,20 +152,20 @@ module _ {s t h heap records digits tops need room : List ℕ} (x : Ready s t h 
       script-roots : length (placed r).refs ≡ x.count
       script-roots = assertions-counted D x.whole.trees ∙ sym x.whole.counted
 
-  roots-are : take (get_or need 3 0) (drop 0 tops) ≡ p.roots
+  roots-are : take (get_or need 3 0) tops ≡ p.roots
   unfolding inputs rebuild dag_for
   roots-are = ap (λ (k : ℕ). take k tops) roots-counted ∙ x.whole.rooted
 
-  pub ready-nodes : NodesFit need heap records digits tops lent.nodes lent.bits lent.side lent.roots
+  pub ready-nodes : NodesFit need heap tops lent.nodes lent.bits lent.side lent.roots
   unfolding inputs rebuild dag_for
   ready-nodes = record {
-    nodes = taken _ records _ records-are (sym n-records);
+    nodes = taken _ heap.records _ records-are (sym n-records);
     nodes_room = at_most 0 (omega arith);
-    bits = taken _ digits _ bits_are (sym n-bits);
+    bits = taken _ heap.bits _ bits_are (sym n-bits);
     bits_room = at_most 1 (omega arith);
-    side = (let z = taken _ (drop 4 heap) _ side-are (sym n-side) in let e = length-drop 4 heap in omega (arith, z, e, x.whole.held.heap_long));
+    side = taken _ heap.side _ side-are (sym n-side);
     side-room = at_most 2 (omega arith);
-    roots = (let z = taken _ (drop 0 tops) _ roots-are (sym n-roots) in omega (arith, z));
+    roots = taken _ tops _ roots-are (sym n-roots);
     roots_room = at_most 3 (omega arith);
   }
 
@@ -237,7 +196,7 @@ module _ {s t h heap records digits tops need room : List ℕ} (x : Ready s t h 
   }
 
   -- the eighteen outputs are the problem at the front of what was lent
-  pub ready-filled : {o : Problem} → NodesFilled 0 need heap records digits tops lent.nodes lent.bits lent.side lent.roots o.nodes o.bits o.side o.roots
+  pub ready-filled : {o : Problem} → NodesFilled need heap tops lent.nodes lent.bits lent.side lent.roots o.nodes o.bits o.side o.roots
       → VariablesFilled 0 D lent.names lent.name_start lent.name_len lent.var_node lent.var_width o.names o.name_start o.name_len o.var_node o.var_width
       → ArraysFilled 0 D lent.anames lent.aname_start lent.aname_len lent.index_width lent.value_width o.anames o.aname_start o.aname_len o.index_width o.value_width
       → FunctionsFilled 0 D lent.fnames lent.fname_start lent.fname_len lent.func_width o.fnames o.fname_start o.fname_len o.func_width
@@ -268,111 +227,17 @@ module _ {s t h heap records digits tops need room : List ℕ} (x : Ready s t h 
   unfolding sizes_of
   sizes-are = ap sizes_among x.needed
 
-  pub ready-answer : (o : Problem) (q : Outcome) → OutcomeFor 0 need q → o ≡ each_with at_front (inputs (rebuild (reading_of x.whole.declarations x.whole.trees))) lent → read_back q o ≡ read_script_answer s lent
+  pub ready-answer : (z : Told) (o : Problem) → need ≡ needs_of z → o ≡ each_with at_front (inputs (rebuild (reading_of x.whole.declarations x.whole.trees))) lent → read_back (Ok z) o ≡ read_script_answer s lent
   unfolding read_as
-  ready-answer o (Read z) e f =
-      (λ i. record { number = 0; sizes = (e ∙ sizes-are) i; output = f i })
+  ready-answer z o e f =
+      (λ i. record { number = 0; sizes = (sym (ap sizes_among e) ∙ sizes-are) i; output = f i })
       ∙ sym (room-there s r x.whole.reading (passed r x.whole.passes) lent (subst (λ (ns : List ℕ). T (all_within ns (lengths_of lent))) x.needed (subst (λ (ms : List ℕ). T (all_within need ms)) (sym l) x.fits)))
-  ready-answer o (Refused c) e f = absurd e
 
 -- ---------------------------------------------------------------- a refusal
 
-abbrev pub no_declarations : Declarations
-no_declarations = record { variables = []; arrays = []; functions = [] }
-
-cleared : (n : ℕ) (l o o' : List ℕ) → o' ≡ change (suc n) l o → o' ≡ zeroed o
-unfolding change
-cleared n l o o' e = e
-
-module _ (n : ℕ) (lent o : Problem) (need : List ℕ) {heap records digits tops : List ℕ} where
-  pub refused-filled : NodesFilled (suc n) need heap records digits tops lent.nodes lent.bits lent.side lent.roots o.nodes o.bits o.side o.roots
-      → VariablesFilled (suc n) no_declarations lent.names lent.name_start lent.name_len lent.var_node lent.var_width o.names o.name_start o.name_len o.var_node o.var_width
-      → ArraysFilled (suc n) no_declarations lent.anames lent.aname_start lent.aname_len lent.index_width lent.value_width o.anames o.aname_start o.aname_len o.index_width o.value_width
-      → FunctionsFilled (suc n) no_declarations lent.fnames lent.fname_start lent.fname_len lent.func_width o.fnames o.fname_start o.fname_len o.func_width
-      → o ≡ each_with (λ _. zeroed) nothing lent
-  unfolding change
-  refused-filled x v a f = λ i. record {
-    nodes = x.nodes i;
-    bits = x.bits i;
-    side = x.side i;
-    roots = x.roots i;
-    names = v.named.names i;
-    name_start = v.named.starts i;
-    name_len = v.named.lengths i;
-    var_node = v.nodes i;
-    var_width = v.widths i;
-    anames = a.named.names i;
-    aname_start = a.named.starts i;
-    aname_len = a.named.lengths i;
-    index_width = a.index i;
-    value_width = a.value i;
-    fnames = f.named.names i;
-    fname_start = f.named.starts i;
-    fname_len = f.named.lengths i;
-    func_width = f.widths i;
-  }
-
-module _ (n : ℕ) (lent o : Problem) (need : List ℕ) where
-  pub refused-answer : (s : List ℕ) (q : Outcome) → read_script_answer s lent ≡ read_as (suc n) nothing lent → OutcomeFor (suc n) need q → o ≡ each_with (λ _. zeroed) nothing lent → read_back q o ≡ read_script_answer s lent
-  unfolding read_as
-  refused-answer s (Read z) e f g = absurd f
-  refused-answer s (Refused c) e f g = (λ i. record { number = f i; sizes = no_sizes; output = g i }) ∙ sym e
-
--- ---------------------------------------------------------------- whichever number it is
-
--- the declarations that the tables are filled with; none where nothing is written
-abbrev pub Filled : ℕ → List ℕ → List ℕ → List ℕ → List ℕ → List ℕ → List ℕ → List ℕ → List ℕ → Problem → Problem → Type 0
-Filled n s t h need heap records digits tops lent o =
-    NodesFilled n need heap records digits tops lent.nodes lent.bits lent.side lent.roots o.nodes o.bits o.side o.roots
-    × ((D : Declarations) → (n ≡ 0 → Few s t h D) → VariablesFilled n D lent.names lent.name_start lent.name_len lent.var_node lent.var_width o.names o.name_start o.name_len o.var_node o.var_width)
-    × ((D : Declarations) → (n ≡ 0 → Few s t h D) → ArraysFilled n D lent.anames lent.aname_start lent.aname_len lent.index_width lent.value_width o.anames o.aname_start o.aname_len o.index_width o.value_width)
-    × ((D : Declarations) → (n ≡ 0 → Few s t h D) → FunctionsFilled n D lent.fnames lent.fname_start lent.fname_len lent.func_width o.fnames o.fname_start o.fname_len o.func_width)
-
-module _ {s t h heap records digits tops need room : List ℕ} (lent o : Problem) (l : lengths_of lent ≡ room) (q : Outcome) where
-  pub read_answer : (n : ℕ) → Decided s t h heap records digits tops need room n → Filled n s t h need heap records digits tops lent o → OutcomeFor n need q → read_back q o ≡ read_script_answer s lent
-  read_answer zero d' (x, v, a, f) e =
-      let d = d'.told in
-      let D : Declarations = d.whole.declarations in
-      let k : Few s t h D = ready-few d lent l in
-      ready-answer d lent l o q e (ready-filled d lent l x (v D (λ _. k)) (a D (λ _. k)) (f D (λ _. k)))
-  read_answer (suc n) d (x, v, a, f) e =
-      let D : Declarations = no_declarations in
-      let z : suc n ≡ 0 → Few s t h D = λ e. absurd (omega (arith, e)) in
-      refused-answer n lent o need s q (d.told.1 lent l) e (refused-filled n lent o need x (v D z) (a D z) (f D z))
-
--- what is decided asks nothing of the outputs where it is a refusal
-module _ {s t h heap records digits tops need room : List ℕ} (n : ℕ) (d : Decided s t h heap records digits tops need room n) (lent : Problem) (l : lengths_of lent ≡ room) where
-  pub fit-nodes : n ≡ 0 → NodesFit need heap records digits tops lent.nodes lent.bits lent.side lent.roots
-  fit-nodes e = by_number n d e
-    where
-      by_number : (n : ℕ) → Decided s t h heap records digits tops need room n → n ≡ 0 → NodesFit need heap records digits tops lent.nodes lent.bits lent.side lent.roots
-      by_number zero d e = ready-nodes d.told lent l
-      by_number (suc n) d e = absurd (omega (arith, e))
-
-  pub fit-variables : n ≡ 0 → (D : Declarations) × Few s t h D × VariablesFit D lent.names lent.name_start lent.name_len lent.var_node lent.var_width
-  fit-variables e = by_number n d e
-    where
-      by_number : (n : ℕ) → Decided s t h heap records digits tops need room n → n ≡ 0 → (D : Declarations) × Few s t h D × VariablesFit D lent.names lent.name_start lent.name_len lent.var_node lent.var_width
-      by_number zero d e = (d.told.whole.declarations, ready-few d.told lent l, ready-variables d.told lent l)
-      by_number (suc n) d e = absurd (omega (arith, e))
-
-  pub fit-arrays : n ≡ 0 → (D : Declarations) × Few s t h D × ArraysFit D lent.anames lent.aname_start lent.aname_len lent.index_width lent.value_width
-  fit-arrays e = by_number n d e
-    where
-      by_number : (n : ℕ) → Decided s t h heap records digits tops need room n → n ≡ 0 → (D : Declarations) × Few s t h D × ArraysFit D lent.anames lent.aname_start lent.aname_len lent.index_width lent.value_width
-      by_number zero d e = (d.told.whole.declarations, ready-few d.told lent l, ready-arrays d.told lent l)
-      by_number (suc n) d e = absurd (omega (arith, e))
-
-  pub fit-functions : n ≡ 0 → (D : Declarations) × Few s t h D × FunctionsFit D lent.fnames lent.fname_start lent.fname_len lent.func_width
-  fit-functions e = by_number n d e
-    where
-      by_number : (n : ℕ) → Decided s t h heap records digits tops need room n → n ≡ 0 → (D : Declarations) × Few s t h D × FunctionsFit D lent.fnames lent.fname_start lent.fname_len lent.func_width
-      by_number zero d e = (d.told.whole.declarations, ready-few d.told lent l, ready-functions d.told lent l)
-      by_number (suc n) d e = absurd (omega (arith, e))
-
-  pub number-listed : T (among (0 ∷ 9 ∷ 10 ∷ 13 ∷ []) n)
-  number-listed = by_number n d
-    where
-      by_number : (n : ℕ) → Decided s t h heap records digits tops need room n → T (among (0 ∷ 9 ∷ 10 ∷ 13 ∷ []) n)
-      by_number zero d = tt
-      by_number (suc n) d = or_r (eqb (suc n) 0) (among (9 ∷ 10 ∷ 13 ∷ []) (suc n)) d.told.0
+pub refused-answer : (s : List ℕ) (lent o : Problem) (e : ReadError) → read_script_answer s lent ≡ read_as (error_number e) nothing lent → o ≡ each_with (λ _. zeroed) nothing lent
+    → read_back (Err e) o ≡ read_script_answer s lent
+unfolding read_as
+refused-answer s lent o NoScript e f = (λ i. record { number = 13; sizes = no_sizes; output = f i }) ∙ sym e
+refused-answer s lent o Limit e f = (λ i. record { number = 9; sizes = no_sizes; output = f i }) ∙ sym e
+refused-answer s lent o Room e f = (λ i. record { number = 10; sizes = no_sizes; output = f i }) ∙ sym e

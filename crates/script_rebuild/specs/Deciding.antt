@@ -1,6 +1,6 @@
 -- The steps of deciding.
 use Prim.Native.Nat.{ℕ, zero, suc, ◌+◌, ◌-◌, ◌*◌, ◌≤◌, ◌<◌, min}
-use Rattle.std.specs.Prelude.{◌≡◌, Bool, true, false, ◌&&◌, T, leb, get_or}
+use Rattle.std.specs.Prelude.{◌≡◌, Bool, true, false, ◌&&◌, T, leb, get_or, Result, Ok, Err}
 use Rattle.std.proofs.Math.Path.{refl, ap, sym}
 use Rattle.std.proofs.Common.{◌∙◌, subst, arith, leb→le, le→leb}
 use mathlib.Core.List.{List, [], ◌∷◌, ◌++◌, map}
@@ -18,16 +18,23 @@ use Rattle.readback.specs.ReadAnswers.{lists_of, all_fit, limits_passed, rebuilt
 use Rattle.rebuilt.specs.Layout.{length-starts, length-count}
 use Rattle.script_entries.specs.Entries.{variables_of, arrays_of, names_of}
 use Rattle.header_laws.specs.Body.{reading_of}
-use Rattle.heap_laws.specs.Heap.{count_in, bit_count_in, side_count_in, Held}
+use Rattle.heap_laws.specs.Heap.{Held}
+use Rattle.heap_laws.specs.declared.Heap.{Heap}
+use Rattle.script_names.specs.declared.Table.{Table}
+use Rattle.script_header.specs.declared.Header.{Header}
+use Rattle.script_place.specs.declared.Unread.{Unread}
+use Rattle.script_place.specs.declared.Unread.TheVariants.{NoScript, Limit}
+use Rattle.script_rebuild.specs.declared.Decision.{Decision}
+use Rattle.script_rebuild.specs.declared.Sizes.{Sizes}
+use Rattle.script_rebuild.specs.declared.ReadError.{ReadError}
+use Rattle.script_rebuild.specs.declared.ReadError.TheVariants.{NoScript as NoneRead, Limit as Over, Room}
 use Rattle.heap_laws.specs.Within.{within-parts, length-all}
 use Rattle.script_rebuild.specs.Limits.{Passes, passed, roots-counted}
-use Rattle.script_rebuild.specs.Rebuilt.{WholeProblem, RebuiltTo}
-use Rattle.script_rebuild.specs.declared.Rebuilt.{Rebuilt}
-use Rattle.script_rebuild.specs.declared.Rebuilt.TheVariants.{NoScript, Limit, Whole}
+use Rattle.script_rebuild.specs.Rebuilt.{WholeProblem}
 use Rattle.script_rebuild.specs.Steps.{Counts, counts}
 use Rattle.script_rebuild.specs.ArenaLengths.{ArenasAre}
 use Rattle.script_rebuild.specs.declared.Arenas.{Arenas}
-use Rattle.script_rebuild.specs.Decided.{lengths_of, all_within, Ready, Decided}
+use Rattle.script_rebuild.specs.Decided.{lengths_of, all_within, needs_of, Ready, Decided}
 
 -- ---------------------------------------------------------------- room
 
@@ -67,13 +74,13 @@ room-there s r e l lent f =
 -- ---------------------------------------------------------------- what is needed
 
 -- there is room for the numbers
-pub few-names : {h : List ℕ} (r : Reading) → Counts h r.declarations → Passes r → names_of h ≤ 1536
+pub few-names : {h : Header} (r : Reading) → Counts h r.declarations → Passes r → names_of h ≤ 1536
 few-names r c p = omega (arith, c.variables, c.arrays, c.functions, p.variables.entries, p.arrays.entries, p.functions.entries)
 
-pub nodes-few : {heap nodes bits : List ℕ} {s : List Item} → Held heap nodes bits s → count_in heap ≤ 2048
+pub nodes-few : {heap : Heap} {s : List Item} → Held heap s → heap.count ≤ 2048
 nodes-few {s = s} x = omega (arith, x.count, (within-parts s x.inside).nodes)
 
-module _ {s t h heap nodes bits roots : List ℕ} {n : ℕ} (x : WholeProblem s t h heap nodes bits roots n) where
+module _ {s : List ℕ} {t : Table} {h : Header} {heap : Heap} {roots : List ℕ} {n : ℕ} (x : WholeProblem s t h heap roots n) where
   abbrev r : Reading
   r = reading_of x.declarations x.trees
 
@@ -107,11 +114,11 @@ module _ {s t h heap nodes bits roots : List ℕ} {n : ℕ} (x : WholeProblem s 
       λ i. e₀ i ∷ length (joined bits_in items) ∷ length (joined side_in items) ∷ e₃ i ∷ length (arena (variable_names_in D)) ∷ vs i ∷ vl i ∷ vc i ∷ vw i ∷ length (arena (array_names_in D)) ∷ an i ∷ al i ∷ ai i ∷ av i ∷ length (arena (function_names_in D)) ∷ fs i ∷ fl i ∷ fw i ∷ []
 
   -- the numbers that are at hand are those that are needed
-  pub need-is : {q : Arenas} → Counts h D → ArenasAre D q → need_of (17 * count_in heap) (bit_count_in heap) (side_count_in heap) n q.names (variables_of h) q.anames (arrays_of h - variables_of h) q.fnames (names_of h - arrays_of h)
+  pub need-is : {q : Arenas} → Counts h D → ArenasAre D q → need_of (17 * heap.count) heap.bit_count heap.side_count n q.names (variables_of h) q.anames (arrays_of h - variables_of h) q.fnames (names_of h - arrays_of h)
       ≡ lengths_of (inputs (rebuild r))
   need-is {q} c a =
       let p = x.passes in
-      let e₀ : 17 * count_in heap ≡ 17 * length items = ap (λ (k : ℕ). 17 * k) x.held.count in
+      let e₀ : 17 * heap.count ≡ 17 * length items = ap (λ (k : ℕ). 17 * k) x.held.count in
       let vn : q.names ≡ length (arena (variable_names_in D)) = omega (arith, a.names, p.variables.names) in
       let an : q.anames ≡ length (arena (array_names_in D)) = omega (arith, a.anames, p.arrays.names) in
       let fn : q.fnames ≡ length (arena (function_names_in D)) = omega (arith, a.fnames, p.functions.names) in
@@ -123,29 +130,12 @@ module _ {s t h heap nodes bits roots : List ℕ} {n : ℕ} (x : WholeProblem s 
   limits-kept : T (limits_passed (rebuild r))
   limits-kept = passed r x.passes
 
-  pub decided-ready : {need room : List ℕ} → need ≡ lengths_of (inputs (rebuild r)) → T (all_within need room) → Decided s t h heap nodes bits roots need room 0
-  decided-ready e f = record { told = record { count = n; whole = x; needed = e; fits = f } }
+  pub decided-ready : (z : Sizes) {room : List ℕ} → needs_of z ≡ lengths_of (inputs (rebuild r)) → T (all_within (needs_of z) room)
+      → Decided s t heap roots room (Ok (record { header = h; sizes = z }))
+  decided-ready z e f = record { count = n; whole = x; needed = e; fits = f }
 
-  pub decided-short : {need room : List ℕ} → need ≡ lengths_of (inputs (rebuild r)) → all_within need room ≡ false → Decided s t h heap nodes bits roots need room 10
-  decided-short e f = record { told = (tt, λ lent l. no_room s r x.reading limits-kept lent ((λ i. all_within (sym e i) (l i)) ∙ f)) }
-
--- ---------------------------------------------------------------- what the rebuilding told
-
-module _ (s t h heap nodes bits roots : List ℕ) where
-  pub told_none : (r : Rebuilt) → RebuiltTo s t h heap nodes bits roots r → r ≡ NoScript → (need room : List ℕ) → Decided s t h heap nodes bits roots need room 13
-  told_none NoScript x e need room = record { told = (tt, λ lent l. no-script s x lent) }
-  told_none Limit x e need room = absurd (let z : ◌≡◌ {A = ℕ} 0 1 = cc in omega arith)
-  told_none (Whole n) x e need room = absurd (let z : ◌≡◌ {A = ℕ} 0 1 = cc in omega arith)
-
-  pub told_over : (r : Rebuilt) → RebuiltTo s t h heap nodes bits roots r → r ≡ Limit → (need room : List ℕ) → Decided s t h heap nodes bits roots need room 9
-  told_over NoScript x e need room = absurd (let z : ◌≡◌ {A = ℕ} 0 1 = cc in omega arith)
-  told_over Limit x e need room = record { told = (tt, λ lent l. over-limit s x lent) }
-  told_over (Whole n) x e need room = absurd (let z : ◌≡◌ {A = ℕ} 0 1 = cc in omega arith)
-
-  pub told-whole : (r : Rebuilt) (n : ℕ) → RebuiltTo s t h heap nodes bits roots r → r ≡ Whole n → WholeProblem s t h heap nodes bits roots n
-  told-whole NoScript n x e = absurd (let z : ◌≡◌ {A = ℕ} 0 1 = cc in omega arith)
-  told-whole Limit n x e = absurd (let z : ◌≡◌ {A = ℕ} 0 1 = cc in omega arith)
-  told-whole (Whole m) n x e = let q : m ≡ n = cc in subst (λ (k : ℕ). WholeProblem s t h heap nodes bits roots k) q x
+  pub decided-short : (z : Sizes) {room : List ℕ} → needs_of z ≡ lengths_of (inputs (rebuild r)) → all_within (needs_of z) room ≡ false → Decided s t heap roots room (Err Room)
+  decided-short z e f = λ lent l. no_room s r x.reading limits-kept lent ((λ i. all_within (sym e i) (l i)) ∙ f)
 
 -- ---------------------------------------------------------------- the numbers in their places
 

@@ -3,19 +3,13 @@ use Rattle.std.specs.Prelude.{ℕ, ◌≡◌, refl, List, [], length, replicate}
 use Rattle.std.proofs.Common.{subst}
 use Rattle.std.proofs.lemmas.List.{length-replicate}
 use Rattle.lent.specs.Clearing.{replicate-zeros}
-use Rattle.script_header.specs.Header.{Empty}
 use Rattle.script_calls.specs.Flags.{Unflagged}
-use Rattle.heap_laws.specs.Heap.{Held, Stacked}
-use Rattle.heap_laws.specs.Start.{Blank, held_none, stacked-none}
+use Rattle.heap_laws.specs.declared.Constant.{Constant}
+use Rattle.heap_laws.specs.declared.Heap.{Heap}
+use Rattle.heap_laws.specs.Start.{Blank}
 
 abbrev zeros_of : ℕ → List ℕ
 zeros_of n = replicate n 0
-
-table_of : (n : ℕ) → n ≡ 10240 → Empty (zeros_of n)
-table_of n e = record { long = subst (λ (k : ℕ). length (zeros_of n) ≡ k) e (length-replicate n 0); zeros = λ h l. (replicate-zeros n).at _ }
-
-pub fresh-table : Empty (replicate 10240 0)
-fresh-table = table_of 10240 refl
 
 flags_of : (n : ℕ) → n ≡ 512 → Unflagged (zeros_of n)
 flags_of n e = record { long = subst (λ (k : ℕ). length (zeros_of n) ≡ k) e (length-replicate n 0); zeros = λ h l. (replicate-zeros n).at h }
@@ -23,17 +17,53 @@ flags_of n e = record { long = subst (λ (k : ℕ). length (zeros_of n) ≡ k) e
 pub fresh-flags : Unflagged (replicate 512 0)
 fresh-flags = flags_of 512 refl
 
-heap_of : (n : ℕ) → n ≡ 34820 → Blank (zeros_of n)
-heap_of n e = record { long = subst (λ (k : ℕ). length (zeros_of n) ≡ k) e (length-replicate n 0); zero = λ i. (replicate-zeros n).at i }
+long : {A : Type 0} (n m : ℕ) (x : A) → n ≡ m → length (replicate n x) ≡ m
+long n m x e = subst (λ (k : ℕ). length (replicate n x) ≡ k) e (length-replicate n x)
 
-pub fresh-heap : Blank (replicate 34820 0)
-fresh-heap = heap_of 34820 refl
+blank_of : (a b c d e f : ℕ) (x : Constant) → a ≡ 8192 → b ≡ 2048 → c ≡ 4096 → d ≡ 16384 → e ≡ 34816 → f ≡ 262144
+    → Blank (record {
+      count = 0;
+      bit_count = 0;
+      side_count = 0;
+      top = 0;
+      side = zeros_of a;
+      constants = replicate b x;
+      heads = zeros_of c;
+      stack = zeros_of d;
+      records = zeros_of e;
+      bits = zeros_of f;
+    })
+blank_of a b c d e f x ea eb ec ed ee ef = record {
+  side_long = long a 8192 0 ea;
+  constants_long = long b 2048 x eb;
+  heads_long = long c 4096 0 ec;
+  stack_long = long d 16384 0 ed;
+  nodes_long = long e 34816 0 ee;
+  bits-long = long f 262144 0 ef;
+  count = refl;
+  bit_count = refl;
+  side_count = refl;
+  top = refl;
+  heads = λ i. (replicate-zeros c).at i;
+}
 
-pub fresh-nodes : Held (replicate 34820 0) (replicate 34816 0) (replicate 262144 0) []
-fresh-nodes = held_none fresh-heap (length-replicate {A = ℕ} 34816 0) (length-replicate {A = ℕ} 262144 0)
+-- no nodes yet
+abbrev pub blank_heap : Heap
+blank_heap = record {
+  count = 0;
+  bit_count = 0;
+  side_count = 0;
+  top = 0;
+  side = replicate 8192 0;
+  constants = replicate 2048 (record { start = 0; width = 0; before = 0 });
+  heads = replicate 4096 0;
+  stack = replicate 16384 0;
+  records = replicate 34816 0;
+  bits = replicate 262144 0;
+}
 
-pub fresh-stack : (s : List ℕ) → Stacked s (replicate 34820 0) []
-fresh-stack s = stacked-none s fresh-heap
+pub fresh-heap : Blank blank_heap
+fresh-heap = blank_of 8192 2048 4096 16384 34816 262144 (record { start = 0; width = 0; before = 0 }) refl refl refl refl refl refl
 
 pub fresh-roots : length (zeros_of 256) ≡ 256
-fresh-roots = length-replicate {A = ℕ} 256 0
+fresh-roots = long {A = ℕ} 256 256 0 refl

@@ -1,5 +1,6 @@
 -- The steps of rebuilding a script's problem.
-use Rattle.std.specs.Prelude.{ℕ, ◌+◌, ◌-◌, ◌≤◌, ◌<◌, min, ◌≡◌, refl, List, [], map, Bool, true, false, T, leb, length, take}
+use Rattle.std.specs.Prelude.{ℕ, ◌+◌, ◌-◌, ◌≤◌, ◌<◌, min, ◌≡◌, refl, List, [], map, Bool, true, false, T, leb, length, take, Result, Ok, Err, Some, None}
+use Rattle.std.specs.Prelude as code
 use Rattle.std.proofs.Common.{ap, sym, ◌∙◌, subst, ⊎_elim, arith, leb→le, le→leb}
 use Rattle.std.proofs.Math.Option.{Option, none, some}
 use Rattle.std.proofs.lemmas.List.{length-map}
@@ -16,35 +17,33 @@ use Rattle.readback.specs.Reader.{Took, and_then, expect}
 use Rattle.script_header.specs.Header.{header_in}
 use Rattle.header_laws.specs.Whole.{header-none}
 use Rattle.script_opening.specs.Openings.{place_of, opening_at}
-use Rattle.script_opening.specs.declared.Begins.{Begins}
-use Rattle.script_opening.specs.declared.Begins.TheVariants.{Nowhere}
 use Rattle.script_fill.specs.Filling.{line_names, Few}
 use Rattle.script_fill.specs.Turns.{variable-lines, array-lines, function-lines}
 use Rattle.header_laws.specs.Body.{reading_of, AssertionsAt}
 use Rattle.heap_laws.specs.Heap.{Held, Stacked}
+use Rattle.heap_laws.specs.declared.Heap.{Heap}
+use Rattle.script_names.specs.declared.Table.{Table}
+use Rattle.script_header.specs.declared.Header.{Header}
+use Rattle.script_place.specs.declared.Unread.{Unread}
+use Rattle.script_place.specs.declared.Unread.TheVariants.{NoScript, Limit}
+use Rattle.script_rebuild.specs.declared.Rebuilt.{Rebuilt}
 use Rattle.script_rebuild.specs.Limits.{TablesWithin, Tables, Passes, passes, roots-counted}
-use Rattle.place_script.specs.declared.Roots.{Roots}
-use Rattle.place_script.specs.declared.Roots.TheVariants.{No, Over, Are}
 use Rattle.place_script.specs.Scripts.{Ready, ScriptTo, RootsIn}
 use Rattle.script_rebuild.specs.ArenaLengths.{ArenasAre}
 use Rattle.script_check.specs.Check.{Topped, BodyAt, BodyTo}
 use Rattle.script_check.specs.Turns.{body-none, body_checked}
 use Rattle.script_rebuild.specs.Rebuilt.{WholeProblem, RebuiltTo}
-use Rattle.script_check.specs.declared.Check.{Check}
-use Rattle.script_check.specs.declared.Check.TheVariants.{No as NotChecked, Yes}
-use Rattle.script_rebuild.specs.declared.Rebuilt.{Rebuilt}
-use Rattle.script_rebuild.specs.declared.Rebuilt.TheVariants.{NoScript, Limit, Whole}
 use Rattle.script_rebuild.specs.declared.Arenas.{Arenas}
 
 -- ---------------------------------------------------------------- tables
 
 -- the header's numbers count the names
-pub record Counts (h : List ℕ) (D : Declarations) : Type 0 where
+pub record Counts (h : Header) (D : Declarations) : Type 0 where
   pub variables : variables_of h ≡ length (variable_names_in D)
   pub arrays : arrays_of h ≡ variables_of h + length (array_names_in D)
   pub functions : names_of h ≡ arrays_of h + length (function_names_in D)
 
-pub counts : (s t h : List ℕ) (D : Declarations) → Known s t h D → Counts h D
+pub counts : (s : List ℕ) (t : Table) (h : Header) (D : Declarations) → Known s t h D → Counts h D
 counts s t h D k =
     let v = length-map D.variables (λ (x : Variable). x.name) in
     let a = length-map D.arrays (λ (x : Array). x.name) in
@@ -52,14 +51,14 @@ counts s t h D k =
     record { variables = omega (arith, v, k.variables); arrays = omega (arith, a, k.arrays); functions = omega (arith, f, k.functions) }
 
 -- the lengths of the names of the three tables
-pub arenas-are : {s t h : List ℕ} {D : Declarations} → Few s t h D → {a b c : ℕ} → a ≡ min (length (arena (line_names s t 0 (variables_of h)))) 16385
+pub arenas-are : {s : List ℕ} {t : Table} {h : Header} {D : Declarations} → Few s t h D → {a b c : ℕ} → a ≡ min (length (arena (line_names s t 0 (variables_of h)))) 16385
     → b ≡ min (length (arena (line_names s t (variables_of h) (arrays_of h - variables_of h)))) 16385 → c ≡ min (length (arena (line_names s t (arrays_of h) (names_of h - arrays_of h)))) 16385
     → ArenasAre D (record { names = a; anames = b; fnames = c })
 arenas-are x e f g =
     let m : List Name → ℕ = λ ns. min (length (arena ns)) 16385 in
     record { names = e ∙ ap m (variable-lines x); anames = f ∙ ap m (array-lines x); fnames = g ∙ ap m (function-lines x) }
 
-module _ (D : Declarations) {h : List ℕ} (c : Counts h D) where
+module _ (D : Declarations) {h : Header} (c : Counts h D) where
   pub many-variables : 512 < variables_of h → Tables D false
   many-variables l w = omega (arith, l, c.variables, w.variables.entries)
 
@@ -90,18 +89,18 @@ module _ (D : Declarations) {h : List ℕ} (c : Counts h D) where
 -- ---------------------------------------------------------------- how a script begins
 
 -- bytes that do not begin so are no script
-pub not-begun : (s : List ℕ) {r : Begins} → r ≡ opening_at s 0 → r ≡ Nowhere → reading_in s ≡ none
+pub not-begun : (s : List ℕ) → None ≡ opening_at s 0 → reading_in s ≡ none
 unfolding opening_at header_in and_then
-not-begun s e f = by-opening (expect (bytes "(set-logic ") s) refl (sym e ∙ f)
+not-begun s e = by-opening (expect (bytes "(set-logic ") s) refl (sym e)
   where
-    by-opening : (o : Option (Took (List ℕ))) → expect (bytes "(set-logic ") s ≡ o → place_of s o ≡ Nowhere → reading_in s ≡ none
+    by-opening : (o : Option (Took (List ℕ))) → expect (bytes "(set-logic ") s ≡ o → place_of s o ≡ None → reading_in s ≡ none
     by-opening none q z = header-none s (rw q refl)
     by-opening (some t) q z = absurd (let y : ◌≡◌ {A = ℕ} 0 1 = cc in omega arith)
 
 -- ---------------------------------------------------------------- the answer
 
 -- the names and the functions that tables within their limits have
-pub few-names : {s t h : List ℕ} {D : Declarations} → Known s t h D → TablesWithin D → names_of h ≤ 1536
+pub few-names : {s : List ℕ} {t : Table} {h : Header} {D : Declarations} → Known s t h D → TablesWithin D → names_of h ≤ 1536
 few-names {s} {t} {h} {D} k w =
     let c = counts s t h D k in
     omega (arith, c.variables, c.arrays, c.functions, w.variables.entries, w.arrays.entries, w.functions.entries)
@@ -110,15 +109,11 @@ pub few-functions : (D : Declarations) → TablesWithin D → length D.functions
 few-functions D w = let f = length-map D.functions (λ (x : Function). x.name) in omega (arith, f, w.functions.entries)
 
 -- the bytes from place `from` on are no script's, or they are
-abbrev pub OverTo : List ℕ → Declarations → ℕ → Rebuilt → Type 0
-OverTo s D from NoScript = BodyTo s D from NotChecked
-OverTo s D from Limit = (a : ℕ) × (n : ℕ) × BodyAt s D from a n
-OverTo s D from (Whole n) = ⊥
+abbrev pub OverTo : List ℕ → Declarations → ℕ → Unread → Type 0
+OverTo s D from NoScript = BodyTo s D from None
+OverTo s D from Limit = (n : ℕ) × BodyAt s D from from n
 
-pub over-told : (s : List ℕ) (D : Declarations) (from : ℕ) {r : Check} → BodyTo s D from r → {a n : ℕ} → r ≡ Yes a n → OverTo s D from Limit
-over-told s D from x {a} {n} q = (a, n, subst (BodyTo s D from) q x)
-
-module _ {s t h : List ℕ} {from : ℕ} (x : Topped s t h from) where
+module _ {s : List ℕ} {t : Table} {h : Header} {from : ℕ} (x : Topped s t h from) where
   abbrev D : Declarations
   D = x.declarations
 
@@ -126,28 +121,27 @@ module _ {s t h : List ℕ} {from : ℕ} (x : Topped s t h from) where
   r ts = reading_of D ts
 
   -- every script that the bytes are passes a limit
-  over : (heap nodes bits roots : List ℕ) → ((ts : List Tree) → AssertionsAt s D from ts → Passes (r ts) → ⊥) → (o : Rebuilt) → OverTo s D from o → RebuiltTo s t h heap nodes bits roots o
-  over heap nodes bits roots f NoScript b = body-none x b
-  over heap nodes bits roots f Limit (_, _, b) = (r b.trees, (body_checked x b).reading, no→false (limits_passed (rebuild (r b.trees))) (λ p. f b.trees b.assertions (passes (r b.trees) p)))
-  over heap nodes bits roots f (Whole n) b = absurd b
+  over : (heap : Heap) (roots : List ℕ) → ((ts : List Tree) → AssertionsAt s D from ts → Passes (r ts) → ⊥) → (o : Unread) → OverTo s D from o → RebuiltTo s t heap roots (Err o)
+  over heap roots f NoScript b = body-none x b
+  over heap roots f Limit (_, b) = (r b.trees, (body_checked x b).reading, no→false (limits_passed (rebuild (r b.trees))) (λ p. f b.trees b.assertions (passes (r b.trees) p)))
 
-  pub over-tables : (heap nodes bits roots : List ℕ) → Tables D false → (o : Rebuilt) → OverTo s D from o → RebuiltTo s t h heap nodes bits roots o
-  over-tables heap nodes bits roots w = over heap nodes bits roots (λ ts _ p. w (record { variables = p.variables; arrays = p.arrays; functions = p.functions }))
+  pub over-tables : (heap : Heap) (roots : List ℕ) → Tables D false → (o : Unread) → OverTo s D from o → RebuiltTo s t heap roots (Err o)
+  over-tables heap roots w = over heap roots (λ ts _ p. w (record { variables = p.variables; arrays = p.arrays; functions = p.functions }))
 
-  module _ {flags heap₀ nodes₀ bits₀ roots₀ : List ℕ} (w : TablesWithin D) (f : (D : Declarations) (ts : List Tree) → Known s t h D → AssertionsAt s D from ts → Flagged D (trees_from ts) flags)
-      (k : Held heap₀ nodes₀ bits₀ []) (m : Stacked s heap₀ []) (z : length roots₀ ≡ 256) (heap nodes bits roots : List ℕ) (b : Roots) where
+  module _ {flags : List ℕ} {heap₀ : Heap} {roots₀ : List ℕ} (w : TablesWithin D) (f : (D : Declarations) (ts : List Tree) → Known s t h D → AssertionsAt s D from ts → Flagged D (trees_from ts) flags)
+      (k : Held heap₀ []) (m : Stacked s heap₀ []) (z : length roots₀ ≡ 256) (heap : Heap) (roots : List ℕ) (b : Result ℕ Unread) where
     -- what placing the script's nodes asks, and what it says
-    ready : (ts : List Tree) → AssertionsAt s D from ts → Ready s t h flags heap₀ nodes₀ bits₀ roots₀ from D ts
+    ready : (ts : List Tree) → AssertionsAt s D from ts → Ready s t h flags heap₀ roots₀ from D ts
     ready ts a = record { known = x.known; functions = few-functions D w; assertions = a; flagged = f D ts x.known a; held = k; stacked = m; long = z }
 
-    module _ (y : (D : Declarations) (ts : List Tree) → Ready s t h flags heap₀ nodes₀ bits₀ roots₀ from D ts → ScriptTo heap nodes bits roots D ts b) where
-      placed_by : {c : Roots} → b ≡ c → (ts : List Tree) → AssertionsAt s D from ts → ScriptTo heap nodes bits roots D ts c
-      placed_by q ts a = subst (ScriptTo heap nodes bits roots D ts) q (y D ts (ready ts a))
+    module _ (y : (D : Declarations) (ts : List Tree) → Ready s t h flags heap₀ roots₀ from D ts → ScriptTo heap roots D ts b) where
+      placed_by : {c : Result ℕ Unread} → b ≡ c → (ts : List Tree) → AssertionsAt s D from ts → ScriptTo heap roots D ts c
+      placed_by q ts a = subst (ScriptTo heap roots D ts) q (y D ts (ready ts a))
 
-      pub over-items : b ≡ Over → (o : Rebuilt) → OverTo s D from o → RebuiltTo s t h heap nodes bits roots o
-      over-items q = over heap nodes bits roots (λ ts a p. ⊎_elim (λ e. subst T e p.items) (λ l. omega (arith, l, roots-counted D ts, p.roots)) (placed_by q ts a))
+      pub over-items : b ≡ Err Limit → (o : Unread) → OverTo s D from o → RebuiltTo s t heap roots (Err o)
+      over-items q = over heap roots (λ ts a p. ⊎_elim (λ e. subst T e p.items) (λ l. omega (arith, l, roots-counted D ts, p.roots)) (placed_by q ts a))
 
-      pub whole : {n : ℕ} → b ≡ Are n → RootsIn s D from b → WholeProblem s t h heap nodes bits roots n
+      pub whole : {n : ℕ} → b ≡ Ok n → RootsIn s D from b → WholeProblem s t h heap roots n
       whole {n} q v =
           let (c, l) = subst (RootsIn s D from) q v in
           let (i, j) = placed_by q c.trees c.assertions in
@@ -162,5 +156,5 @@ module _ {s t h : List ℕ} {from : ℕ} (x : Topped s t h from) where
             rooted = subst (λ (k : ℕ). take k roots ≡ map (node_of (placed (r c.trees)).items) (placed (r c.trees)).refs) (sym c.roots) j;
           }
 
-  pub none-placed : {b : Roots} → RootsIn s D from b → b ≡ No → reading_in s ≡ none
+  pub none-placed : {b : Result ℕ Unread} → RootsIn s D from b → b ≡ Err NoScript → reading_in s ≡ none
   none-placed v q = body-none x (subst (RootsIn s D from) q v)

@@ -2,11 +2,11 @@
 // side entries and roots. Under "Ruled out" stand wrong programs that a public function's contract refuses.
 #![tactic(auto)]
 
-ghost use Rattle.std.specs.Prelude.{◌≡◌, List, [], true, false, ℕ, ◌≤◌, ◌<◌, length};
+ghost use Rattle.std.specs.Prelude.{◌≡◌, List, [], ℕ, ◌≤◌, ◌<◌, length};
 ghost use Rattle.reading.specs.Trees.{Declarations};
 ghost use Rattle.readback.specs.Rebuild.{rebuild};
-ghost use Rattle.script_header.specs.Header.{Empty};
-ghost use Rattle.script_entries.specs.Entries.{Known, names_of};
+ghost use Rattle.script_names.specs.Entries.{Empty};
+ghost use Rattle.script_entries.specs.Entries.{Declares, names_of};
 ghost use Rattle.script_calls.specs.Flags.{Unflagged};
 ghost use Rattle.header_laws.specs.Body.{reading_of};
 ghost use Rattle.heap_laws.specs.Heap.{Held, Stacked};
@@ -17,18 +17,43 @@ ghost use Rattle.script_rebuild.specs.Decided.{lengths_of, all_within, needs_of,
 ghost use Rattle.readback.specs.Records.{inputs};
 ghost use Rattle.script_rebuild.specs.ArenaLengths.{ArenasAre};
 
-use place_script::{Roots, place_script};
+use heap_laws::{BITS, CONSTANTS, Constant, HASHES, Heap, NODES, SIDE, STACK};
+use place_script::place_script;
 use refusals::{MAX_ARENA, MAX_ENTRIES};
 use script_calls::{FLAGS, called_in};
-use script_check::{Check, assertions, check_header};
+use script_check::{assertions, check_header};
+use script_entries::Script;
 use script_fill::names_length;
-use script_heap::{BITS, HEAP, NODES};
-use script_names::TABLE;
-use script_opening::{Begins, opening};
-use script_tokens::Step;
+use script_header::Header;
+use script_names::Table;
+use script_opening::opening;
+use script_place::Unread;
+
+// Arrays that hold no nodes yet. Ruled out: an operand that waits; a constant that is the last of its hash.
+pub fn no_nodes() -> Heap
+    ensures held { Held result [] }
+    ensures stacked { (s : List ℕ) → Stacked s result [] }
+{
+    Heap {
+        count: 0,
+        bit_count: 0,
+        side_count: 0,
+        top: 0,
+        side: [0; SIDE],
+        constants: [Constant {
+            start: 0,
+            width: 0,
+            before: 0,
+        }; CONSTANTS],
+        heads: [0; HASHES],
+        stack: [0; STACK],
+        records: [0; NODES],
+        bits: [0; BITS],
+    }
+}
 
 // How many bytes the names of each table have.
-#[derive(Clone, Copy)]
+#[derive(Clone, Copy, Debug, PartialEq, Eq)]
 pub struct Arenas {
     pub names: usize,
     pub anames: usize,
@@ -36,55 +61,81 @@ pub struct Arenas {
 }
 
 // How many bytes the names of each table have; of names over the limit, one more than the limit.
-fn arena_lengths(s: &[u8], t: &[u64; TABLE], h: &[u64; 4]) -> Arenas
-    requires { ((D : Declarations) × Known s.now t.now h.now D) × (names_of h.now ≤ 1536) }
-    ensures { (D : Declarations) → Known s.now t.now h.now D → ArenasAre D result }
+fn arena_lengths(script: &Script) -> Arenas
+    requires { ((D : Declarations) × Declares script.now D) × (names_of script.now.header ≤ 1536) }
+    ensures { (D : Declarations) → Declares script.now D → ArenasAre D result }
 {
-    let v = h[1] as usize;
-    let w = h[2] as usize;
-    let c = h[3] as usize;
-    let names = names_length(s, t, 0, v);
-    let anames = names_length(s, t, v, w - v);
-    let fnames = names_length(s, t, w, c - w);
+    let v = script.header.variables;
+    let w = script.header.arrays;
+    let c = script.header.names;
+    let names = names_length(script, 0, v);
+    let anames = names_length(script, v, w - v);
+    let fnames = names_length(script, w, c - w);
     Arenas {
-        names: names,
-        anames: anames,
-        fnames: fnames,
+        names,
+        anames,
+        fnames,
     }
 }
 
-// What became of a script: the bytes are none; its problem is over a limit; or how many roots its problem has.
+// What is rebuilt: the script's header, and how many roots its problem has.
 #[derive(Clone, Copy)]
-pub enum Rebuilt {
-    NoScript,
-    Limit,
-    Whole(usize),
+pub struct Rebuilt {
+    pub header: Header,
+    pub roots: usize,
 }
 
-// How many elements each output needs.
+// How many elements are used of each output, the columns of a table, which are of one length, told once.
+#[derive(Clone, Copy, Debug, PartialEq, Eq)]
+pub struct Sizes {
+    pub nodes: usize,
+    pub bits: usize,
+    pub side: usize,
+    pub roots: usize,
+    pub names: usize,
+    pub variables: usize,
+    pub anames: usize,
+    pub arrays: usize,
+    pub fnames: usize,
+    pub functions: usize,
+}
+
+// Why a script is not read.
+#[derive(Clone, Copy, Debug, PartialEq, Eq)]
+pub enum ReadError {
+    // The bytes are no problem's script.
+    NoScript,
+    // Its problem is over a limit, or has a number that a record cannot hold.
+    Limit,
+    // A lent output is shorter than what belongs there.
+    Room,
+}
+
+// What is decided of a script that is read: its header, and what it needs.
 #[derive(Clone, Copy)]
-pub struct Needs {
-    pub lengths: [u64; 18],
+pub struct Decision {
+    pub header: Header,
+    pub sizes: Sizes,
 }
 
 // Do the tables of declarations keep to their limits?
-fn tables_fit(s: &[u8], t: &[u64; TABLE], h: &[u64; 4]) -> bool
-    requires { (D : Declarations) × Known s.now t.now h.now D }
-    ensures { (D : Declarations) → Known s.now t.now h.now D → Tables D result }
+fn tables_fit(script: &Script) -> bool
+    requires { (D : Declarations) × Declares script.now D }
+    ensures { (D : Declarations) → Declares script.now D → Tables D result }
 {
-    let v = h[1];
-    let w = h[2];
-    let c = h[3];
-    if v > MAX_ENTRIES as u64 {
+    let v = script.header.variables;
+    let w = script.header.arrays;
+    let c = script.header.names;
+    if v > MAX_ENTRIES {
         return false;
     }
-    if w - v > MAX_ENTRIES as u64 {
+    if w - v > MAX_ENTRIES {
         return false;
     }
-    if c - w > MAX_ENTRIES as u64 {
+    if c - w > MAX_ENTRIES {
         return false;
     }
-    let a = arena_lengths(s, t, h);
+    let a = arena_lengths(script);
     if a.names > MAX_ARENA {
         return false;
     }
@@ -94,124 +145,146 @@ fn tables_fit(s: &[u8], t: &[u64; TABLE], h: &[u64; 4]) -> bool
     a.fnames <= MAX_ARENA
 }
 
-// What bytes are whose problem would be over a limit: a script, or none.
-fn over_limit(s: &[u8], t: &[u64; TABLE], h: &[u64; 4], from: usize) -> Rebuilt
-    requires { ((D : Declarations) × Known s.now t.now h.now D) × (from ≤ length s.now) }
-    ensures { (D : Declarations) → Known s.now t.now h.now D → OverTo s.now D from result }
+// What bytes are refused with whose problem would be over a limit: they are a script, or none.
+fn over_limit(script: &Script, from: usize) -> Unread
+    requires { ((D : Declarations) × Declares script.now D) × (from ≤ length script.now.text.now) }
+    ensures { (D : Declarations) → Declares script.now D → OverTo script.now.text.now D from result }
 {
-    match assertions(s, t, h, from) {
-        Check::No => Rebuilt::NoScript,
-        Check::Yes(a, n) => Rebuilt::Limit,
+    match assertions(script, from) {
+        None => Unread::NoScript,
+        Some(_) => Unread::Limit,
     }
 }
 
 // The script's problem, rebuilt. Ruled out: a limit told of bytes that are no script; a problem over a limit that is told as whole; roots left out.
 pub fn rebuild_script(
     s: &[u8],
-    t: &mut [u64; TABLE],
-    h: &mut [u64; 4],
+    t: &mut Table,
     flags: &mut [u64; FLAGS],
-    heap: &mut [u64; HEAP],
-    nodes: &mut [u8; NODES],
-    bits: &mut [u8; BITS],
+    heap: &mut Heap,
     roots: &mut [u64; 256],
-) -> Rebuilt
-    requires { Empty t.old × Unflagged flags.old × Held heap.old nodes.old bits.old [] × Stacked s.now heap.old [] × (length roots.old ≡ 256) }
-    ensures { RebuiltTo s.now t.new h.new heap.new nodes.new bits.new roots.new result }
+) -> Result<Rebuilt, Unread>
+    requires { Empty t.old × Unflagged flags.old × Held heap.old [] × Stacked s.now heap.old [] × (length roots.old ≡ 256) }
+    ensures { RebuiltTo s.now t.new heap.new roots.new result }
 {
-    let Begins::At(p) = opening(s) else {
-        return Rebuilt::NoScript;
+    let Some(_) = opening(s) else {
+        return Err(Unread::NoScript);
     };
-    let Step::To(from) = check_header(s, t, h) else {
-        return Rebuilt::NoScript;
+    let Some(header) = check_header(s, t) else {
+        return Err(Unread::NoScript);
     };
-    if !tables_fit(s, t, h) {
-        return over_limit(s, t, h, from);
+    let script = Script {
+        text: s,
+        table: t,
+        header,
+    };
+    let from = header.end;
+    if !tables_fit(&script) {
+        return Err(over_limit(&script, from));
     }
-    called_in(s, t, h, from, flags);
-    match place_script(s, t, h, flags, heap, nodes, bits, roots, from) {
-        Roots::No => Rebuilt::NoScript,
-        Roots::Over => over_limit(s, t, h, from),
-        Roots::Are(n) => Rebuilt::Whole(n),
+    called_in(&script, from, flags);
+    match place_script(&script, flags, heap, roots, from) {
+        Err(Unread::NoScript) => Err(Unread::NoScript),
+        Err(Unread::Limit) => Err(over_limit(&script, from)),
+        Ok(n) => Ok(Rebuilt { header, roots: n }),
     }
 }
 
 // ---------------------------------------------------------------- room
 
+impl Sizes {
+    // The lengths of all eighteen outputs.
+    fn lengths(&self) -> [usize; 18]
+        ensures { result ≡ needs_of self.now }
+    {
+        [
+            self.nodes,
+            self.bits,
+            self.side,
+            self.roots,
+            self.names,
+            self.variables,
+            self.variables,
+            self.variables,
+            self.variables,
+            self.anames,
+            self.arrays,
+            self.arrays,
+            self.arrays,
+            self.arrays,
+            self.fnames,
+            self.functions,
+            self.functions,
+            self.functions,
+        ]
+    }
+}
+
 // Is each number at most the one in its place?
-fn fits(need: &[u64; 18], room: &[u64; 18]) -> bool
+fn fits(need: &[usize; 18], room: &[usize; 18]) -> bool
     requires { (length need.now ≡ 18) × (length room.now ≡ 18) }
     ensures { result ≡ all_within need.now room.now }
 {
-    let mut i = 0;
-    while i < 18 {
+    for i in 0..18 {
         if need[i] > room[i] {
             return false;
         }
-        i += 1;
     }
     true
 }
 
-// How many elements each of the eighteen outputs needs, of a script whose problem stands in the arrays and has n roots.
-fn needed(s: &[u8], t: &[u64; TABLE], h: &[u64; 4], heap: &[u64; HEAP], n: u64) -> Needs
-    requires { (nodes : List ℕ) × (bits : List ℕ) × (roots : List ℕ) × WholeProblem s.now t.now h.now heap.now nodes bits roots n }
-    ensures { (nodes bits roots : List ℕ) (x : WholeProblem s.now t.now h.now heap.now nodes bits roots n)
+// How many elements each of the outputs needs, of a script whose problem stands in the arrays and has n roots.
+fn needed(script: &Script, heap: &Heap, n: usize) -> Sizes
+    requires { (roots : List ℕ) × WholeProblem script.now.text.now script.now.table.now script.now.header heap.now roots n }
+    ensures { (roots : List ℕ) (x : WholeProblem script.now.text.now script.now.table.now script.now.header heap.now roots n)
         → needs_of result ≡ lengths_of (inputs (rebuild (reading_of x.declarations x.trees))) }
 {
-    let v = h[1];
-    let a = h[2] - v;
-    let f = h[3] - h[2];
-    let x = arena_lengths(s, t, h);
-    Needs {
-        lengths: [
-            17 * heap[0],
-            heap[1],
-            heap[2],
-            n,
-            x.names as u64,
-            v,
-            v,
-            v,
-            v,
-            x.anames as u64,
-            a,
-            a,
-            a,
-            a,
-            x.fnames as u64,
-            f,
-            f,
-            f,
-        ],
+    let x = arena_lengths(script);
+    Sizes {
+        nodes: 17 * heap.count as usize,
+        bits: heap.bit_count as usize,
+        side: heap.side_count as usize,
+        roots: n,
+        names: x.names,
+        variables: script.header.variables,
+        anames: x.anames,
+        arrays: script.header.arrays - script.header.variables,
+        fnames: x.fnames,
+        functions: script.header.names - script.header.arrays,
     }
 }
 
-// The number that a script is answered with, where so many elements of each output are lent; 0 where its problem stands in the arrays and
-// `need` has how many each needs. Ruled out: 10 told before 9; an acceptance where the last output is too short.
+// Whether a script is read, where so many elements of each output are lent: then its problem stands in the arrays, and the sizes say how
+// many elements each output needs. Ruled out: 10 told before 9; an acceptance where the last output is too short.
 pub fn decide(
     s: &[u8],
-    t: &mut [u64; TABLE],
-    h: &mut [u64; 4],
+    t: &mut Table,
     flags: &mut [u64; FLAGS],
-    heap: &mut [u64; HEAP],
-    nodes: &mut [u8; NODES],
-    bits: &mut [u8; BITS],
+    heap: &mut Heap,
     roots: &mut [u64; 256],
-    need: &mut [u64; 18],
-    room: &[u64; 18],
-) -> u64
-    requires { Empty t.old × Unflagged flags.old × Held heap.old nodes.old bits.old [] × Stacked s.now heap.old [] × (length roots.old ≡ 256) × (length room.now ≡ 18) }
-    ensures { Decided s.now t.new h.new heap.new nodes.new bits.new roots.new need.new room.now result }
+    room: &[usize; 18],
+) -> Result<Decision, ReadError>
+    requires { Empty t.old × Unflagged flags.old × Held heap.old [] × Stacked s.now heap.old [] × (length roots.old ≡ 256) × (length room.now ≡ 18) }
+    ensures { Decided s.now t.new heap.new roots.new room.now result }
 {
-    match rebuild_script(s, t, h, flags, heap, nodes, bits, roots) {
-        Rebuilt::NoScript => 13,
-        Rebuilt::Limit => 9,
-        Rebuilt::Whole(n) => {
-            let x = needed(s, t, h, heap, n as u64);
-            let l = x.lengths;
-            *need = l;
-            if fits(&l, room) { 0 } else { 10 }
+    match rebuild_script(s, t, flags, heap, roots) {
+        Err(Unread::NoScript) => Err(ReadError::NoScript),
+        Err(Unread::Limit) => Err(ReadError::Limit),
+        Ok(x) => {
+            let script = Script {
+                text: s,
+                table: t,
+                header: x.header,
+            };
+            let sizes = needed(&script, heap, x.roots);
+            if fits(&sizes.lengths(), room) {
+                Ok(Decision {
+                    header: x.header,
+                    sizes,
+                })
+            } else {
+                Err(ReadError::Room)
+            }
         }
     }
 }

@@ -1,7 +1,8 @@
 -- Words as numbers: a word of bytes is one number, and no other word is.
-use Rattle.std.specs.Prelude.{ℕ, zero, suc, ◌+◌, ◌*◌, ◌-◌, ◌≤◌, ◌<◌, ◌≡◌, refl, List, [], ◌∷◌, map, Bool, true, false, ◌||◌, cond, T, ltb, eqb, length, get_or, drop}
+use Rattle.std.specs.Prelude.{ℕ, zero, suc, ◌+◌, ◌*◌, ◌-◌, ◌≤◌, ◌<◌, ◌≡◌, refl, List, [], ◌∷◌, map, Bool, true, false, ◌||◌, T, ltb, eqb, length, get_or, drop}
 use Prim.Native.String.{String}
 use Rattle.std.proofs.Common.{ap, sym, ◌∙◌, subst, arith, eqb→eq, ltb→lt, lt→ltb, drop_of_length-le, drop-cons}
+use Rattle.std.specs.Prelude.{Option as Maybe, Some, None}
 use Rattle.std.proofs.Math.Option.{Option, none, some}
 use Rattle.std.proofs.Math.Dec.{eqb_refl}
 use Rattle.lists.specs.Bytes.{bytes}
@@ -31,9 +32,10 @@ codes =
 unfoldable pub short_kind : ℕ → Option ℕ
 short_kind v = find_from (λ n. eqb v n) 0 codes
 
--- 255 is no kind
-unfoldable pub kind_number : ℕ → Option ℕ
-kind_number k = cond (eqb k 255) none (some k)
+-- the kind that was told
+abbrev pub kind_in : Maybe ℕ → Option ℕ
+kind_in None = none
+kind_in (Some k) = some k
 
 -- ---------------------------------------------------------------- packed words
 
@@ -109,13 +111,11 @@ codes-first : T (every_from (λ k. eqb k 1 || is_kind k (short_kind (get_or code
 unfolding short_kind find_from is_kind
 codes-first = tt
 
-pub code_at : (k : ℕ) → k < 37 → (k ≡ 1 → ⊥) → (v : ℕ) → v ≡ get_or codes k 0 → kind_number k ≡ short_kind v
-unfolding kind_number
+pub code_at : (k : ℕ) → k < 37 → (k ≡ 1 → ⊥) → (v : ℕ) → v ≡ get_or codes k 0 → some k ≡ short_kind v
 code_at k l f v e =
     let t = every-at (λ k. eqb k 1 || is_kind k (short_kind (get_or codes k 0))) 0 37 codes-first k (omega arith) (omega arith) in
     let s : short_kind (get_or codes k 0) ≡ some k = or_elim (eqb k 1) (is_kind k (short_kind (get_or codes k 0))) t (λ q. absurd (f (eqb→eq k 1 q))) (is-kind k (short_kind (get_or codes k 0))) in
-    let z : eqb k 255 ≡ false = no→false (eqb k 255) (λ q. let g : k ≡ 255 = eqb→eq k 255 q in omega arith) in
-    rw z (sym (ap short_kind e ∙ s))
+    sym (ap short_kind e ∙ s)
 
 -- a number that is none of these
 abbrev pub NoneOf : ℕ → List ℕ → Type 0
@@ -127,8 +127,8 @@ unfolding find_from
 none_found v k [] h = refl
 none_found v k (n ∷ ns) (h, hs) = rw (no→false (eqb v n) (λ q. h (eqb→eq v n q)), find_from) (none_found v (suc k) ns hs)
 
-pub no_code : (v : ℕ) → NoneOf v codes → kind_number 255 ≡ short_kind v
-unfolding kind_number short_kind
+pub no_code : (v : ℕ) → NoneOf v codes → none ≡ short_kind v
+unfolding short_kind
 no_code v h = sym (none_found v 0 codes h)
 
 -- ---------------------------------------------------------------- packed byte by byte

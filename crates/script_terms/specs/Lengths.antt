@@ -1,6 +1,6 @@
 -- What is read takes bytes: a place that an operand must not end after.
-use Prim.Native.Nat.{ℕ, zero, suc, ◌+◌, ◌-◌, ◌≤◌, ◌<◌}
-use Rattle.std.specs.Prelude.{◌≡◌, Bool, eqb, drop, get_or}
+use Prim.Native.Nat.{ℕ, zero, suc, ◌+◌, ◌≤◌, ◌<◌}
+use Rattle.std.specs.Prelude.{◌≡◌, Bool, eqb, drop}
 use Rattle.std.proofs.Math.Path.{refl, ap}
 use Rattle.std.proofs.Common.{sym, ◌∙◌, subst, eqb-true, length-drop}
 use mathlib.Core.List.{List, [], ◌∷◌}
@@ -20,6 +20,9 @@ use Rattle.sort_reader.specs.Sorted.{of_sort, sorted, operands, operands-none, o
 use Rattle.sort_reader.specs.Selects.{operand_of, stores_then}
 use Rattle.script_decls.specs.Tails.{word-less}
 use Rattle.script_heads.specs.HeadLaws.{no-sort}
+use Rattle.script_terms.specs.declared.Code.{Code}
+use Rattle.script_terms.specs.declared.Code.TheVariants.{Comparison, Connective}
+use Rattle.script_terms.specs.declared.Coded.{Coded}
 use Rattle.script_terms.specs.States.{State, done, waits, index, value, stored, own, widths, rest, after_index, after, state_of, enough, Asking, SortedTo, SortedBy}
 use Rattle.script_terms.specs.SortLaws.{of-sort}
 use Rattle.script_terms.specs.Turns.{BeforeIs}
@@ -210,15 +213,15 @@ module _ (D : Declarations) where
 
 -- ---------------------------------------------------------------- by code
 
-pub before-comparison : {c l r : ℕ} → c ≡ 8 → l ≤ r + 3 → BeforeIs c l r
+pub before-comparison : {c : Code} {l r : ℕ} → c ≡ Comparison → l ≤ r + 3 → BeforeIs c l r
 unfolding state_of
-before-comparison {c} {l} {r} e h = subst (λ (k : ℕ). BeforeIs k l r) (sym e) (record { takes = λ D ws x y u σ g b τ z q. let n = comparison-takes D σ g b τ z q in omega arith })
+before-comparison {c} {l} {r} e h = subst (λ (k : Code). BeforeIs k l r) (sym e) (record { takes = λ D ws x y u σ g b τ z q. let n = comparison-takes D σ g b τ z q in omega arith })
 
-pub before-connective : {c l r : ℕ} → c ≡ 10 → l ≤ r + 3 → BeforeIs c l r
+pub before-connective : {c : Code} {l r : ℕ} → c ≡ Connective → l ≤ r + 3 → BeforeIs c l r
 unfolding state_of
-before-connective {c} {l} {r} e h = subst (λ (k : ℕ). BeforeIs k l r) (sym e) (record { takes = λ D ws x y u σ g b τ z q. let n = connective-takes D σ g b τ z q in omega arith })
+before-connective {c} {l} {r} e h = subst (λ (k : Code). BeforeIs k l r) (sym e) (record { takes = λ D ws x y u σ g b τ z q. let n = connective-takes D σ g b τ z q in omega arith })
 
-pub before-any : (c : ℕ) {l r : ℕ} → l ≤ r + 1 → BeforeIs c l r
+pub before-any : (c : Code) {l r : ℕ} → l ≤ r + 1 → BeforeIs c l r
 before-any c h = record { takes = λ D ws x y u σ g b τ z q. let n = after-takes D (state_of ws c x y u) σ g b τ z q in omega arith }
 
 -- ---------------------------------------------------------------- terms
@@ -236,7 +239,7 @@ module _ {s : List ℕ} {D : Declarations} {a : ℕ} where
     is_sorted = λ k. absurd (omega arith);
   }
 
-  pub gone-by : {w : List ℕ} {p n e l r : ℕ} → Asking s D a w p → SortedBy s D p n e r → BeforeIs (get_or w 0 0) l r → e ≡ 0 → (m : ℕ) → SortedBy s D a m e l
+  pub gone-by : {w : Coded} {p n e l r : ℕ} → Asking s D a w p → SortedBy s D p n e r → BeforeIs w.code l r → e ≡ 0 → (m : ℕ) → SortedBy s D a m e l
   gone-by {w} {p} {n} {e} {l} {r} x y b k m = record {
     none-sorted = λ _ f i σ z q. told f i σ z q;
     low = λ h. absurd (omega arith);
@@ -249,7 +252,7 @@ module _ {s : List ℕ} {D : Declarations} {a : ℕ} where
           let (g, j, t) = x.reads f i in
           let (ρ, v, h, o) = and-then (sorted g D (drop p s)) (λ σ r. rest g D (after x.state σ) r) σ z (sym t ∙ q) in
           let c = y.none-sorted k g j ρ v h in
-          let d = b.takes D x.held.sorts (get_or w 1 0) (get_or w 2 0) (get_or w 3 0) ρ g v σ z (ap (λ (st : State). rest g D (after st ρ) v) (sym x.held.is) ∙ o) in
+          let d = b.takes D x.held.sorts w.x w.y w.z ρ g v σ z (ap (λ (st : State). rest g D (after st ρ) v) (sym x.held.is) ∙ o) in
           omega arith
 
 -- the end of the script is no bound

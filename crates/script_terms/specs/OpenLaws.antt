@@ -4,6 +4,7 @@ use Rattle.std.specs.Prelude.{◌≡◌, refl, ◌⊎◌, ltb, length, drop}
 use Rattle.std.proofs.Math.Path.{ap, sym, subst}
 use Rattle.std.proofs.Common.{◌∙◌, inl, inr, ⊎_elim, ltb→lt}
 use mathlib.Core.List.{List, [], ◌∷◌}
+use Rattle.std.specs.Prelude.{Some, None}
 use Rattle.std.proofs.Math.Option.{Option, none, some}
 use native.Mathlib.Omega.{arith}
 use Rattle.std.proofs.Math.ListN.{length-drop}
@@ -11,12 +12,13 @@ use Rattle.lists.specs.Bytes.{bytes}
 use Rattle.lists.specs.Tests.{and_0}
 use Rattle.reading.specs.Trees.{Name, Tree, apply, Array, Function, Declarations}
 use Rattle.echo_spec.specs.Input.{fits64}
+use Rattle.blast_kernel.specs.Kinds.{shape_in}
+use Rattle.blast_kernel.specs.declared.Shape as code
 use Rattle.echo_spec.specs.Shapes.{Shape, var, const, binary, rotation, extraction, concat, extension, ite, comparison, negation, connective, unary, unknown, shape_of}
 use Rattle.echo_spec.specs.TreeSorts.{TreeSort, bool, bits, if_proper, none_bound, function_named, tree_sort, tree_sorts}
 use Rattle.echo_spec.specs.TreeSortLaws.{sorted-proper}
 use Rattle.readback.specs.Reader.{Took, took, and_then, expect, applied, called, read_term, read_terms}
 use Rattle.rebuilt.specs.Built.{array_at, function_at}
-use Rattle.blast_kernel.specs.Codes.{code_of}
 use Rattle.sort_reader.specs.Waits.{first, arguments, stuck, after_vector, after_bool, step, close, finish}
 use Rattle.sort_reader.specs.WaitLaws.{stuck-finish}
 use Rattle.sort_reader.specs.Sorted.{of_sort, sorted, operands, operator-read}
@@ -26,13 +28,13 @@ use Rattle.script_entries.specs.Named.{array-named, function-named}
 use Rattle.script_heads.specs.Heads.{numerals_of, name_to, NothingAt, ConstantAt, VariableAt, NullaryAt, OperatorAt, CallAt, select_name, SelectAt, HeadAt}
 use Rattle.script_heads.specs.HeadLaws.{opened-long}
 use Rattle.script_heads.specs.declared.Head.{Head}
-use Rattle.script_heads.specs.declared.Head.TheVariants.{No as NoHead, Constant, Variable, Nullary, Operator, Call, Select}
-use Rattle.script_terms.specs.States.{sort_from, State, done, waits, index, widths, rest, state_of, enough, Going}
+use Rattle.script_heads.specs.declared.Head.TheVariants.{Constant, Variable, Nullary, Operator, Call, Select}
+use Rattle.script_terms.specs.States.{sort_from, done, waits, index, widths, rest, state_of, enough, Going}
 use Rattle.script_terms.specs.StateLaws.{stuck-rest}
-use Rattle.script_terms.specs.Turns.{Ends, numeral_count, CodeIs, OpenedIs}
+use Rattle.script_terms.specs.Turns.{Ends, numeral_count, code_from, CodeIs, OpenedIs}
+use Rattle.script_terms.specs.declared.Code.{Code}
+use Rattle.script_terms.specs.declared.Code.TheVariants.{Failed, Done, Arguments, Index}
 use Rattle.script_terms.specs.declared.Coded.{Coded}
-use Rattle.script_terms.specs.declared.Opened.{Opened}
-use Rattle.script_terms.specs.declared.Opened.TheVariants.{No as NotOpened, At}
 use Rattle.script_terms.specs.OperandLaws.{width-sort}
 
 -- ---------------------------------------------------------------- nothing
@@ -51,11 +53,11 @@ module _ (s : List ℕ) (D : Declarations) (a e : ℕ) (t : Tree) (w : ℕ) (low
   unfolding sorted and_then of_sort
   leaf-sorted f = rw (read f, sort) (ap (λ (σ : TreeSort). took σ (drop e s)) (sym leaf-width))
 
-  leaf-going : Going s D a (1 ∷ w ∷ 0 ∷ 0 ∷ []) e
+  leaf-going : Going s D a (record { code = Done; x = w; y = 0; z = 0 }) e
   unfolding state_of rest
   leaf-going = record {
     state = done (sort_from w);
-    held = record { four = refl; sorts = []; is = refl; call = λ k. absurd (omega arith) };
+    held = record { sorts = []; is = refl; call = λ k. absurd (let z : ⊥ = cc in z) };
     low = omega arith;
     moved = λ _. low;
     high = high;
@@ -66,53 +68,67 @@ module _ (s : List ℕ) (D : Declarations) (a e : ℕ) (t : Tree) (w : ℕ) (low
         (f, omega arith, ap (λ (k : ℕ). sorted k D (drop a s)) z ∙ leaf-sorted (f - 1));
   }
 
-pub constant-going : {s : List ℕ} {D : Declarations} {a e : ℕ} → ConstantAt s D a e → Going s D a (1 ∷ (e - (a + 2)) ∷ 0 ∷ 0 ∷ []) e
+pub constant-going : {s : List ℕ} {D : Declarations} {a e : ℕ} → ConstantAt s D a e → Going s D a (record { code = Done; x = (e - (a + 2)); y = 0; z = 0 }) e
 constant-going {s} {D} {a} {e} x = leaf-going s D a e _ (e - (a + 2)) (let l = x.low in omega arith) x.high x.read x.sort
 
-pub variable-going : {s : List ℕ} {D : Declarations} {a k w e : ℕ} → VariableAt s D a k w e → Going s D a (1 ∷ w ∷ 0 ∷ 0 ∷ []) e
+pub variable-going : {s : List ℕ} {D : Declarations} {a k w e : ℕ} → VariableAt s D a k w e → Going s D a (record { code = Done; x = w; y = 0; z = 0 }) e
 variable-going {s} {D} {a} {k} {w} {e} x = leaf-going s D a e _ w (let l = x.low in omega arith) x.high x.read x.sort
 
-pub nullary-going : {s : List ℕ} {D : Declarations} {a g w e : ℕ} → NullaryAt s D a g w e → Going s D a (1 ∷ w ∷ 0 ∷ 0 ∷ []) e
+pub nullary-going : {s : List ℕ} {D : Declarations} {a g w e : ℕ} → NullaryAt s D a g w e → Going s D a (record { code = Done; x = w; y = 0; z = 0 }) e
 nullary-going {s} {D} {a} {g} {w} {e} x = leaf-going s D a e _ w (let l = x.low in omega arith) x.high x.read x.sort
 
 -- ---------------------------------------------------------------- operators
 
 -- no operator has the shape
 abbrev Outside : Shape → Type 0
-Outside h = (code_of h < 2) ⊎ (11 < code_of h)
+Outside var = Unit
+Outside const = Unit
+Outside binary = ⊥
+Outside rotation = ⊥
+Outside extraction = ⊥
+Outside concat = ⊥
+Outside extension = ⊥
+Outside ite = ⊥
+Outside comparison = ⊥
+Outside negation = ⊥
+Outside connective = ⊥
+Outside unary = ⊥
+Outside Shape.select = Unit
+Outside Shape.call = Unit
+Outside unknown = Unit
 
 outside-bool : (h : Shape) → Outside h → (ks : List ℕ) (os : List (Option TreeSort)) → finish (after_bool h ks) os ≡ none
-unfolding after_bool code_of
+unfolding after_bool
 outside-bool var p ks os = stuck-finish os
 outside-bool const p ks os = stuck-finish os
-outside-bool binary p ks os = absurd (⊎_elim (λ l. omega arith) (λ l. omega arith) p)
-outside-bool rotation p ks os = absurd (⊎_elim (λ l. omega arith) (λ l. omega arith) p)
-outside-bool extraction p ks os = absurd (⊎_elim (λ l. omega arith) (λ l. omega arith) p)
-outside-bool concat p ks os = absurd (⊎_elim (λ l. omega arith) (λ l. omega arith) p)
-outside-bool extension p ks os = absurd (⊎_elim (λ l. omega arith) (λ l. omega arith) p)
-outside-bool ite p ks os = absurd (⊎_elim (λ l. omega arith) (λ l. omega arith) p)
-outside-bool comparison p ks os = absurd (⊎_elim (λ l. omega arith) (λ l. omega arith) p)
-outside-bool negation p ks os = absurd (⊎_elim (λ l. omega arith) (λ l. omega arith) p)
-outside-bool connective p ks os = absurd (⊎_elim (λ l. omega arith) (λ l. omega arith) p)
-outside-bool unary p ks os = absurd (⊎_elim (λ l. omega arith) (λ l. omega arith) p)
+outside-bool binary p ks os = absurd p
+outside-bool rotation p ks os = absurd p
+outside-bool extraction p ks os = absurd p
+outside-bool concat p ks os = absurd p
+outside-bool extension p ks os = absurd p
+outside-bool ite p ks os = absurd p
+outside-bool comparison p ks os = absurd p
+outside-bool negation p ks os = absurd p
+outside-bool connective p ks os = absurd p
+outside-bool unary p ks os = absurd p
 outside-bool Shape.select p ks os = stuck-finish os
 outside-bool Shape.call p ks os = stuck-finish os
 outside-bool unknown p ks os = stuck-finish os
 
 outside-vector : (h : Shape) → Outside h → (ks : List ℕ) (m : ℕ) (os : List (Option TreeSort)) → finish (after_vector h ks m) os ≡ none
-unfolding after_vector code_of
+unfolding after_vector
 outside-vector var p ks m os = stuck-finish os
 outside-vector const p ks m os = stuck-finish os
-outside-vector binary p ks m os = absurd (⊎_elim (λ l. omega arith) (λ l. omega arith) p)
-outside-vector rotation p ks m os = absurd (⊎_elim (λ l. omega arith) (λ l. omega arith) p)
-outside-vector extraction p ks m os = absurd (⊎_elim (λ l. omega arith) (λ l. omega arith) p)
-outside-vector concat p ks m os = absurd (⊎_elim (λ l. omega arith) (λ l. omega arith) p)
-outside-vector extension p ks m os = absurd (⊎_elim (λ l. omega arith) (λ l. omega arith) p)
-outside-vector ite p ks m os = absurd (⊎_elim (λ l. omega arith) (λ l. omega arith) p)
-outside-vector comparison p ks m os = absurd (⊎_elim (λ l. omega arith) (λ l. omega arith) p)
-outside-vector negation p ks m os = absurd (⊎_elim (λ l. omega arith) (λ l. omega arith) p)
-outside-vector connective p ks m os = absurd (⊎_elim (λ l. omega arith) (λ l. omega arith) p)
-outside-vector unary p ks m os = absurd (⊎_elim (λ l. omega arith) (λ l. omega arith) p)
+outside-vector binary p ks m os = absurd p
+outside-vector rotation p ks m os = absurd p
+outside-vector extraction p ks m os = absurd p
+outside-vector concat p ks m os = absurd p
+outside-vector extension p ks m os = absurd p
+outside-vector ite p ks m os = absurd p
+outside-vector comparison p ks m os = absurd p
+outside-vector negation p ks m os = absurd p
+outside-vector connective p ks m os = absurd p
+outside-vector unary p ks m os = absurd p
 outside-vector Shape.select p ks m os = stuck-finish os
 outside-vector Shape.call p ks m os = stuck-finish os
 outside-vector unknown p ks m os = stuck-finish os
@@ -125,8 +141,8 @@ outside h p ks (some bool ∷ os) = outside-bool h p ks os
 outside h p ks (some (bits m) ∷ os) = outside-vector h p ks m os
 
 -- as many numerals as no operator of the shape has
-unfit-bool : (h : Shape) (m : ℕ) → (m ≡ numeral_count (code_of h) → ⊥) → m ≤ 2 → (i j : ℕ) (os : List (Option TreeSort)) → finish (after_bool h (numerals_of m i j)) os ≡ none
-unfolding after_bool code_of numerals_of
+unfit-bool : (h : Shape) (m : ℕ) → (m ≡ numeral_count h → ⊥) → m ≤ 2 → (i j : ℕ) (os : List (Option TreeSort)) → finish (after_bool h (numerals_of m i j)) os ≡ none
+unfolding after_bool numerals_of
 unfit-bool var zero n l i j os = absurd (n refl)
 unfit-bool var (suc zero) n l i j os = stuck-finish os
 unfit-bool var (suc (suc zero)) n l i j os = stuck-finish os
@@ -188,8 +204,8 @@ unfit-bool unknown (suc zero) n l i j os = stuck-finish os
 unfit-bool unknown (suc (suc zero)) n l i j os = stuck-finish os
 unfit-bool unknown (suc (suc (suc m))) n l i j os = absurd (omega arith)
 
-unfit-vector : (h : Shape) (m : ℕ) → (m ≡ numeral_count (code_of h) → ⊥) → m ≤ 2 → (i j v : ℕ) (os : List (Option TreeSort)) → finish (after_vector h (numerals_of m i j) v) os ≡ none
-unfolding after_vector code_of numerals_of
+unfit-vector : (h : Shape) (m : ℕ) → (m ≡ numeral_count h → ⊥) → m ≤ 2 → (i j v : ℕ) (os : List (Option TreeSort)) → finish (after_vector h (numerals_of m i j) v) os ≡ none
+unfolding after_vector numerals_of
 unfit-vector var zero n l i j v os = absurd (n refl)
 unfit-vector var (suc zero) n l i j v os = stuck-finish os
 unfit-vector var (suc (suc zero)) n l i j v os = stuck-finish os
@@ -251,83 +267,96 @@ unfit-vector unknown (suc zero) n l i j v os = stuck-finish os
 unfit-vector unknown (suc (suc zero)) n l i j v os = stuck-finish os
 unfit-vector unknown (suc (suc (suc m))) n l i j v os = absurd (omega arith)
 
-unfit : (h : Shape) (m : ℕ) → (m ≡ numeral_count (code_of h) → ⊥) → m ≤ 2 → (i j : ℕ) (os : List (Option TreeSort)) → finish (first h (numerals_of m i j)) os ≡ none
+unfit : (h : Shape) (m : ℕ) → (m ≡ numeral_count h → ⊥) → m ≤ 2 → (i j : ℕ) (os : List (Option TreeSort)) → finish (first h (numerals_of m i j)) os ≡ none
 unfolding finish step close
 unfit h m n l i j [] = refl
 unfit h m n l i j (none ∷ os) = refl
 unfit h m n l i j (some bool ∷ os) = unfit-bool h m n l i j os
 unfit h m n l i j (some (bits v) ∷ os) = unfit-vector h m n l i j v os
 
-fits : (h : Shape) (m : ℕ) → m ≡ numeral_count (code_of h) → 2 ≤ code_of h → code_of h ≤ 11 → (ws : List ℕ) (i j z : ℕ) → state_of ws (code_of h) i j z ≡ waits (first h (numerals_of m i j))
-unfolding state_of code_of numerals_of
-fits var m e l u ws i j z = absurd (omega arith)
-fits const m e l u ws i j z = absurd (omega arith)
-fits binary m e l u ws i j z = ap (λ (k : ℕ). waits (first binary (numerals_of k i j))) (sym e)
-fits rotation m e l u ws i j z = ap (λ (k : ℕ). waits (first rotation (numerals_of k i j))) (sym e)
-fits extraction m e l u ws i j z = ap (λ (k : ℕ). waits (first extraction (numerals_of k i j))) (sym e)
-fits concat m e l u ws i j z = ap (λ (k : ℕ). waits (first concat (numerals_of k i j))) (sym e)
-fits extension m e l u ws i j z = ap (λ (k : ℕ). waits (first extension (numerals_of k i j))) (sym e)
-fits ite m e l u ws i j z = ap (λ (k : ℕ). waits (first ite (numerals_of k i j))) (sym e)
-fits comparison m e l u ws i j z = ap (λ (k : ℕ). waits (first comparison (numerals_of k i j))) (sym e)
-fits negation m e l u ws i j z = ap (λ (k : ℕ). waits (first negation (numerals_of k i j))) (sym e)
-fits connective m e l u ws i j z = ap (λ (k : ℕ). waits (first connective (numerals_of k i j))) (sym e)
-fits unary m e l u ws i j z = ap (λ (k : ℕ). waits (first unary (numerals_of k i j))) (sym e)
-fits Shape.select m e l u ws i j z = absurd (omega arith)
-fits Shape.call m e l u ws i j z = absurd (omega arith)
-fits unknown m e l u ws i j z = absurd (omega arith)
-
 no-operands : (D : Declarations) (h : Shape) (ks : List ℕ) → ((os : List (Option TreeSort)) → finish (first h ks) os ≡ none) → (f : ℕ) (b : List ℕ) → operands f D (first h ks) b ≡ none
 unfolding operands of_sort
 no-operands D h ks n f b = and-nothing (read_terms f D b) _ (λ ts r. ap (λ (o : Option TreeSort). of_sort o r) (n (tree_sorts D ts)))
 
-module _ (k m : ℕ) {c : ℕ} (e : c ≡ code_of (shape_of k)) where
-  code-stuck : (m ≤ 2 → (i j : ℕ) (os : List (Option TreeSort)) → finish (first (shape_of k) (numerals_of m i j)) os ≡ none) → CodeIs k m 0
+fits : (h : Shape) (m : ℕ) → m ≡ numeral_count h → (D : Declarations) (ws : List ℕ) (i j z f : ℕ) (b : List ℕ) → operands f D (first h (numerals_of m i j)) b ≡ rest f D (state_of ws (code_from h) i j z) b
+unfolding state_of numerals_of rest
+fits var m e D ws i j z f b = no-operands D var (numerals_of m i j) (outside var tt (numerals_of m i j)) f b ∙ sym (stuck-rest D f b)
+fits const m e D ws i j z f b = no-operands D const (numerals_of m i j) (outside const tt (numerals_of m i j)) f b ∙ sym (stuck-rest D f b)
+fits binary m e D ws i j z f b = ap (λ (k : ℕ). operands f D (first binary (numerals_of k i j)) b) e
+fits rotation m e D ws i j z f b = ap (λ (k : ℕ). operands f D (first rotation (numerals_of k i j)) b) e
+fits extraction m e D ws i j z f b = ap (λ (k : ℕ). operands f D (first extraction (numerals_of k i j)) b) e
+fits concat m e D ws i j z f b = ap (λ (k : ℕ). operands f D (first concat (numerals_of k i j)) b) e
+fits extension m e D ws i j z f b = ap (λ (k : ℕ). operands f D (first extension (numerals_of k i j)) b) e
+fits ite m e D ws i j z f b = ap (λ (k : ℕ). operands f D (first ite (numerals_of k i j)) b) e
+fits comparison m e D ws i j z f b = ap (λ (k : ℕ). operands f D (first comparison (numerals_of k i j)) b) e
+fits negation m e D ws i j z f b = ap (λ (k : ℕ). operands f D (first negation (numerals_of k i j)) b) e
+fits connective m e D ws i j z f b = ap (λ (k : ℕ). operands f D (first connective (numerals_of k i j)) b) e
+fits unary m e D ws i j z f b = ap (λ (k : ℕ). operands f D (first unary (numerals_of k i j)) b) e
+fits Shape.select m e D ws i j z f b = no-operands D Shape.select (numerals_of m i j) (outside Shape.select tt (numerals_of m i j)) f b ∙ sym (stuck-rest D f b)
+fits Shape.call m e D ws i j z f b = no-operands D Shape.call (numerals_of m i j) (outside Shape.call tt (numerals_of m i j)) f b ∙ sym (stuck-rest D f b)
+fits unknown m e D ws i j z f b = no-operands D unknown (numerals_of m i j) (outside unknown tt (numerals_of m i j)) f b ∙ sym (stuck-rest D f b)
+
+plain-code : (h : Shape) → code_from h ≡ Arguments → ⊥
+plain-code var q = cc
+plain-code const q = cc
+plain-code binary q = cc
+plain-code rotation q = cc
+plain-code extraction q = cc
+plain-code concat q = cc
+plain-code extension q = cc
+plain-code ite q = cc
+plain-code comparison q = cc
+plain-code negation q = cc
+plain-code connective q = cc
+plain-code unary q = cc
+plain-code Shape.select q = cc
+plain-code Shape.call q = cc
+plain-code unknown q = cc
+
+other-code : (h : Shape) → code_from h ≡ Done → ⊥
+other-code var q = cc
+other-code const q = cc
+other-code binary q = cc
+other-code rotation q = cc
+other-code extraction q = cc
+other-code concat q = cc
+other-code extension q = cc
+other-code ite q = cc
+other-code comparison q = cc
+other-code negation q = cc
+other-code connective q = cc
+other-code unary q = cc
+other-code Shape.select q = cc
+other-code Shape.call q = cc
+other-code unknown q = cc
+
+module _ (k m : ℕ) (s : code.Shape) {n : ℕ} (e : shape_in s ≡ shape_of k) (g : n ≡ numeral_count (shape_in s)) where
+  pub code-unfit : (m ≡ n → ⊥) → CodeIs k m Failed
   unfolding state_of
-  code-stuck n = record {
-    state = λ l D i j z ws f b. no-operands D (shape_of k) (numerals_of m i j) (n l i j) f b ∙ sym (stuck-rest D f b);
-    small = omega arith;
-    other = λ q. omega arith;
+  code-unfit d = record {
+    state = λ l D i j z ws f b. no-operands D (shape_of k) (numerals_of m i j) (unfit (shape_of k) m (λ q. d (q ∙ sym (g ∙ ap numeral_count e))) l i j) f b ∙ sym (stuck-rest D f b);
+    plain = λ q. cc;
+    other = λ q. cc;
   }
 
-  pub code-low : c < 2 → CodeIs k m 0
-  code-low l = code-stuck (λ _ i j os. outside (shape_of k) (inl (subst (λ (i : ℕ). i < 2) e l)) (numerals_of m i j) os)
-
-  pub code-high : 11 < c → CodeIs k m 0
-  code-high l = code-stuck (λ _ i j os. outside (shape_of k) (inr (subst (λ (i : ℕ). 11 < i) e l)) (numerals_of m i j) os)
-
-  pub code-unfit : {n : ℕ} → n ≡ numeral_count c → (m ≡ n → ⊥) → CodeIs k m 0
-  code-unfit g d = code-stuck (λ l i j os. unfit (shape_of k) m (λ q. d (q ∙ sym (g ∙ ap numeral_count e))) l i j os)
-
-  pub code_fits : {n : ℕ} → n ≡ numeral_count c → m ≡ n → 2 ≤ c → c ≤ 11 → CodeIs k m c
-  unfolding rest
-  code_fits g d l u = record {
-    state = λ _ D i j z ws f b. ap (λ (o : State). rest f D o b) (sym (ap (λ (i' : ℕ). state_of ws i' i j z) e ∙ fits (shape_of k) m (d ∙ g ∙ ap numeral_count e) (subst (λ (i : ℕ). 2 ≤ i) e l) (subst (λ (i : ℕ). i ≤ 11) e u) ws i j z));
-    small = u;
-    other = λ q. omega arith;
-  }
-
-pub count_at : (k : ℕ) {c : ℕ} → c ≡ k → numeral_count k ≡ numeral_count c
-count_at k e = ap numeral_count (sym e)
-
-pub count-else : (c : ℕ) → (c ≡ 3 → ⊥) → (c ≡ 4 → ⊥) → (c ≡ 6 → ⊥) → 0 ≡ numeral_count c
-count-else zero p q r = refl
-count-else (suc zero) p q r = refl
-count-else (suc (suc zero)) p q r = refl
-count-else (suc (suc (suc zero))) p q r = absurd (p refl)
-count-else (suc (suc (suc (suc zero)))) p q r = absurd (q refl)
-count-else (suc (suc (suc (suc (suc zero))))) p q r = refl
-count-else (suc (suc (suc (suc (suc (suc zero)))))) p q r = absurd (r refl)
-count-else (suc (suc (suc (suc (suc (suc (suc c))))))) p q r = refl
+  pub code_fits : m ≡ n → {r : Code} → r ≡ code_from (shape_in s) → CodeIs k m r
+  code_fits d {r} q =
+      let u : r ≡ code_from (shape_of k) = q ∙ ap code_from e in
+      record {
+        state = λ _ D i j z ws f b. fits (shape_of k) m (d ∙ g ∙ ap numeral_count e) D ws i j z f b ∙ ap (λ (o : Code). rest f D (state_of ws o i j z) b) (sym u);
+        plain = λ v. plain-code (shape_of k) (sym u ∙ v);
+        other = λ v. other-code (shape_of k) (sym u ∙ v);
+      }
 
 -- the term begins with what follows its head
 operator-sorted : (D : Declarations) (f k : ℕ) (ks b r : List ℕ) → read_term (suc (suc f)) D b ≡ and_then (read_terms f D r) (λ ts z. took (apply k ks ts) z) → sorted (suc (suc f)) D b ≡ operands f D (first (shape_of k) ks) r
 unfolding sorted operands applied
 operator-sorted D f k ks b r e = ap (λ (o : Option (Took Tree)). and_then o (λ t r. of_sort (tree_sort D t) r)) e ∙ operator-read D (some k) ks (read_terms f D r)
 
-pub operator-going : {s : List ℕ} {D : Declarations} {a k m i j e c : ℕ} → OperatorAt s D a k m i j e → CodeIs k m c → Going s D a (c ∷ i ∷ j ∷ 0 ∷ []) e
+pub operator-going : {s : List ℕ} {D : Declarations} {a k m i j e : ℕ} {c : Code} → OperatorAt s D a k m i j e → CodeIs k m c → Going s D a (record { code = c; x = i; y = j; z = 0 }) e
 operator-going {s} {D} {a} {k} {m} {i} {j} {e} {c} x y = record {
   state = state_of [] c i j 0;
-  held = record { four = refl; sorts = []; is = refl; call = λ q. absurd (let l = y.small in omega arith) };
+  held = record { sorts = []; is = refl; call = λ q. absurd (y.plain q) };
   low = let l = x.low in omega arith;
   moved = λ q. absurd (y.other q);
   high = x.high;
@@ -357,13 +386,13 @@ unfolding sorted called_by
 call-sorted-by D f n g b r e l q =
     ap (λ (o : Option (Took Tree)). and_then o (λ t r. of_sort (tree_sort D t) r)) q ∙ call-read D f n (some g) e r ∙ argued-is D f g.arguments g.width r l
 
-pub call-going : {s : List ℕ} {D : Declarations} {a g p w e : ℕ} → CallAt s D a g p w e → Going s D a (17 ∷ p ∷ w ∷ 0 ∷ []) e
+pub call-going : {s : List ℕ} {D : Declarations} {a g p w e : ℕ} → CallAt s D a g p w e → Going s D a (record { code = Arguments; x = p; y = w; z = 0 }) e
 unfolding state_of rest
 call-going {s} {D} {a} {g} {p} {w} {e} x = record {
   state = waits (arguments (function_at D g).arguments w);
-  held = record { four = refl; sorts = (function_at D g).arguments; is = refl; call = λ _. x.entry.arguments };
+  held = record { sorts = (function_at D g).arguments; is = refl; call = λ _. x.entry.arguments };
   low = let l = x.low in omega arith;
-  moved = λ q. absurd (omega arith);
+  moved = λ q. absurd (let z : ⊥ = cc in z);
   high = x.high;
   reads = λ f l.
       let z : f ≡ suc (suc (f - 2)) = omega arith in
@@ -389,13 +418,13 @@ same-widths D a i v p q (suc n) g b =
     (λ k. and_then (operand_of g D (p k) b) (λ _ y. and_then (operand_of g D (q k) y) (λ _ x. and_then (expect (bytes ")") x) (λ _ z. stores_then (suc g) D a n z))))
     ∙ and_same (operand_of g D i b) _ _ (λ _ y. and_same (operand_of g D v y) _ _ (λ _ x. and_same (expect (bytes ")") x) _ _ (λ _ z. same-widths D a i v p q n (suc g) z)))
 
-pub select-going : {s : List ℕ} {D : Declarations} {a k i v n e : ℕ} → SelectAt s D a k i v n e → Going s D a (18 ∷ n ∷ i ∷ v ∷ []) e
+pub select-going : {s : List ℕ} {D : Declarations} {a k i v n e : ℕ} → SelectAt s D a k i v n e → Going s D a (record { code = Index; x = n; y = i; z = v }) e
 unfolding state_of rest bytes
 select-going {s} {D} {a} {k} {i} {v} {n} {e} x = record {
   state = index i v n;
-  held = record { four = refl; sorts = []; is = refl; call = λ q. absurd (omega arith) };
+  held = record { sorts = []; is = refl; call = λ q. absurd (let z : ⊥ = cc in z) };
   low = let l = x.name.low in omega arith;
-  moved = λ q. absurd (omega arith);
+  moved = λ q. absurd (let z : ⊥ = cc in z);
   high = x.name.high;
   reads = λ f l.
       let o : length (drop a s) ≡ suc (suc (suc (suc (suc (suc (suc (suc (length (opened n (124 ∷ drop (select_name a n) s)))))))))) = ap length x.begins in
@@ -416,43 +445,37 @@ select-going {s} {D} {a} {k} {i} {v} {n} {e} x = record {
 
 -- ---------------------------------------------------------------- by the enum
 
-module _ (s : List ℕ) (D : Declarations) (a : ℕ) {r : Head} (x : HeadAt s D a r) where
-  pub head-none : r ≡ NoHead → NothingAt s D a
-  head-none q = subst (HeadAt s D a) q x
+module _ (s : List ℕ) (D : Declarations) (a : ℕ) {r : Head} (x : HeadAt s D a (Some r)) where
+  told : {h : Head} → r ≡ h → HeadAt s D a (Some h)
+  told q = subst (λ (h : Head). HeadAt s D a (Some h)) q x
 
   pub head-constant : {e : ℕ} → r ≡ Constant e → ConstantAt s D a e
-  head-constant q = subst (HeadAt s D a) q x
+  head-constant q = told q
 
   pub head-variable : {k w e : ℕ} → r ≡ Variable k w e → VariableAt s D a k w e
-  head-variable q = subst (HeadAt s D a) q x
+  head-variable q = told q
 
   pub head-nullary : {g w e : ℕ} → r ≡ Nullary g w e → NullaryAt s D a g w e
-  head-nullary q = subst (HeadAt s D a) q x
+  head-nullary q = told q
 
   pub head-operator : {k m i j e : ℕ} → r ≡ Operator k m i j e → OperatorAt s D a k m i j e
-  head-operator q = subst (HeadAt s D a) q x
+  head-operator q = told q
 
   pub head-call : {g p w e : ℕ} → r ≡ Call g p w e → CallAt s D a g p w e
-  head-call q = subst (HeadAt s D a) q x
+  head-call q = told q
 
   pub head-select : {k i v n e : ℕ} → r ≡ Select k i v n e → SelectAt s D a k i v n e
-  head-select q = subst (HeadAt s D a) q x
+  head-select q = told q
 
 -- ---------------------------------------------------------------- the numbers of a term that is begun
 
-module _ {s : List ℕ} {D : Declarations} {a : ℕ} {w : List ℕ} where
-  pub failed-going : {o : Opened} (r : Coded) → OpenedIs s D a o → o ≡ NotOpened → Ends r 0 0 → w ≡ r.code ∷ r.x ∷ r.y ∷ r.z ∷ [] → a ≤ length s → Going s D a w a
-  unfolding state_of
-  failed-going r x q f e l = subst (λ (l : List ℕ). Going s D a l a) (sym e) (record {
-    state = waits stuck;
-    held = record { four = refl; sorts = []; is = sym (λ i. state_of [] (f.code i) r.x r.y r.z); call = λ k. absurd (let j = f.code in omega arith) };
-    low = omega arith;
-    moved = λ k. absurd (let j = f.code in omega arith);
-    high = l;
-    reads = λ g m. (g, omega arith, subst (OpenedIs s D a) q x g m ∙ sym (stuck-rest D g (drop a s)));
-  })
-
-  pub opened-going : {o : Opened} {c x y z e : ℕ} → OpenedIs s D a o → o ≡ At c x y z e → w ≡ c ∷ x ∷ y ∷ z ∷ [] → Going s D a w e
-  opened-going {o} {c} {x} {y} {z} {e} h q k =
-      let g : OpenedIs s D a (At c x y z e) = subst (OpenedIs s D a) q h in
-      subst (λ (l : List ℕ). Going s D a l e) (sym k) g
+pub failed-going : {s : List ℕ} {D : Declarations} {a : ℕ} (r : Coded) → OpenedIs s D a None → Ends r Failed 0 → a ≤ length s → Going s D a r a
+unfolding state_of
+failed-going {s} {D} {a} r x f l = record {
+  state = waits stuck;
+  held = record { sorts = []; is = sym (λ i. state_of [] (f.code i) r.x r.y r.z); call = λ k. absurd (let j = f.code in let z : ⊥ = cc in z) };
+  low = omega arith;
+  moved = λ k. absurd (let j = f.code in let z : ⊥ = cc in z);
+  high = l;
+  reads = λ g m. (g, omega arith, x g m ∙ sym (stuck-rest D g (drop a s)));
+}

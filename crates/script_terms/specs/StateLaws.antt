@@ -1,5 +1,5 @@
 -- Laws of states: what is read from a state on, byte by byte.
-use Prim.Native.Nat.{ℕ, zero, suc, ◌-◌, ◌≤◌}
+use Prim.Native.Nat.{ℕ, zero, suc, ◌≤◌}
 use Rattle.std.specs.Prelude.{◌≡◌, Bool, cond, eqb}
 use Rattle.std.proofs.Math.Path.{refl, ap, sym}
 use mathlib.Core.List.{List, [], ◌∷◌}

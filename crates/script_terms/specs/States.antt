@@ -1,5 +1,6 @@
 -- The state of a term whose operands are being read, as four numbers, and what is read from it on.
-use Rattle.std.specs.Prelude.{ℕ, zero, suc, ◌+◌, ◌*◌, ◌≤◌, ◌<◌, ◌≡◌, List, [], ◌∷◌, cond, length, drop, get_or}
+use Rattle.std.specs.Prelude.{ℕ, zero, suc, ◌+◌, ◌*◌, ◌≤◌, ◌<◌, ◌≡◌, List, [], ◌∷◌, cond, length, drop}
+use Rattle.std.specs.Prelude.{Option as Maybe, Some, None}
 use Rattle.std.proofs.Math.Option.{Option, none, some}
 use Rattle.lists.specs.Bytes.{bytes}
 use Rattle.reading.specs.Trees.{Array, Declarations}
@@ -10,8 +11,10 @@ use Rattle.sort_reader.specs.Waits.{Wait, first, equal, joins, chosen, truth, en
 use Rattle.sort_reader.specs.Sorted.{of_sort, sorted, operands}
 use Rattle.sort_reader.specs.Selects.{operand_of, stores_then}
 use Rattle.script_entries.specs.Entries.{ArgumentsAt}
-use Rattle.script_terms.specs.declared.Sort.{Sort}
-use Rattle.script_terms.specs.declared.Sort.TheVariants.{No, Is}
+use Rattle.script_terms.specs.declared.Code.{Code}
+use Rattle.script_terms.specs.declared.Code.TheVariants.{Failed, Done, Binary, Rotation, Extraction, Concat, Extension, Ite, Comparison, Negation, Connective, Unary, Same, Joins, Chosen, Truth, Bracket, Arguments, Index, Value, Stored, Own, Fresh}
+use Rattle.script_terms.specs.declared.Coded.{Coded}
+use Rattle.script_terms.specs.declared.Sorted.{Sorted}
 
 -- ---------------------------------------------------------------- sorts as numbers
 
@@ -65,32 +68,45 @@ after (own i v) τ = waits stuck
 
 -- ---------------------------------------------------------------- states as numbers
 
--- The code c of a state and its three numbers; a call's argument sorts ws stand in the script. Codes 2 to 11 are those of the shapes.
-unfoldable pub state_of : List ℕ → ℕ → ℕ → ℕ → ℕ → State
-state_of ws c x y z =
-    get_or
-    (waits stuck ∷ done (sort_from x)
-    ∷ waits (first binary []) ∷ waits (first rotation (x ∷ [])) ∷ waits (first extraction (x ∷ y ∷ [])) ∷ waits (first concat []) ∷ waits (first extension (x ∷ []))
-    ∷ waits (first ite []) ∷ waits (first comparison []) ∷ waits (first negation []) ∷ waits (first connective []) ∷ waits (first unary [])
-    ∷ waits (equal x (sort_from y)) ∷ waits (joins x) ∷ waits chosen ∷ waits truth ∷ waits (ends (sort_from x)) ∷ waits (arguments ws y)
-    ∷ index y z x ∷ value y z x ∷ stored y z x ∷ own y z ∷ [])
-    c (waits stuck)
+-- The code of a state and its three numbers; a call's argument sorts ws stand in the script.
+unfoldable pub state_of : List ℕ → Code → ℕ → ℕ → ℕ → State
+state_of ws Failed x y z = waits stuck
+state_of ws Done x y z = done (sort_from x)
+state_of ws Binary x y z = waits (first binary [])
+state_of ws Rotation x y z = waits (first rotation (x ∷ []))
+state_of ws Extraction x y z = waits (first extraction (x ∷ y ∷ []))
+state_of ws Concat x y z = waits (first concat [])
+state_of ws Extension x y z = waits (first extension (x ∷ []))
+state_of ws Ite x y z = waits (first ite [])
+state_of ws Comparison x y z = waits (first comparison [])
+state_of ws Negation x y z = waits (first negation [])
+state_of ws Connective x y z = waits (first connective [])
+state_of ws Unary x y z = waits (first unary [])
+state_of ws Same x y z = waits (equal x (sort_from y))
+state_of ws Joins x y z = waits (joins x)
+state_of ws Chosen x y z = waits chosen
+state_of ws Truth x y z = waits truth
+state_of ws Bracket x y z = waits (ends (sort_from x))
+state_of ws Arguments x y z = waits (arguments ws y)
+state_of ws Index x y z = index y z x
+state_of ws Value x y z = value y z x
+state_of ws Stored x y z = stored y z x
+state_of ws Own x y z = own y z
+state_of ws Fresh x y z = waits stuck
 
 -- the code of a call
-abbrev pub call_code : ℕ
-call_code = 17
+abbrev pub call_code : Code
+call_code = Arguments
 
 -- the four numbers w are the state q
-pub record Held (s w : List ℕ) (q : State) : Type 0 where
-  pub four : length w ≡ 4
+pub record Held (s : List ℕ) (w : Coded) (q : State) : Type 0 where
   pub sorts : List ℕ
-  pub is : q ≡ state_of sorts (get_or w 0 0) (get_or w 1 0) (get_or w 2 0) (get_or w 3 0)
-  pub call : get_or w 0 0 ≡ call_code → ArgumentsAt s (get_or w 1 0) sorts
+  pub is : q ≡ state_of sorts w.code w.x w.y w.z
+  pub call : w.code ≡ call_code → ArgumentsAt s w.x sorts
 
 -- what the code needs of the numbers
-pub record Usable (s w : List ℕ) : Type 0 where
-  pub four : length w ≡ 4
-  pub call : get_or w 0 0 ≡ call_code → get_or w 1 0 ≤ length s
+pub record Usable (s : List ℕ) (w : Coded) : Type 0 where
+  pub call : w.code ≡ call_code → w.x ≤ length s
 
 -- ---------------------------------------------------------------- a term from place a on
 
@@ -99,19 +115,19 @@ abbrev pub enough : List ℕ → ℕ → ℕ
 enough s a = 2 * length (drop a s) + 2
 
 -- the term from place a on was read up to place p, and is in a state that the numbers w are
-pub record Going (s : List ℕ) (D : Declarations) (a : ℕ) (w : List ℕ) (p : ℕ) : Type 0 where
+pub record Going (s : List ℕ) (D : Declarations) (a : ℕ) (w : Coded) (p : ℕ) : Type 0 where
   pub state : State
   pub held : Held s w state
   pub low : a ≤ p
-  pub moved : get_or w 0 0 ≡ 1 → a < p
+  pub moved : w.code ≡ Done → a < p
   pub high : p ≤ length s
   pub reads : (f : ℕ) → enough s a ≤ f → (g : ℕ) × (2 * length (drop p s) < g) × (sorted f D (drop a s) ≡ rest g D state (drop p s))
 
 -- an operand begins at place p
-pub record Asking (s : List ℕ) (D : Declarations) (a : ℕ) (w : List ℕ) (p : ℕ) : Type 0 where
+pub record Asking (s : List ℕ) (D : Declarations) (a : ℕ) (w : Coded) (p : ℕ) : Type 0 where
   pub state : State
   pub held : Held s w state
-  pub begun : get_or w 0 0 ≡ 22 → ⊥
+  pub begun : w.code ≡ Fresh → ⊥
   pub low : a < p
   pub high : p ≤ length s
   pub reads : (f : ℕ) → enough s a ≤ f → (g : ℕ) × (enough s p ≤ g) × (sorted f D (drop a s) ≡ and_then (sorted g D (drop p s)) (λ σ r. rest g D (after state σ) r))
@@ -130,6 +146,6 @@ pub record SortedBy (s : List ℕ) (D : Declarations) (a n e l : ℕ) : Type 0 w
   pub high : e ≤ length s
   pub is_sorted : 0 < e → (f : ℕ) → enough s a ≤ f → sorted f D (drop a s) ≡ took (sort_from n) (drop e s)
 
-abbrev pub SortAt : List ℕ → Declarations → ℕ → Sort → Type 0
-SortAt s D a No = (f : ℕ) → enough s a ≤ f → sorted f D (drop a s) ≡ none
-SortAt s D a (Is n e) = (a < e) × (e ≤ length s) × ((f : ℕ) → enough s a ≤ f → sorted f D (drop a s) ≡ took (sort_from n) (drop e s))
+abbrev pub SortAt : List ℕ → Declarations → ℕ → Maybe Sorted → Type 0
+SortAt s D a None = (f : ℕ) → enough s a ≤ f → sorted f D (drop a s) ≡ none
+SortAt s D a (Some r) = (a < r.end) × (r.end ≤ length s) × ((f : ℕ) → enough s a ≤ f → sorted f D (drop a s) ≡ took (sort_from r.sort) (drop r.end s))

@@ -1,11 +1,11 @@
 -- Laws of states as numbers: an operand that came, and what stands at a place.
-use Rattle.std.specs.Prelude.{ℕ, zero, suc, ◌+◌, ◌*◌, ◌-◌, ◌≤◌, ◌<◌, ◌≡◌, Bool, true, false, T, eqb, length, drop, get_or, set}
+use Rattle.std.specs.Prelude.{ℕ, suc, ◌+◌, ◌*◌, ◌-◌, ◌≤◌, ◌<◌, ◌≡◌, ◌⊎◌, Bool, true, false, T, length, drop, get_or}
 use Rattle.std.proofs.Math.Path.{refl, ap, sym, subst}
-use Rattle.std.proofs.Common.{◌∙◌, eqb-true, eq-eqb, ne_eqb, length-drop}
+use Rattle.std.proofs.Common.{inl, inr, ⊎_elim, ◌∙◌, eq-eqb, ne_eqb, length-drop}
 use mathlib.Core.List.{List, [], ◌∷◌}
+use Rattle.std.specs.Prelude.{Option as Maybe, Some, None}
 use Rattle.std.proofs.Math.Option.{Option, none, some}
 use native.Mathlib.Omega.{arith}
-use Rattle.std.proofs.lemmas.Bool.{eqb-false}
 use Rattle.lists.specs.Bytes.{bytes}
 use Rattle.reading.specs.Trees.{Declarations}
 use Rattle.echo_spec.specs.Input.{largest}
@@ -15,85 +15,65 @@ use Rattle.readback.specs.Reader.{Took, took, and_then, expect}
 use Rattle.sort_reader.specs.Waits.{Wait, ends, arguments, stuck, step, close}
 use Rattle.sort_reader.specs.Sorted.{of_sort, sorted}
 use Rattle.script_tokens.specs.declared.Number.{Number}
-use Rattle.script_tokens.specs.declared.Number.TheVariants.{No as NoNumber, Is as IsNumber}
 use Rattle.script_entries.specs.Entries.{ArgumentsAt, NextArgument}
 use Rattle.script_heads.specs.HeadLaws.{byte-there, byte-here, byte-apart, Standing, ended, stands, standing, no-argument, no-sort, width-zero, width-proper}
 use Rattle.script_terms.specs.States.{sort_from, State, waits, index, stored, rest, after, state_of, call_code, Held, Usable, enough, Going, Asking, SortedTo, SortedBy}
 use Rattle.script_terms.specs.StateLaws.{stuck-rest, Asks, left, left-high, rest-next, close-rest, own-close, stored-close, index-else, value-else, stored-else, own-else, waits-empty, waits-else}
 use Rattle.script_terms.specs.Turns.{Ends, AfterIs, closed_as, ClosedIs, NoneFrom, DoneFrom, OperandFrom, NextSays, NextIs, Turned, Turn, Came}
 use Rattle.script_terms.specs.OperandLaws.{width-sort, not-zero}
+use Rattle.script_terms.specs.declared.Code.{Code}
+use Rattle.script_terms.specs.declared.Code.TheVariants.{Failed, Done, Binary, Rotation, Extraction, Concat, Extension, Ite, Comparison, Negation, Connective, Unary, Same, Joins, Chosen, Truth, Bracket, Arguments, Index, Value, Stored, Own, Fresh}
 use Rattle.script_terms.specs.declared.Coded.{Coded}
-use Rattle.script_terms.specs.declared.Closed.{Closed}
-use Rattle.script_terms.specs.declared.Closed.TheVariants.{No as NotClosed, Is as IsClosed}
 use Rattle.script_terms.specs.declared.Next.{Next}
-use Rattle.script_terms.specs.declared.Next.TheVariants.{No as NoNext, Done, Operand}
+use Rattle.script_terms.specs.declared.Next.TheVariants.{Done as Whole, Operand}
 
 -- ---------------------------------------------------------------- four numbers
 
-four_is : (w : List ℕ) → length w ≡ 4 → w ≡ get_or w 0 0 ∷ get_or w 1 0 ∷ get_or w 2 0 ∷ get_or w 3 0 ∷ []
-four_is [] e = absurd (omega arith)
-four_is (x ∷ []) e = absurd (omega arith)
-four_is (x ∷ y ∷ []) e = absurd (omega arith)
-four_is (x ∷ y ∷ z ∷ []) e = absurd (omega arith)
-four_is (x ∷ y ∷ z ∷ u ∷ []) e = refl
-four_is (x ∷ y ∷ z ∷ u ∷ v ∷ w) e = absurd (omega arith)
-
-pub four-put : (w : List ℕ) (a b c d : ℕ) → length w ≡ 4 → set (set (set (set w 0 a) 1 b) 2 c) 3 d ≡ a ∷ b ∷ c ∷ d ∷ []
-four-put w a b c d e = ap (λ (l : List ℕ). set (set (set (set l 0 a) 1 b) 2 c) 3 d) (four_is w e)
-
-four-first : (w : List ℕ) (d : ℕ) → length w ≡ 4 → set w 0 d ≡ d ∷ get_or w 1 0 ∷ get_or w 2 0 ∷ get_or w 3 0 ∷ []
-four-first w d e = ap (λ (l : List ℕ). set l 0 d) (four_is w e)
-
-four-second : (w : List ℕ) (d : ℕ) → length w ≡ 4 → set w 1 d ≡ get_or w 0 0 ∷ d ∷ get_or w 2 0 ∷ get_or w 3 0 ∷ []
-four-second w d e = ap (λ (l : List ℕ). set l 1 d) (four_is w e)
-
-pub held-usable : {s w : List ℕ} {q : State} → Held s w q → Usable s w
-held-usable h = record { four = h.four; call = λ e. (h.call e).begin }
+pub held-usable : {s : List ℕ} {w : Coded} {q : State} → Held s w q → Usable s w
+held-usable h = record { call = λ e. (h.call e).begin }
 
 -- ---------------------------------------------------------------- an operand came
 
-module _ (s w : List ℕ) (q : State) (h : Held s w q) where
-  abbrev c : ℕ
-  c = get_or w 0 0
+module _ (s : List ℕ) (w : Coded) (q : State) (h : Held s w q) where
+  abbrev c : Code
+  c = w.code
 
   abbrev x : ℕ
-  x = get_or w 1 0
+  x = w.x
 
   abbrev y : ℕ
-  y = get_or w 2 0
+  y = w.y
 
   abbrev z : ℕ
-  z = get_or w 3 0
+  z = w.z
 
-  held-coded : (r : Coded) (w' : List ℕ) (τ : TreeSort) → w' ≡ r.code ∷ r.x ∷ r.y ∷ r.z ∷ [] → AfterIs c x y z τ r → Held s w' (after q τ)
-  held-coded r w' τ e a = subst (λ (l : List ℕ). Held s l (after q τ)) (sym e) (record {
-    four = refl;
+  held-coded : (r : Coded) (τ : TreeSort) → AfterIs c x y z τ r → Held s r (after q τ)
+  held-coded r τ a = record {
     sorts = h.sorts;
     is = ap (λ (o : State). after o τ) h.is ∙ sym (a.state h.sorts);
     call = λ k. absurd (a.plain k);
-  })
+  }
 
-  pub came-bool : (n : ℕ) (r : Coded) (w' : List ℕ) → n ≡ 0 → w' ≡ r.code ∷ r.x ∷ r.y ∷ r.z ∷ [] → AfterIs c x y z bool r → Held s w' (after q (sort_from n))
-  came-bool n r w' k e a = subst (λ (m : ℕ). Held s w' (after q (sort_from m))) (sym k) (held-coded r w' bool e a)
+  pub came-bool : (n : ℕ) (r : Coded) → n ≡ 0 → AfterIs c x y z bool r → Held s r (after q (sort_from n))
+  came-bool n r k a = subst (λ (m : ℕ). Held s r (after q (sort_from m))) (sym k) (held-coded r bool a)
 
-  pub came-vector : (n : ℕ) (r : Coded) (w' : List ℕ) → (n ≡ 0 → ⊥) → w' ≡ r.code ∷ r.x ∷ r.y ∷ r.z ∷ [] → AfterIs c x y z (bits n) r → Held s w' (after q (sort_from n))
-  came-vector n r w' k e a = subst (λ (σ : TreeSort). Held s w' (after q σ)) (sym (width-sort n (not-zero n k))) (held-coded r w' (bits n) e a)
+  pub came-vector : (n : ℕ) (r : Coded) → (n ≡ 0 → ⊥) → AfterIs c x y z (bits n) r → Held s r (after q (sort_from n))
+  came-vector n r k a = subst (λ (σ : TreeSort). Held s r (after q σ)) (sym (width-sort n (not-zero n k))) (held-coded r (bits n) a)
 
   -- a call
-  call-state : c ≡ 17 → q ≡ waits (arguments h.sorts y)
+  call-state : c ≡ Arguments → q ≡ waits (arguments h.sorts y)
   unfolding state_of
-  call-state e = h.is ∙ ap (λ (k : ℕ). state_of h.sorts k x y z) e
+  call-state e = h.is ∙ ap (λ (k : Code). state_of h.sorts k x y z) e
 
-  failed-held : (r : Coded) (w' : List ℕ) (o : State) → Ends r 0 0 → w' ≡ r.code ∷ r.x ∷ r.y ∷ r.z ∷ [] → o ≡ waits stuck → Held s w' o
+  failed-held : (r : Coded) (o : State) → Ends r Failed 0 → o ≡ waits stuck → Held s r o
   unfolding state_of
-  failed-held r w' o f e g = subst (λ (l : List ℕ). Held s l o) (sym e) (record {
-    four = refl;
+  failed-held r o f g = record {
     sorts = [];
     is = g ∙ sym (λ i. state_of [] (f.code i) r.x r.y r.z);
-    call = λ k. absurd (let j : r.code ≡ 0 = f.code in omega arith);
-  })
+    call = λ k. absurd (let j : r.code ≡ Failed = f.code in let z : ⊥ = cc in z);
+  }
 
-  module _ (e : c ≡ 17) (n : ℕ) (n' : n ≡ 0 → ⊥) where
+  module _ (e : c ≡ Arguments) (n : ℕ) (n' : n ≡ 0 → ⊥) where
     vector : sort_from n ≡ bits n
     vector = width-sort n (not-zero n n')
 
@@ -101,43 +81,39 @@ module _ (s w : List ℕ) (q : State) (h : Held s w q) where
     unfolding after
     after_call ws k = (λ i. after (call-state e i) (vector i)) ∙ ap (λ (l : List ℕ). waits (step (arguments l y) (bits n))) k
 
-    pub call-past : (m : Number) (r : Coded) (w' : List ℕ) → NextArgument s x h.sorts m → m ≡ NoNumber → Ends r 0 0 → w' ≡ r.code ∷ r.x ∷ r.y ∷ r.z ∷ [] → Held s w' (after q (sort_from n))
+    pub call-past : (r : Coded) → NextArgument s x h.sorts None → Ends r Failed 0 → Held s r (after q (sort_from n))
     unfolding step
-    call-past m r w' a k f g = failed-held r w' (after q (sort_from n)) f g (after_call [] (no-argument s x h.sorts a k))
+    call-past r a f = failed-held r (after q (sort_from n)) f (after_call [] (no-argument s x h.sorts a))
 
     -- the sorts that are left, and the first of them
-    pub record Split (v p : ℕ) : Type 0 where
+    pub record Split (m : Number) : Type 0 where
       pub others : List ℕ
-      pub whole : h.sorts ≡ v ∷ others
-      pub there : ArgumentsAt s p others
+      pub whole : h.sorts ≡ m.value ∷ others
+      pub there : ArgumentsAt s m.end others
 
-    split-of : (ws : List ℕ) (m : Number) (v p : ℕ) → NextArgument s x ws m → m ≡ IsNumber v p → (os : List ℕ) × (ws ≡ v ∷ os) × ArgumentsAt s p os
-    split-of [] m v p a k = absurd (subst (NextArgument s x []) k a)
-    split-of (u ∷ ws) m v p a k =
-        let b : NextArgument s x (u ∷ ws) (IsNumber v p) = subst (NextArgument s x (u ∷ ws)) k a in
-        (ws, ap (λ (i : ℕ). i ∷ ws) (sym b.2), b.3)
+    split-of : (ws : List ℕ) (m : Number) → NextArgument s x ws (Some m) → (os : List ℕ) × (ws ≡ m.value ∷ os) × ArgumentsAt s m.end os
+    split-of [] m a = absurd a
+    split-of (u ∷ ws) m a = (ws, ap (λ (i : ℕ). i ∷ ws) (sym a.2), a.3)
 
-    split : (m : Number) (v p : ℕ) → NextArgument s x h.sorts m → m ≡ IsNumber v p → Split v p
-    split m v p a k = let (os, g, t) = split-of h.sorts m v p a k in record { others = os; whole = g; there = t }
+    split : (m : Number) → NextArgument s x h.sorts (Some m) → Split m
+    split m a = let (os, g, t) = split-of h.sorts m a in record { others = os; whole = g; there = t }
 
-    pub call-other : (m : Number) (v p : ℕ) (r : Coded) (w' : List ℕ) → NextArgument s x h.sorts m → m ≡ IsNumber v p → (v ≡ n → ⊥) → Ends r 0 0 → w' ≡ r.code ∷ r.x ∷ r.y ∷ r.z ∷ []
-        → Held s w' (after q (sort_from n))
+    pub call-other : (m : Number) (r : Coded) → NextArgument s x h.sorts (Some m) → (m.value ≡ n → ⊥) → Ends r Failed 0 → Held s r (after q (sort_from n))
     unfolding step
-    call-other m v p r w' a k d f g =
-        let b = split m v p a k in
-        failed-held r w' (after q (sort_from n)) f g (after_call (v ∷ b.others) b.whole ∙ rw (ne_eqb n v (λ j. d (sym j))))
+    call-other m r a d f =
+        let b = split m a in
+        failed-held r (after q (sort_from n)) f (after_call (m.value ∷ b.others) b.whole ∙ rw (ne_eqb n m.value (λ j. d (sym j))))
 
-    pub call-on : (m : Number) (v p : ℕ) → NextArgument s x h.sorts m → m ≡ IsNumber v p → v ≡ n → Held s (set w 1 p) (after q (sort_from n))
+    pub call-on : (m : Number) → NextArgument s x h.sorts (Some m) → m.value ≡ n → Held s (record w { x = m.end }) (after q (sort_from n))
     unfolding step state_of
-    call-on m v p a k d =
-        let b = split m v p a k in
-        let g : after q (sort_from n) ≡ waits (arguments b.others y) = after_call (v ∷ b.others) b.whole ∙ rw (eq-eqb n v (sym d)) in
-        subst (λ (l : List ℕ). Held s l (after q (sort_from n))) (sym (four-second w p h.four)) (record {
-          four = refl;
+    call-on m a d =
+        let b = split m a in
+        let g : after q (sort_from n) ≡ waits (arguments b.others y) = after_call (m.value ∷ b.others) b.whole ∙ rw (eq-eqb n m.value (sym d)) in
+        record {
           sorts = b.others;
-          is = g ∙ sym (ap (λ (i : ℕ). state_of b.others i p y z) e);
+          is = g ∙ sym (ap (λ (i : Code). state_of b.others i m.end y z) e);
           call = λ _. b.there;
-        })
+        }
 
 -- ---------------------------------------------------------------- a bracket
 
@@ -148,47 +124,48 @@ some_of b o n e = rw e
 width_is : (z : ℕ) → (z ≡ 0 → ⊥) → z ≤ largest → if_proper (bits z) ≡ some (sort_from z)
 width_is z f l = if-proper (bits z) (width-proper z (not-zero z f) l) ∙ ap (λ (σ : TreeSort). some σ) (sym (width-sort z (not-zero z f)))
 
-call-close : (x y z : ℕ) (D : Declarations) (g : ℕ) (ws b : List ℕ) (vs : List ℕ) → ws ≡ vs → rest (suc g) D (state_of ws 17 x y z) (41 ∷ b) ≡ of_sort (close (arguments vs y)) b
+call-close : (x y z : ℕ) (D : Declarations) (g : ℕ) (ws b : List ℕ) (vs : List ℕ) → ws ≡ vs → rest (suc g) D (state_of ws Arguments x y z) (41 ∷ b) ≡ of_sort (close (arguments vs y)) b
 unfolding state_of
 call-close x y z D g ws b vs e = close-rest D (arguments ws y) g b ∙ ap (λ (l : List ℕ). of_sort (close (arguments l y)) b) e
 
-module _ (s : List ℕ) {c : ℕ} (x y z : ℕ) where
+module _ (s : List ℕ) {c : Code} (x y z : ℕ) where
   -- at a code
-  closed_at : (k : ℕ) (r : Closed) → c ≡ k → ClosedIs s k x y z r → ClosedIs s c x y z r
-  closed_at k r e h = subst (λ (i : ℕ). ClosedIs s i x y z r) (sym e) h
+  closed_at : (k : Code) (r : Maybe ℕ) → c ≡ k → ClosedIs s k x y z r → ClosedIs s c x y z r
+  closed_at k r e h = subst (λ (i : Code). ClosedIs s i x y z r) (sym e) h
 
-  pub closed-ends : c ≡ 16 → ClosedIs s c x y z (IsClosed x)
+  pub closed-ends : c ≡ Bracket → ClosedIs s c x y z (Some x)
   unfolding state_of close
-  closed-ends e = closed_at 16 (IsClosed x) e (record { closes = λ D ws a n m g b. close-rest D (ends (sort_from x)) g b ∙ some_of b (close (ends (sort_from x))) x refl })
+  closed-ends e = closed_at Bracket (Some x) e (record { closes = λ D ws a n m g b. close-rest D (ends (sort_from x)) g b ∙ some_of b (close (ends (sort_from x))) x refl })
 
-  pub closed-own-none : c ≡ 21 → z ≡ 0 → ClosedIs s c x y z NotClosed
+  pub closed-own-none : c ≡ Own → z ≡ 0 → ClosedIs s c x y z None
   unfolding state_of
-  closed-own-none e k = closed_at 21 NotClosed e (record { closes = λ D ws a n m g b. own-close D (suc g) y z b ∙ no-sort b (if_proper (bits z)) (width-zero z k) })
+  closed-own-none e k = closed_at Own None e (record { closes = λ D ws a n m g b. own-close D (suc g) y z b ∙ no-sort b (if_proper (bits z)) (width-zero z k) })
 
-  pub closed-own : c ≡ 21 → (z ≡ 0 → ⊥) → z ≤ largest → ClosedIs s c x y z (IsClosed z)
+  pub closed-own : c ≡ Own → (z ≡ 0 → ⊥) → z ≤ largest → ClosedIs s c x y z (Some z)
   unfolding state_of
-  closed-own e k l = closed_at 21 (IsClosed z) e (record { closes = λ D ws a n m g b. own-close D (suc g) y z b ∙ some_of b (if_proper (bits z)) z (width_is z k l) })
+  closed-own e k l = closed_at Own (Some z) e (record { closes = λ D ws a n m g b. own-close D (suc g) y z b ∙ some_of b (if_proper (bits z)) z (width_is z k l) })
 
-  module _ (m : Number) (told : (ws : List ℕ) → ArgumentsAt s x ws → NextArgument s x ws m) (e : c ≡ 17) where
-    pub closed-call-more : {v p : ℕ} → m ≡ IsNumber v p → ClosedIs s c x y z NotClosed
+  module _ (e : c ≡ Arguments) where
+    pub closed-call-more : (m : Number) → ((ws : List ℕ) → ArgumentsAt s x ws → NextArgument s x ws (Some m)) → ClosedIs s c x y z None
     unfolding close
-    closed-call-more {v} {p} k = closed_at 17 NotClosed e (record { closes = λ D ws a n o g b. by-sorts D g b ws (told ws (a refl)) })
+    closed-call-more m told = closed_at Arguments None e (record { closes = λ D ws a n o g b. by-sorts D g b ws (told ws (a refl)) })
       where
-        by-sorts : (D : Declarations) (g : ℕ) (b ws : List ℕ) → NextArgument s x ws m → rest (suc g) D (state_of ws 17 x y z) (41 ∷ b) ≡ none
-        by-sorts D g b [] t = absurd (subst (NextArgument s x []) k t)
+        by-sorts : (D : Declarations) (g : ℕ) (b ws : List ℕ) → NextArgument s x ws (Some m) → rest (suc g) D (state_of ws Arguments x y z) (41 ∷ b) ≡ none
+        by-sorts D g b [] t = absurd t
         by-sorts D g b (u ∷ ws) t = call-close x y z D g (u ∷ ws) b (u ∷ ws) refl ∙ no-sort b (close (arguments (u ∷ ws) y)) refl
 
-    pub closed-call-none : m ≡ NoNumber → y ≡ 0 → ClosedIs s c x y z NotClosed
-    unfolding close
-    closed-call-none k f = closed_at 17 NotClosed e (record {
-      closes = λ D ws a n o g b. call-close x y z D g ws b [] (no-argument s x ws (told ws (a refl)) k) ∙ no-sort b (close (arguments [] y)) (width-zero y f);
-    })
+    module _ (told : (ws : List ℕ) → ArgumentsAt s x ws → NextArgument s x ws None) where
+      pub closed-call-none : y ≡ 0 → ClosedIs s c x y z None
+      unfolding close
+      closed-call-none f = closed_at Arguments None e (record {
+        closes = λ D ws a n o g b. call-close x y z D g ws b [] (no-argument s x ws (told ws (a refl))) ∙ no-sort b (close (arguments [] y)) (width-zero y f);
+      })
 
-    pub closed-call : m ≡ NoNumber → (y ≡ 0 → ⊥) → y ≤ largest → ClosedIs s c x y z (IsClosed y)
-    unfolding close
-    closed-call k f l = closed_at 17 (IsClosed y) e (record {
-      closes = λ D ws a n o g b. call-close x y z D g ws b [] (no-argument s x ws (told ws (a refl)) k) ∙ some_of b (close (arguments [] y)) y (width_is y f l);
-    })
+      pub closed-call : (y ≡ 0 → ⊥) → y ≤ largest → ClosedIs s c x y z (Some y)
+      unfolding close
+      closed-call f l = closed_at Arguments (Some y) e (record {
+        closes = λ D ws a n o g b. call-close x y z D g ws b [] (no-argument s x ws (told ws (a refl))) ∙ some_of b (close (arguments [] y)) y (width_is y f l);
+      })
 
 wait-open : (D : Declarations) (w : Wait) (g : ℕ) (b : List ℕ) → close w ≡ none → rest (suc g) D (waits w) (41 ∷ b) ≡ none
 wait-open D w g b e = close-rest D w g b ∙ no-sort b (close w) e
@@ -197,34 +174,34 @@ no-blank : (b : List ℕ) → expect (bytes " ") (41 ∷ b) ≡ none
 unfolding bytes expect
 no-blank b = refl
 
-not-closed : (c : ℕ) → (c ≡ 16 → ⊥) → (c ≡ 21 → ⊥) → (c ≡ 17 → ⊥) → (c ≡ 1 → ⊥) → (c ≡ 20 → ⊥) → (D : Declarations) (ws : List ℕ) (x y z g : ℕ) (b : List ℕ)
+not-closed : (c : Code) → (c ≡ Bracket → ⊥) → (c ≡ Own → ⊥) → (c ≡ Arguments → ⊥) → (c ≡ Done → ⊥) → (c ≡ Stored → ⊥) → (D : Declarations) (ws : List ℕ) (x y z g : ℕ) (b : List ℕ)
     → rest (suc g) D (state_of ws c x y z) (41 ∷ b) ≡ none
 unfolding state_of close
-not-closed zero n16 n21 n17 n1 n20 D ws x y z g b = stuck-rest D (suc g) (41 ∷ b)
-not-closed (suc zero) n16 n21 n17 n1 n20 D ws x y z g b = absurd (n1 refl)
-not-closed (suc (suc zero)) n16 n21 n17 n1 n20 D ws x y z g b = wait-open D _ g b refl
-not-closed (suc (suc (suc zero))) n16 n21 n17 n1 n20 D ws x y z g b = wait-open D _ g b refl
-not-closed (suc (suc (suc (suc zero)))) n16 n21 n17 n1 n20 D ws x y z g b = wait-open D _ g b refl
-not-closed (suc (suc (suc (suc (suc zero))))) n16 n21 n17 n1 n20 D ws x y z g b = wait-open D _ g b refl
-not-closed (suc (suc (suc (suc (suc (suc zero)))))) n16 n21 n17 n1 n20 D ws x y z g b = wait-open D _ g b refl
-not-closed (suc (suc (suc (suc (suc (suc (suc zero))))))) n16 n21 n17 n1 n20 D ws x y z g b = wait-open D _ g b refl
-not-closed (suc (suc (suc (suc (suc (suc (suc (suc zero)))))))) n16 n21 n17 n1 n20 D ws x y z g b = wait-open D _ g b refl
-not-closed (suc (suc (suc (suc (suc (suc (suc (suc (suc zero))))))))) n16 n21 n17 n1 n20 D ws x y z g b = wait-open D _ g b refl
-not-closed (suc (suc (suc (suc (suc (suc (suc (suc (suc (suc zero)))))))))) n16 n21 n17 n1 n20 D ws x y z g b = wait-open D _ g b refl
-not-closed (suc (suc (suc (suc (suc (suc (suc (suc (suc (suc (suc zero))))))))))) n16 n21 n17 n1 n20 D ws x y z g b = wait-open D _ g b refl
-not-closed (suc (suc (suc (suc (suc (suc (suc (suc (suc (suc (suc (suc zero)))))))))))) n16 n21 n17 n1 n20 D ws x y z g b = wait-open D _ g b refl
-not-closed (suc (suc (suc (suc (suc (suc (suc (suc (suc (suc (suc (suc (suc zero))))))))))))) n16 n21 n17 n1 n20 D ws x y z g b = wait-open D _ g b refl
-not-closed (suc (suc (suc (suc (suc (suc (suc (suc (suc (suc (suc (suc (suc (suc zero)))))))))))))) n16 n21 n17 n1 n20 D ws x y z g b = wait-open D _ g b refl
-not-closed (suc (suc (suc (suc (suc (suc (suc (suc (suc (suc (suc (suc (suc (suc (suc zero))))))))))))))) n16 n21 n17 n1 n20 D ws x y z g b = wait-open D _ g b refl
-not-closed (suc (suc (suc (suc (suc (suc (suc (suc (suc (suc (suc (suc (suc (suc (suc (suc zero)))))))))))))))) n16 n21 n17 n1 n20 D ws x y z g b = absurd (n16 refl)
-not-closed (suc (suc (suc (suc (suc (suc (suc (suc (suc (suc (suc (suc (suc (suc (suc (suc (suc zero))))))))))))))))) n16 n21 n17 n1 n20 D ws x y z g b = absurd (n17 refl)
-not-closed (suc (suc (suc (suc (suc (suc (suc (suc (suc (suc (suc (suc (suc (suc (suc (suc (suc (suc zero)))))))))))))))))) n16 n21 n17 n1 n20 D ws x y z g b = index-else D (suc g) y z x (41 ∷ b) (no-blank b)
-not-closed (suc (suc (suc (suc (suc (suc (suc (suc (suc (suc (suc (suc (suc (suc (suc (suc (suc (suc (suc zero))))))))))))))))))) n16 n21 n17 n1 n20 D ws x y z g b = value-else D (suc g) y z x (41 ∷ b) (no-blank b)
-not-closed (suc (suc (suc (suc (suc (suc (suc (suc (suc (suc (suc (suc (suc (suc (suc (suc (suc (suc (suc (suc zero)))))))))))))))))))) n16 n21 n17 n1 n20 D ws x y z g b = absurd (n20 refl)
-not-closed (suc (suc (suc (suc (suc (suc (suc (suc (suc (suc (suc (suc (suc (suc (suc (suc (suc (suc (suc (suc (suc zero))))))))))))))))))))) n16 n21 n17 n1 n20 D ws x y z g b = absurd (n21 refl)
-not-closed (suc (suc (suc (suc (suc (suc (suc (suc (suc (suc (suc (suc (suc (suc (suc (suc (suc (suc (suc (suc (suc (suc c)))))))))))))))))))))) n16 n21 n17 n1 n20 D ws x y z g b = stuck-rest D (suc g) (41 ∷ b)
+not-closed Failed n16 n21 n17 n1 n20 D ws x y z g b = stuck-rest D (suc g) (41 ∷ b)
+not-closed Done n16 n21 n17 n1 n20 D ws x y z g b = absurd (n1 refl)
+not-closed Binary n16 n21 n17 n1 n20 D ws x y z g b = wait-open D _ g b refl
+not-closed Rotation n16 n21 n17 n1 n20 D ws x y z g b = wait-open D _ g b refl
+not-closed Extraction n16 n21 n17 n1 n20 D ws x y z g b = wait-open D _ g b refl
+not-closed Concat n16 n21 n17 n1 n20 D ws x y z g b = wait-open D _ g b refl
+not-closed Extension n16 n21 n17 n1 n20 D ws x y z g b = wait-open D _ g b refl
+not-closed Ite n16 n21 n17 n1 n20 D ws x y z g b = wait-open D _ g b refl
+not-closed Comparison n16 n21 n17 n1 n20 D ws x y z g b = wait-open D _ g b refl
+not-closed Negation n16 n21 n17 n1 n20 D ws x y z g b = wait-open D _ g b refl
+not-closed Connective n16 n21 n17 n1 n20 D ws x y z g b = wait-open D _ g b refl
+not-closed Unary n16 n21 n17 n1 n20 D ws x y z g b = wait-open D _ g b refl
+not-closed Same n16 n21 n17 n1 n20 D ws x y z g b = wait-open D _ g b refl
+not-closed Joins n16 n21 n17 n1 n20 D ws x y z g b = wait-open D _ g b refl
+not-closed Chosen n16 n21 n17 n1 n20 D ws x y z g b = wait-open D _ g b refl
+not-closed Truth n16 n21 n17 n1 n20 D ws x y z g b = wait-open D _ g b refl
+not-closed Bracket n16 n21 n17 n1 n20 D ws x y z g b = absurd (n16 refl)
+not-closed Arguments n16 n21 n17 n1 n20 D ws x y z g b = absurd (n17 refl)
+not-closed Index n16 n21 n17 n1 n20 D ws x y z g b = index-else D (suc g) y z x (41 ∷ b) (no-blank b)
+not-closed Value n16 n21 n17 n1 n20 D ws x y z g b = value-else D (suc g) y z x (41 ∷ b) (no-blank b)
+not-closed Stored n16 n21 n17 n1 n20 D ws x y z g b = absurd (n20 refl)
+not-closed Own n16 n21 n17 n1 n20 D ws x y z g b = absurd (n21 refl)
+not-closed Fresh n16 n21 n17 n1 n20 D ws x y z g b = stuck-rest D (suc g) (41 ∷ b)
 
-pub closed-else : (s : List ℕ) {c : ℕ} (x y z : ℕ) → (c ≡ 16 → ⊥) → (c ≡ 21 → ⊥) → (c ≡ 17 → ⊥) → ClosedIs s c x y z NotClosed
+pub closed-else : (s : List ℕ) {c : Code} (x y z : ℕ) → (c ≡ Bracket → ⊥) → (c ≡ Own → ⊥) → (c ≡ Arguments → ⊥) → ClosedIs s c x y z None
 closed-else s {c} x y z n16 n21 n17 = record { closes = λ D ws a n1 n20 g b. not-closed c n16 n21 n17 n1 n20 D ws x y z g b }
 
 -- ---------------------------------------------------------------- what stands at a place
@@ -233,57 +210,83 @@ no-bracket : (b : List ℕ) → expect (bytes ")") (32 ∷ b) ≡ none
 unfolding bytes expect
 no-bracket b = refl
 
-no_operand : (c : ℕ) → 19 < c → (D : Declarations) (ws : List ℕ) (x y z g : ℕ) (b : List ℕ) → rest g D (state_of ws c x y z) (32 ∷ b) ≡ none
-unfolding state_of
-no_operand zero l D ws x y z g b = absurd (omega arith)
-no_operand (suc zero) l D ws x y z g b = absurd (omega arith)
-no_operand (suc (suc zero)) l D ws x y z g b = absurd (omega arith)
-no_operand (suc (suc (suc zero))) l D ws x y z g b = absurd (omega arith)
-no_operand (suc (suc (suc (suc zero)))) l D ws x y z g b = absurd (omega arith)
-no_operand (suc (suc (suc (suc (suc zero))))) l D ws x y z g b = absurd (omega arith)
-no_operand (suc (suc (suc (suc (suc (suc zero)))))) l D ws x y z g b = absurd (omega arith)
-no_operand (suc (suc (suc (suc (suc (suc (suc zero))))))) l D ws x y z g b = absurd (omega arith)
-no_operand (suc (suc (suc (suc (suc (suc (suc (suc zero)))))))) l D ws x y z g b = absurd (omega arith)
-no_operand (suc (suc (suc (suc (suc (suc (suc (suc (suc zero))))))))) l D ws x y z g b = absurd (omega arith)
-no_operand (suc (suc (suc (suc (suc (suc (suc (suc (suc (suc zero)))))))))) l D ws x y z g b = absurd (omega arith)
-no_operand (suc (suc (suc (suc (suc (suc (suc (suc (suc (suc (suc zero))))))))))) l D ws x y z g b = absurd (omega arith)
-no_operand (suc (suc (suc (suc (suc (suc (suc (suc (suc (suc (suc (suc zero)))))))))))) l D ws x y z g b = absurd (omega arith)
-no_operand (suc (suc (suc (suc (suc (suc (suc (suc (suc (suc (suc (suc (suc zero))))))))))))) l D ws x y z g b = absurd (omega arith)
-no_operand (suc (suc (suc (suc (suc (suc (suc (suc (suc (suc (suc (suc (suc (suc zero)))))))))))))) l D ws x y z g b = absurd (omega arith)
-no_operand (suc (suc (suc (suc (suc (suc (suc (suc (suc (suc (suc (suc (suc (suc (suc zero))))))))))))))) l D ws x y z g b = absurd (omega arith)
-no_operand (suc (suc (suc (suc (suc (suc (suc (suc (suc (suc (suc (suc (suc (suc (suc (suc zero)))))))))))))))) l D ws x y z g b = absurd (omega arith)
-no_operand (suc (suc (suc (suc (suc (suc (suc (suc (suc (suc (suc (suc (suc (suc (suc (suc (suc zero))))))))))))))))) l D ws x y z g b = absurd (omega arith)
-no_operand (suc (suc (suc (suc (suc (suc (suc (suc (suc (suc (suc (suc (suc (suc (suc (suc (suc (suc zero)))))))))))))))))) l D ws x y z g b = absurd (omega arith)
-no_operand (suc (suc (suc (suc (suc (suc (suc (suc (suc (suc (suc (suc (suc (suc (suc (suc (suc (suc (suc zero))))))))))))))))))) l D ws x y z g b = absurd (omega arith)
-no_operand (suc (suc (suc (suc (suc (suc (suc (suc (suc (suc (suc (suc (suc (suc (suc (suc (suc (suc (suc (suc zero)))))))))))))))))))) l D ws x y z g b = stored-else D g y z x (32 ∷ b) (no-bracket b)
-no_operand (suc (suc (suc (suc (suc (suc (suc (suc (suc (suc (suc (suc (suc (suc (suc (suc (suc (suc (suc (suc (suc zero))))))))))))))))))))) l D ws x y z g b = own-else D g y z (32 ∷ b) (no-bracket b)
-no_operand (suc (suc (suc (suc (suc (suc (suc (suc (suc (suc (suc (suc (suc (suc (suc (suc (suc (suc (suc (suc (suc (suc c)))))))))))))))))))))) l D ws x y z g b = stuck-rest D g (32 ∷ b)
+-- the states that no operand follows
+abbrev pub Late : Code → Type 0
+Late Failed = ⊥
+Late Done = ⊥
+Late Binary = ⊥
+Late Rotation = ⊥
+Late Extraction = ⊥
+Late Concat = ⊥
+Late Extension = ⊥
+Late Ite = ⊥
+Late Comparison = ⊥
+Late Negation = ⊥
+Late Connective = ⊥
+Late Unary = ⊥
+Late Same = ⊥
+Late Joins = ⊥
+Late Chosen = ⊥
+Late Truth = ⊥
+Late Bracket = ⊥
+Late Arguments = ⊥
+Late Index = ⊥
+Late Value = ⊥
+Late Stored = Unit {0}
+Late Own = Unit {0}
+Late Fresh = Unit {0}
 
-asks-operand : (c : ℕ) → (c ≡ 1 → ⊥) → c ≤ 19 → (ws : List ℕ) (x y z : ℕ) (D : Declarations) → Asks D (state_of ws c x y z)
+no_operand : (c : Code) → Late c → (D : Declarations) (ws : List ℕ) (x y z g : ℕ) (b : List ℕ) → rest g D (state_of ws c x y z) (32 ∷ b) ≡ none
 unfolding state_of
-asks-operand zero n l ws x y z D = tt
-asks-operand (suc zero) n l ws x y z D = absurd (n refl)
-asks-operand (suc (suc zero)) n l ws x y z D = tt
-asks-operand (suc (suc (suc zero))) n l ws x y z D = tt
-asks-operand (suc (suc (suc (suc zero)))) n l ws x y z D = tt
-asks-operand (suc (suc (suc (suc (suc zero))))) n l ws x y z D = tt
-asks-operand (suc (suc (suc (suc (suc (suc zero)))))) n l ws x y z D = tt
-asks-operand (suc (suc (suc (suc (suc (suc (suc zero))))))) n l ws x y z D = tt
-asks-operand (suc (suc (suc (suc (suc (suc (suc (suc zero)))))))) n l ws x y z D = tt
-asks-operand (suc (suc (suc (suc (suc (suc (suc (suc (suc zero))))))))) n l ws x y z D = tt
-asks-operand (suc (suc (suc (suc (suc (suc (suc (suc (suc (suc zero)))))))))) n l ws x y z D = tt
-asks-operand (suc (suc (suc (suc (suc (suc (suc (suc (suc (suc (suc zero))))))))))) n l ws x y z D = tt
-asks-operand (suc (suc (suc (suc (suc (suc (suc (suc (suc (suc (suc (suc zero)))))))))))) n l ws x y z D = tt
-asks-operand (suc (suc (suc (suc (suc (suc (suc (suc (suc (suc (suc (suc (suc zero))))))))))))) n l ws x y z D = tt
-asks-operand (suc (suc (suc (suc (suc (suc (suc (suc (suc (suc (suc (suc (suc (suc zero)))))))))))))) n l ws x y z D = tt
-asks-operand (suc (suc (suc (suc (suc (suc (suc (suc (suc (suc (suc (suc (suc (suc (suc zero))))))))))))))) n l ws x y z D = tt
-asks-operand (suc (suc (suc (suc (suc (suc (suc (suc (suc (suc (suc (suc (suc (suc (suc (suc zero)))))))))))))))) n l ws x y z D = tt
-asks-operand (suc (suc (suc (suc (suc (suc (suc (suc (suc (suc (suc (suc (suc (suc (suc (suc (suc zero))))))))))))))))) n l ws x y z D = tt
-asks-operand (suc (suc (suc (suc (suc (suc (suc (suc (suc (suc (suc (suc (suc (suc (suc (suc (suc (suc zero)))))))))))))))))) n l ws x y z D = tt
-asks-operand (suc (suc (suc (suc (suc (suc (suc (suc (suc (suc (suc (suc (suc (suc (suc (suc (suc (suc (suc zero))))))))))))))))))) n l ws x y z D = tt
-asks-operand (suc (suc (suc (suc (suc (suc (suc (suc (suc (suc (suc (suc (suc (suc (suc (suc (suc (suc (suc (suc zero)))))))))))))))))))) n l ws x y z D = absurd (omega arith)
-asks-operand (suc (suc (suc (suc (suc (suc (suc (suc (suc (suc (suc (suc (suc (suc (suc (suc (suc (suc (suc (suc (suc zero))))))))))))))))))))) n l ws x y z D = absurd (omega arith)
-asks-operand (suc (suc (suc (suc (suc (suc (suc (suc (suc (suc (suc (suc (suc (suc (suc (suc (suc (suc (suc (suc (suc (suc c)))))))))))))))))))))) n l ws x y z D = absurd (omega arith)
+no_operand Failed l D ws x y z g b = absurd l
+no_operand Done l D ws x y z g b = absurd l
+no_operand Binary l D ws x y z g b = absurd l
+no_operand Rotation l D ws x y z g b = absurd l
+no_operand Extraction l D ws x y z g b = absurd l
+no_operand Concat l D ws x y z g b = absurd l
+no_operand Extension l D ws x y z g b = absurd l
+no_operand Ite l D ws x y z g b = absurd l
+no_operand Comparison l D ws x y z g b = absurd l
+no_operand Negation l D ws x y z g b = absurd l
+no_operand Connective l D ws x y z g b = absurd l
+no_operand Unary l D ws x y z g b = absurd l
+no_operand Same l D ws x y z g b = absurd l
+no_operand Joins l D ws x y z g b = absurd l
+no_operand Chosen l D ws x y z g b = absurd l
+no_operand Truth l D ws x y z g b = absurd l
+no_operand Bracket l D ws x y z g b = absurd l
+no_operand Arguments l D ws x y z g b = absurd l
+no_operand Index l D ws x y z g b = absurd l
+no_operand Value l D ws x y z g b = absurd l
+no_operand Stored l D ws x y z g b = stored-else D g y z x (32 ∷ b) (no-bracket b)
+no_operand Own l D ws x y z g b = own-else D g y z (32 ∷ b) (no-bracket b)
+no_operand Fresh l D ws x y z g b = stuck-rest D g (32 ∷ b)
+
+asks-operand : (c : Code) → (c ≡ Done → ⊥) → (c ≡ Stored → ⊥) → (c ≡ Own → ⊥) → (c ≡ Fresh → ⊥) → (ws : List ℕ) (x y z : ℕ) (D : Declarations) → Asks D (state_of ws c x y z)
+unfolding state_of
+asks-operand Failed n1 n20 n21 n22 ws x y z D = tt
+asks-operand Done n1 n20 n21 n22 ws x y z D = absurd (n1 refl)
+asks-operand Binary n1 n20 n21 n22 ws x y z D = tt
+asks-operand Rotation n1 n20 n21 n22 ws x y z D = tt
+asks-operand Extraction n1 n20 n21 n22 ws x y z D = tt
+asks-operand Concat n1 n20 n21 n22 ws x y z D = tt
+asks-operand Extension n1 n20 n21 n22 ws x y z D = tt
+asks-operand Ite n1 n20 n21 n22 ws x y z D = tt
+asks-operand Comparison n1 n20 n21 n22 ws x y z D = tt
+asks-operand Negation n1 n20 n21 n22 ws x y z D = tt
+asks-operand Connective n1 n20 n21 n22 ws x y z D = tt
+asks-operand Unary n1 n20 n21 n22 ws x y z D = tt
+asks-operand Same n1 n20 n21 n22 ws x y z D = tt
+asks-operand Joins n1 n20 n21 n22 ws x y z D = tt
+asks-operand Chosen n1 n20 n21 n22 ws x y z D = tt
+asks-operand Truth n1 n20 n21 n22 ws x y z D = tt
+asks-operand Bracket n1 n20 n21 n22 ws x y z D = tt
+asks-operand Arguments n1 n20 n21 n22 ws x y z D = tt
+asks-operand Index n1 n20 n21 n22 ws x y z D = tt
+asks-operand Value n1 n20 n21 n22 ws x y z D = tt
+asks-operand Stored n1 n20 n21 n22 ws x y z D = absurd (n20 refl)
+asks-operand Own n1 n20 n21 n22 ws x y z D = absurd (n21 refl)
+asks-operand Fresh n1 n20 n21 n22 ws x y z D = absurd (n22 refl)
 
 wait-byte : (D : Declarations) (w : Wait) (g : ℕ) (s : List ℕ) (p : ℕ) → (get_or s p 0 ≡ 32 → ⊥) → (get_or s p 0 ≡ 41 → ⊥) → rest g D (waits w) (drop p s) ≡ none
 wait-byte D w g s p e f = by-case (standing s p)
@@ -292,42 +295,42 @@ wait-byte D w g s p e f = by-case (standing s p)
     by-case (ended q) = ap (rest g D (waits w)) q ∙ waits-empty D g w
     by-case (stands l q) = ap (rest g D (waits w)) q ∙ waits-else D g w (get_or s p 0) (drop (p + 1) s) (ne_eqb (get_or s p 0) 41 f) (ne_eqb (get_or s p 0) 32 e)
 
-no_byte : (c : ℕ) → (c ≡ 1 → ⊥) → (D : Declarations) (ws : List ℕ) (x y z g : ℕ) (s : List ℕ) (p : ℕ) → (get_or s p 0 ≡ 32 → ⊥) → (get_or s p 0 ≡ 41 → ⊥) → rest g D (state_of ws c x y z) (drop p s) ≡ none
+no_byte : (c : Code) → (c ≡ Done → ⊥) → (D : Declarations) (ws : List ℕ) (x y z g : ℕ) (s : List ℕ) (p : ℕ) → (get_or s p 0 ≡ 32 → ⊥) → (get_or s p 0 ≡ 41 → ⊥) → rest g D (state_of ws c x y z) (drop p s) ≡ none
 unfolding state_of bytes
-no_byte zero n D ws x y z g s p e f = wait-byte D _ g s p e f
-no_byte (suc zero) n D ws x y z g s p e f = absurd (n refl)
-no_byte (suc (suc zero)) n D ws x y z g s p e f = wait-byte D _ g s p e f
-no_byte (suc (suc (suc zero))) n D ws x y z g s p e f = wait-byte D _ g s p e f
-no_byte (suc (suc (suc (suc zero)))) n D ws x y z g s p e f = wait-byte D _ g s p e f
-no_byte (suc (suc (suc (suc (suc zero))))) n D ws x y z g s p e f = wait-byte D _ g s p e f
-no_byte (suc (suc (suc (suc (suc (suc zero)))))) n D ws x y z g s p e f = wait-byte D _ g s p e f
-no_byte (suc (suc (suc (suc (suc (suc (suc zero))))))) n D ws x y z g s p e f = wait-byte D _ g s p e f
-no_byte (suc (suc (suc (suc (suc (suc (suc (suc zero)))))))) n D ws x y z g s p e f = wait-byte D _ g s p e f
-no_byte (suc (suc (suc (suc (suc (suc (suc (suc (suc zero))))))))) n D ws x y z g s p e f = wait-byte D _ g s p e f
-no_byte (suc (suc (suc (suc (suc (suc (suc (suc (suc (suc zero)))))))))) n D ws x y z g s p e f = wait-byte D _ g s p e f
-no_byte (suc (suc (suc (suc (suc (suc (suc (suc (suc (suc (suc zero))))))))))) n D ws x y z g s p e f = wait-byte D _ g s p e f
-no_byte (suc (suc (suc (suc (suc (suc (suc (suc (suc (suc (suc (suc zero)))))))))))) n D ws x y z g s p e f = wait-byte D _ g s p e f
-no_byte (suc (suc (suc (suc (suc (suc (suc (suc (suc (suc (suc (suc (suc zero))))))))))))) n D ws x y z g s p e f = wait-byte D _ g s p e f
-no_byte (suc (suc (suc (suc (suc (suc (suc (suc (suc (suc (suc (suc (suc (suc zero)))))))))))))) n D ws x y z g s p e f = wait-byte D _ g s p e f
-no_byte (suc (suc (suc (suc (suc (suc (suc (suc (suc (suc (suc (suc (suc (suc (suc zero))))))))))))))) n D ws x y z g s p e f = wait-byte D _ g s p e f
-no_byte (suc (suc (suc (suc (suc (suc (suc (suc (suc (suc (suc (suc (suc (suc (suc (suc zero)))))))))))))))) n D ws x y z g s p e f = wait-byte D _ g s p e f
-no_byte (suc (suc (suc (suc (suc (suc (suc (suc (suc (suc (suc (suc (suc (suc (suc (suc (suc zero))))))))))))))))) n D ws x y z g s p e f = wait-byte D _ g s p e f
-no_byte (suc (suc (suc (suc (suc (suc (suc (suc (suc (suc (suc (suc (suc (suc (suc (suc (suc (suc zero)))))))))))))))))) n D ws x y z g s p e f = index-else D g y z x (drop p s) (byte-apart s p 32 e)
-no_byte (suc (suc (suc (suc (suc (suc (suc (suc (suc (suc (suc (suc (suc (suc (suc (suc (suc (suc (suc zero))))))))))))))))))) n D ws x y z g s p e f = value-else D g y z x (drop p s) (byte-apart s p 32 e)
-no_byte (suc (suc (suc (suc (suc (suc (suc (suc (suc (suc (suc (suc (suc (suc (suc (suc (suc (suc (suc (suc zero)))))))))))))))))))) n D ws x y z g s p e f = stored-else D g y z x (drop p s) (byte-apart s p 41 f)
-no_byte (suc (suc (suc (suc (suc (suc (suc (suc (suc (suc (suc (suc (suc (suc (suc (suc (suc (suc (suc (suc (suc zero))))))))))))))))))))) n D ws x y z g s p e f = own-else D g y z (drop p s) (byte-apart s p 41 f)
-no_byte (suc (suc (suc (suc (suc (suc (suc (suc (suc (suc (suc (suc (suc (suc (suc (suc (suc (suc (suc (suc (suc (suc c)))))))))))))))))))))) n D ws x y z g s p e f = wait-byte D stuck g s p e f
+no_byte Failed n D ws x y z g s p e f = wait-byte D _ g s p e f
+no_byte Done n D ws x y z g s p e f = absurd (n refl)
+no_byte Binary n D ws x y z g s p e f = wait-byte D _ g s p e f
+no_byte Rotation n D ws x y z g s p e f = wait-byte D _ g s p e f
+no_byte Extraction n D ws x y z g s p e f = wait-byte D _ g s p e f
+no_byte Concat n D ws x y z g s p e f = wait-byte D _ g s p e f
+no_byte Extension n D ws x y z g s p e f = wait-byte D _ g s p e f
+no_byte Ite n D ws x y z g s p e f = wait-byte D _ g s p e f
+no_byte Comparison n D ws x y z g s p e f = wait-byte D _ g s p e f
+no_byte Negation n D ws x y z g s p e f = wait-byte D _ g s p e f
+no_byte Connective n D ws x y z g s p e f = wait-byte D _ g s p e f
+no_byte Unary n D ws x y z g s p e f = wait-byte D _ g s p e f
+no_byte Same n D ws x y z g s p e f = wait-byte D _ g s p e f
+no_byte Joins n D ws x y z g s p e f = wait-byte D _ g s p e f
+no_byte Chosen n D ws x y z g s p e f = wait-byte D _ g s p e f
+no_byte Truth n D ws x y z g s p e f = wait-byte D _ g s p e f
+no_byte Bracket n D ws x y z g s p e f = wait-byte D _ g s p e f
+no_byte Arguments n D ws x y z g s p e f = wait-byte D _ g s p e f
+no_byte Index n D ws x y z g s p e f = index-else D g y z x (drop p s) (byte-apart s p 32 e)
+no_byte Value n D ws x y z g s p e f = value-else D g y z x (drop p s) (byte-apart s p 32 e)
+no_byte Stored n D ws x y z g s p e f = stored-else D g y z x (drop p s) (byte-apart s p 41 f)
+no_byte Own n D ws x y z g s p e f = own-else D g y z (drop p s) (byte-apart s p 41 f)
+no_byte Fresh n D ws x y z g s p e f = wait-byte D stuck g s p e f
 
-module _ (s : List ℕ) (p : ℕ) {c : ℕ} (x y z : ℕ) where
-  pub next-done : c ≡ 1 → p ≤ length s → NextIs s p c x y z (Done x p)
+module _ (s : List ℕ) (p : ℕ) {c : Code} (x y z : ℕ) where
+  pub next-done : c ≡ Done → p ≤ length s → NextIs s p c x y z (Some (Whole x p))
   unfolding state_of rest
-  next-done e l D ws a = (omega arith, (λ n. absurd (n e)), record { high = l; reads = λ g h. ap (λ (k : ℕ). rest g D (state_of ws k x y z) (drop p s)) e })
+  next-done e l D ws a = (omega arith, (λ n. absurd (n e)), record { high = l; reads = λ g h. ap (λ (k : Code). rest g D (state_of ws k x y z) (drop p s)) e })
 
-  pub next-no-operand : get_or s p 0 ≡ 32 → 19 < c → NextIs s p c x y z NoNext
+  pub next-no-operand : get_or s p 0 ≡ 32 → Late c → NextIs s p c x y z None
   next-no-operand e l D ws a = record { reads = λ g h. ap (rest g D (state_of ws c x y z)) (byte-here s p e (omega arith)) ∙ no_operand c l D ws x y z g (drop (p + 1) s) }
 
-  pub next-operand : get_or s p 0 ≡ 32 → (c ≡ 1 → ⊥) → c ≤ 19 → NextIs s p c x y z (Operand c (p + 1))
-  next-operand e n l D ws a = (l, (λ k. k), record { low = omega arith; high = omega (arith, byte-there s p e (omega arith)); reads = reads })
+  pub next-operand : get_or s p 0 ≡ 32 → (c ≡ Done → ⊥) → (c ≡ Stored → ⊥) → (c ≡ Own → ⊥) → (c ≡ Fresh → ⊥) → NextIs s p c x y z (Some (Operand c (p + 1)))
+  next-operand e n n20 n21 n22 D ws a = (n22, (λ k. k), record { low = omega arith; high = omega (arith, byte-there s p e (omega arith)); reads = reads })
     where
       q : State
       q = state_of ws c x y z
@@ -337,14 +340,14 @@ module _ (s : List ℕ) (p : ℕ) {c : ℕ} (x y z : ℕ) where
           let j : g ≡ suc (g - 1) = omega arith in
           let u : length (drop p s) ≡ suc (length (drop (p + 1) s)) = ap length (byte-here s p e (omega arith)) in
           let v = left-high D q (g - 1) in
-          (left D q (g - 1), omega arith, ap (λ (m : ℕ). rest m D q (drop p s)) j ∙ ap (rest (suc (g - 1)) D q) (byte-here s p e (omega arith)) ∙ rest-next D q (asks-operand c n l ws x y z D) (g - 1) (drop (p + 1) s))
+          (left D q (g - 1), omega arith, ap (λ (m : ℕ). rest m D q (drop p s)) j ∙ ap (rest (suc (g - 1)) D q) (byte-here s p e (omega arith)) ∙ rest-next D q (asks-operand c n n20 n21 n22 ws x y z D) (g - 1) (drop (p + 1) s))
 
-  pub next-other : (get_or s p 0 ≡ 32 → ⊥) → (get_or s p 0 ≡ 41 → ⊥) → (c ≡ 1 → ⊥) → NextIs s p c x y z NoNext
+  pub next-other : (get_or s p 0 ≡ 32 → ⊥) → (get_or s p 0 ≡ 41 → ⊥) → (c ≡ Done → ⊥) → NextIs s p c x y z None
   next-other e f n D ws a = record { reads = λ g h. no_byte c n D ws x y z g s p e f }
 
-  pub next-stored : c ≡ 20 → get_or s p 0 ≡ 41 → get_or s (p + 1) 0 ≡ 32 → NextIs s p c x y z (Operand 18 (p + 2))
+  pub next-stored : c ≡ Stored → get_or s p 0 ≡ 41 → get_or s (p + 1) 0 ≡ 32 → NextIs s p c x y z (Some (Operand Index (p + 2)))
   unfolding state_of
-  next-stored k e f D ws a = (omega arith, (λ i. absurd (omega arith)), record { low = omega arith; high = omega (arith, byte-there s (p + 1) f (omega arith)); reads = reads })
+  next-stored k e f D ws a = ((λ i. cc), (λ i. absurd (let z : ⊥ = cc in z)), record { low = omega arith; high = omega (arith, byte-there s (p + 1) f (omega arith)); reads = reads })
     where
       q : State
       q = index y z x
@@ -359,47 +362,72 @@ module _ (s : List ℕ) (p : ℕ) {c : ℕ} (x y z : ℕ) where
           let v : length (drop (p + 1) s) ≡ suc (length (drop (p + 2) s)) = ap length there in (
             suc g,
             omega arith,
-            ap (λ (i : ℕ). rest g D (state_of ws i x y z) (drop p s)) k ∙ ap (rest g D (stored y z x)) (byte-here s p e (omega arith)) ∙ stored-close D g y z x (drop (p + 1) s)
+            ap (λ (i : Code). rest g D (state_of ws i x y z) (drop p s)) k ∙ ap (rest g D (stored y z x)) (byte-here s p e (omega arith)) ∙ stored-close D g y z x (drop (p + 1) s)
                 ∙ ap (rest (suc g) D q) there ∙ rest-next D q tt g (drop (p + 2) s),
           )
 
-  pub next-stored-none : c ≡ 20 → get_or s p 0 ≡ 41 → (get_or s (p + 1) 0 ≡ 32 → ⊥) → NextIs s p c x y z NoNext
+  pub next-stored-none : c ≡ Stored → get_or s p 0 ≡ 41 → (get_or s (p + 1) 0 ≡ 32 → ⊥) → NextIs s p c x y z None
   unfolding state_of bytes
   next-stored-none k e f D ws a = record {
     reads = λ g h.
-        ap (λ (i : ℕ). rest g D (state_of ws i x y z) (drop p s)) k ∙ ap (rest g D (stored y z x)) (byte-here s p e (omega arith)) ∙ stored-close D g y z x (drop (p + 1) s)
+        ap (λ (i : Code). rest g D (state_of ws i x y z) (drop p s)) k ∙ ap (rest g D (stored y z x)) (byte-here s p e (omega arith)) ∙ stored-close D g y z x (drop (p + 1) s)
         ∙ index-else D (suc g) y z x (drop (p + 1) s) (byte-apart s (p + 1) 32 f);
   }
 
-  closing : (r : Closed) → ClosedIs s c x y z r → (c ≡ 1 → ⊥) → (c ≡ 20 → ⊥) → get_or s p 0 ≡ 41 → (D : Declarations) (ws : List ℕ) → (c ≡ call_code → ArgumentsAt s x ws) → (g : ℕ) → 2 * length (drop p s) < g
+  closing : (r : Maybe ℕ) → ClosedIs s c x y z r → (c ≡ Done → ⊥) → (c ≡ Stored → ⊥) → get_or s p 0 ≡ 41 → (D : Declarations) (ws : List ℕ) → (c ≡ call_code → ArgumentsAt s x ws) → (g : ℕ) → 2 * length (drop p s) < g
       → rest g D (state_of ws c x y z) (drop p s) ≡ closed_as r (drop (p + 1) s)
   closing r h n m e D ws a g l =
       let z' : g ≡ suc (g - 1) = omega arith in
       ap (λ (k : ℕ). rest k D (state_of ws c x y z) (drop p s)) z' ∙ ap (rest (suc (g - 1)) D (state_of ws c x y z)) (byte-here s p e (omega arith)) ∙ h.closes D ws a n m (g - 1) (drop (p + 1) s)
 
-  pub next-open : {r : Closed} → ClosedIs s c x y z r → r ≡ NotClosed → (c ≡ 1 → ⊥) → (c ≡ 20 → ⊥) → get_or s p 0 ≡ 41 → NextIs s p c x y z NoNext
-  next-open {r} h k n m e D ws a = record { reads = λ g l. closing r h n m e D ws a g l ∙ ap (λ (o : Closed). closed_as o (drop (p + 1) s)) k }
+  pub next-open : ClosedIs s c x y z None → (c ≡ Done → ⊥) → (c ≡ Stored → ⊥) → get_or s p 0 ≡ 41 → NextIs s p c x y z None
+  next-open h n m e D ws a = record { reads = λ g l. closing None h n m e D ws a g l }
 
-  pub next-closed : {r : Closed} {i : ℕ} → ClosedIs s c x y z r → r ≡ IsClosed i → (c ≡ 1 → ⊥) → (c ≡ 20 → ⊥) → get_or s p 0 ≡ 41 → NextIs s p c x y z (Done i (p + 1))
-  next-closed {r} {i} h k n m e D ws a = (
+  pub next-closed : (i : ℕ) → ClosedIs s c x y z (Some i) → (c ≡ Done → ⊥) → (c ≡ Stored → ⊥) → get_or s p 0 ≡ 41 → NextIs s p c x y z (Some (Whole i (p + 1)))
+  next-closed i h n m e D ws a = (
     omega arith,
     (λ _. omega arith),
     record {
       high = omega (arith, byte-there s p e (omega arith));
-      reads = λ g l. closing r h n m e D ws a g l ∙ ap (λ (o : Closed). closed_as o (drop (p + 1) s)) k;
+      reads = λ g l. closing (Some i) h n m e D ws a g l;
     },
   )
 
 -- ---------------------------------------------------------------- the numbers after it
 
-module _ (s w : List ℕ) (p : ℕ) (D : Declarations) (a : ℕ) (x : Going s D a w p) (r : Next) (h : NextIs s p (get_or w 0 0) (get_or w 1 0) (get_or w 2 0) (get_or w 3 0) r) where
-  abbrev now : State
-  now = state_of x.held.sorts (get_or w 0 0) (get_or w 1 0) (get_or w 2 0) (get_or w 3 0)
+whether-done : (c : Code) → (c ≡ Done) ⊎ (c ≡ Done → ⊥)
+whether-done Failed = inr (λ q. cc)
+whether-done Done = inl refl
+whether-done Binary = inr (λ q. cc)
+whether-done Rotation = inr (λ q. cc)
+whether-done Extraction = inr (λ q. cc)
+whether-done Concat = inr (λ q. cc)
+whether-done Extension = inr (λ q. cc)
+whether-done Ite = inr (λ q. cc)
+whether-done Comparison = inr (λ q. cc)
+whether-done Negation = inr (λ q. cc)
+whether-done Connective = inr (λ q. cc)
+whether-done Unary = inr (λ q. cc)
+whether-done Same = inr (λ q. cc)
+whether-done Joins = inr (λ q. cc)
+whether-done Chosen = inr (λ q. cc)
+whether-done Truth = inr (λ q. cc)
+whether-done Bracket = inr (λ q. cc)
+whether-done Arguments = inr (λ q. cc)
+whether-done Index = inr (λ q. cc)
+whether-done Value = inr (λ q. cc)
+whether-done Stored = inr (λ q. cc)
+whether-done Own = inr (λ q. cc)
+whether-done Fresh = inr (λ q. cc)
 
-  says : NextSays s D p (get_or w 0 0) (get_or w 1 0) (get_or w 2 0) (get_or w 3 0) x.held.sorts r
+module _ (s : List ℕ) (w : Coded) (p : ℕ) (D : Declarations) (a : ℕ) (x : Going s D a w p) (r : Maybe Next) (h : NextIs s p w.code w.x w.y w.z r) where
+  abbrev now : State
+  now = state_of x.held.sorts w.code w.x w.y w.z
+
+  says : NextSays s D p w.code w.x w.y w.z x.held.sorts r
   says = h D x.held.sorts x.held.call
 
-  pub more-none : r ≡ NoNext → Turn s D a p 0 w false
+  pub more-none : r ≡ None → Turn s D a p 0 w false
   more-none q = record {
     turned = record {
       none-sorted = λ _ f l. let (g, m, e) = x.reads f l in e ∙ ap (λ (o : State). rest g D o (drop p s)) x.held.is ∙ y.reads g m;
@@ -411,61 +439,54 @@ module _ (s w : List ℕ) (p : ℕ) (D : Declarations) (a : ℕ) (x : Going s D 
   }
     where
       y : NoneFrom s D p now
-      y = subst (NextSays s D p (get_or w 0 0) (get_or w 1 0) (get_or w 2 0) (get_or w 3 0) x.held.sorts) q says
+      y = subst (NextSays s D p w.code w.x w.y w.z x.held.sorts) q says
 
-  pub more-done : {n e : ℕ} → r ≡ Done n e → Turn s D a p e (set w 1 n) false
+  pub more-done : {n e : ℕ} → r ≡ Some (Whole n e) → Turn s D a p e (record w { x = n }) false
   more-done {n} {e} q = record {
-    turned = subst (λ (m : ℕ). SortedTo s D a m e) (sym number) (record {
+    turned = record {
       none-sorted = λ k. absurd (omega (arith, low));
       low = λ m. low;
       high = y.2.high;
       is_sorted = λ m f l. let (g, k, t) = x.reads f l in t ∙ ap (λ (o : State). rest g D o (drop p s)) x.held.is ∙ y.2.reads g k;
-    });
+    };
     further = λ k. absurd (subst T (sym k) tt);
   }
     where
-      y : (p ≤ e) × ((get_or w 0 0 ≡ 1 → ⊥) → p < e) × DoneFrom s D p now n e
-      y = subst (NextSays s D p (get_or w 0 0) (get_or w 1 0) (get_or w 2 0) (get_or w 3 0) x.held.sorts) q says
-
-      number : get_or (set w 1 n) 1 0 ≡ n
-      number = ap (λ (l : List ℕ). get_or l 1 0) (four-second w n x.held.four)
+      y : (p ≤ e) × ((w.code ≡ Done → ⊥) → p < e) × DoneFrom s D p now n e
+      y = subst (NextSays s D p w.code w.x w.y w.z x.held.sorts) q says
 
       low : a < e
-      low = by_code (eqb (get_or w 0 0) 1) refl
-        where
-          by_code : (t : Bool) → eqb (get_or w 0 0) 1 ≡ t → a < e
-          by_code true k = let m = x.moved (eqb-true (get_or w 0 0) 1 k) in let l = y.0 in omega arith
-          by_code false k = let m = x.low in let l = y.1 (eqb-false (get_or w 0 0) 1 k) in omega arith
+      low = ⊎_elim (λ k. let m = x.moved k in let l = y.0 in omega arith) (λ k. let m = x.low in let l = y.1 k in omega arith) (whether-done w.code)
 
-  pub more-operand : {d e : ℕ} → r ≡ Operand d e → Turn s D a p e (set w 0 d) true
+  pub more-operand : {d : Code} {e : ℕ} → r ≡ Some (Operand d e) → Turn s D a p e (record w { code = d }) true
   more-operand {d} {e} q = record {
-    turned = subst (λ (l : List ℕ). Asking s D a l e) (sym (four-first w d x.held.four)) (record {
-      state = state_of x.held.sorts d (get_or w 1 0) (get_or w 2 0) (get_or w 3 0);
-      held = record { four = refl; sorts = x.held.sorts; is = refl; call = λ k. x.held.call (y.1 k) };
-      begun = λ k. absurd (let l = y.0 in omega arith);
+    turned = record {
+      state = state_of x.held.sorts d w.x w.y w.z;
+      held = record { sorts = x.held.sorts; is = refl; call = λ k. x.held.call (y.1 k) };
+      begun = y.0;
       low = let m = x.low in let l = y.2.low in omega arith;
       high = y.2.high;
       reads = λ f l. let (g, m, t) = x.reads f l in let (k, n, u) = y.2.reads g m in (k, n, t ∙ ap (λ (o : State). rest g D o (drop p s)) x.held.is ∙ u);
-    });
+    };
     further = λ _. y.2.low;
   }
     where
-      y : (d ≤ 19) × (d ≡ call_code → get_or w 0 0 ≡ call_code) × OperandFrom s D p now (state_of x.held.sorts d (get_or w 1 0) (get_or w 2 0) (get_or w 3 0)) e
-      y = subst (NextSays s D p (get_or w 0 0) (get_or w 1 0) (get_or w 2 0) (get_or w 3 0) x.held.sorts) q says
+      y : (d ≡ Fresh → ⊥) × (d ≡ call_code → w.code ≡ call_code) × OperandFrom s D p now (state_of x.held.sorts d w.x w.y w.z) e
+      y = subst (NextSays s D p w.code w.x w.y w.z x.held.sorts) q says
 
 -- ---------------------------------------------------------------- turns
 
-pub turn-further : {s : List ℕ} {D : Declarations} {a p q e : ℕ} {w : List ℕ} {r : Bool} → Turn s D a q e w r → p ≤ q → Turn s D a p e w r
+pub turn-further : {s : List ℕ} {D : Declarations} {a p q e : ℕ} {w : Coded} {r : Bool} → Turn s D a q e w r → p ≤ q → Turn s D a p e w r
 turn-further x l = record { turned = x.turned; further = λ k. let m = x.further k in omega arith }
 
-pub went : {s w w' : List ℕ} {D : Declarations} {a n p : ℕ} (x : Came s D a w n p) → Held s w' (after x.state (sort_from n)) → Going s D a w' p
+pub went : {s : List ℕ} {w w' : Coded} {D : Declarations} {a n p : ℕ} (x : Came s D a w n p) → Held s w' (after x.state (sort_from n)) → Going s D a w' p
 went x h = record { state = _; held = h; low = let l = x.low in omega arith; moved = λ _. x.low; high = x.high; reads = x.reads }
 
 took-then : (n : ℕ) (r : List ℕ) (o : Option (Took TreeSort)) (K : TreeSort → List ℕ → Option (Took TreeSort)) → o ≡ took (sort_from n) r → and_then o K ≡ K (sort_from n) r
 unfolding and_then
 took-then n r o K e = rw e
 
-module _ {s w : List ℕ} {D : Declarations} {a p n e l : ℕ} (x : Asking s D a w p) (y : SortedBy s D p n e l) where
+module _ {s : List ℕ} {w : Coded} {D : Declarations} {a p n e l : ℕ} (x : Asking s D a w p) (y : SortedBy s D p n e l) where
   pub came : (e ≡ 0 → ⊥) → Came s D a w n e
   came k = record {
     state = x.state;
@@ -481,10 +502,10 @@ module _ {s w : List ℕ} {D : Declarations} {a p n e l : ℕ} (x : Asking s D a
         (g, omega arith, t ∙ took-then n (drop e s) (sorted g D (drop p s)) _ (y.is_sorted (not-zero e k) g m));
   }
 
-pub asking-of : (s : List ℕ) (D : Declarations) (a p : ℕ) (w : List ℕ) {r : Bool} → Turned s D a p w r → r ≡ true → Asking s D a w p
+pub asking-of : (s : List ℕ) (D : Declarations) (a p : ℕ) (w : Coded) {r : Bool} → Turned s D a p w r → r ≡ true → Asking s D a w p
 asking-of s D a p w x q = subst (Turned s D a p w) q x
 
-pub sorted_of : (s : List ℕ) (D : Declarations) (a p : ℕ) (w : List ℕ) {r : Bool} → Turned s D a p w r → r ≡ false → SortedTo s D a (get_or w 1 0) p
+pub sorted_of : (s : List ℕ) (D : Declarations) (a p : ℕ) (w : Coded) {r : Bool} → Turned s D a p w r → r ≡ false → SortedTo s D a w.x p
 sorted_of s D a p w x q = subst (Turned s D a p w) q x
 
 -- the loop ends: places go on while an operand follows

@@ -1,29 +1,30 @@
 -- What the functions that go from state to state say.
 use Rattle.std.specs.Prelude.{ℕ, suc, ◌+◌, ◌*◌, ◌≤◌, ◌<◌, ◌≡◌, List, [], ◌∷◌, Bool, true, false, ◌⊎◌, length, drop, get_or}
+use Rattle.std.specs.Prelude.{Option as Maybe, Some, None}
 use Rattle.std.proofs.Math.Option.{Option, none}
 use Rattle.reading.specs.Trees.{Declarations}
-use Rattle.echo_spec.specs.Shapes.{shape_of}
+use Rattle.echo_spec.specs.Shapes as shapes
+use Rattle.echo_spec.specs.Shapes.{Shape, shape_of}
 use Rattle.echo_spec.specs.TreeSorts.{TreeSort, bits, if_proper}
 use Rattle.readback.specs.Reader.{Took, took, and_then}
 use Rattle.sort_reader.specs.Waits.{first, ends_with}
 use Rattle.sort_reader.specs.Sorted.{sorted, operands}
 use Rattle.script_entries.specs.Entries.{ArgumentsAt}
 use Rattle.script_heads.specs.declared.Head.{Head}
-use Rattle.script_heads.specs.declared.Head.TheVariants.{No as NoHead, Constant, Variable, Nullary, Operator, Call, Select}
+use Rattle.script_heads.specs.declared.Head.TheVariants.{Constant, Variable, Nullary, Operator, Call, Select}
 use Rattle.script_heads.specs.Heads.{numerals_of}
 use Rattle.script_terms.specs.States.{sort_from, State, waits, rest, after, state_of, call_code, Held, enough, Going, Asking, SortedTo}
+use Rattle.script_terms.specs.declared.Code.{Code}
+use Rattle.script_terms.specs.declared.Code.TheVariants.{Failed, Done, Binary, Rotation, Extraction, Concat, Extension, Ite, Comparison, Negation, Connective, Unary, Stored, Fresh}
 use Rattle.script_terms.specs.declared.Coded.{Coded}
-use Rattle.script_terms.specs.declared.Closed.{Closed}
-use Rattle.script_terms.specs.declared.Closed.TheVariants.{No as NotClosed, Is as IsClosed}
 use Rattle.script_terms.specs.declared.Next.{Next}
-use Rattle.script_terms.specs.declared.Next.TheVariants.{No as NoNext, Done, Operand}
+use Rattle.script_terms.specs.declared.Next.TheVariants.{Done as Whole, Operand}
 use Rattle.script_terms.specs.declared.Opened.{Opened}
-use Rattle.script_terms.specs.declared.Opened.TheVariants.{No as NotOpened, At}
 
 -- ---------------------------------------------------------------- one operand more
 
 -- the code and the first number
-pub record Ends (r : Coded) (c n : ℕ) : Type 0 where
+pub record Ends (r : Coded) (c : Code) (n : ℕ) : Type 0 where
   pub code : r.code ≡ c
   pub number : r.x ≡ n
 
@@ -31,7 +32,7 @@ abbrev pub state_in : List ℕ → Coded → State
 state_in ws r = state_of ws r.code r.x r.y r.z
 
 -- the state after an operand of the sort τ; it is no call's
-pub record AfterIs (c x y z : ℕ) (τ : TreeSort) (r : Coded) : Type 0 where
+pub record AfterIs (c : Code) (x y z : ℕ) (τ : TreeSort) (r : Coded) : Type 0 where
   pub state : (ws : List ℕ) → state_in ws r ≡ after (state_of ws c x y z) τ
   pub plain : r.code ≡ call_code → ⊥
 
@@ -43,13 +44,13 @@ pub record JoinedIs (a b : ℕ) (r : Coded) : Type 0 where
 -- ---------------------------------------------------------------- what follows
 
 -- what a bracket makes of the term: nothing, or a sort
-abbrev pub closed_as : Closed → List ℕ → Option (Took TreeSort)
-closed_as NotClosed b = none
-closed_as (IsClosed n) b = took (sort_from n) b
+abbrev pub closed_as : Maybe ℕ → List ℕ → Option (Took TreeSort)
+closed_as None b = none
+closed_as (Some n) b = took (sort_from n) b
 
 -- the state is neither that of a whole term nor that of a store to close
-pub record ClosedIs (s : List ℕ) (c x y z : ℕ) (r : Closed) : Type 0 where
-  pub closes : (D : Declarations) (ws : List ℕ) → (c ≡ call_code → ArgumentsAt s x ws) → (c ≡ 1 → ⊥) → (c ≡ 20 → ⊥) → (g : ℕ) (b : List ℕ)
+pub record ClosedIs (s : List ℕ) (c : Code) (x y z : ℕ) (r : Maybe ℕ) : Type 0 where
+  pub closes : (D : Declarations) (ws : List ℕ) → (c ≡ call_code → ArgumentsAt s x ws) → (c ≡ Done → ⊥) → (c ≡ Stored → ⊥) → (g : ℕ) (b : List ℕ)
       → rest (suc g) D (state_of ws c x y z) (41 ∷ b) ≡ closed_as r b
 
 -- from place p on, in state q: nothing that has a sort
@@ -67,12 +68,12 @@ pub record OperandFrom (s : List ℕ) (D : Declarations) (p : ℕ) (q o : State)
   pub high : e ≤ length s
   pub reads : (g : ℕ) → 2 * length (drop p s) < g → (k : ℕ) × (enough s e ≤ k) × (rest g D q (drop p s) ≡ and_then (sorted k D (drop e s)) (λ σ r. rest k D (after o σ) r))
 
-abbrev pub NextSays : List ℕ → Declarations → ℕ → ℕ → ℕ → ℕ → ℕ → List ℕ → Next → Type 0
-NextSays s D p c x y z ws NoNext = NoneFrom s D p (state_of ws c x y z)
-NextSays s D p c x y z ws (Done n e) = (p ≤ e) × ((c ≡ 1 → ⊥) → p < e) × DoneFrom s D p (state_of ws c x y z) n e
-NextSays s D p c x y z ws (Operand d e) = (d ≤ 19) × (d ≡ call_code → c ≡ call_code) × OperandFrom s D p (state_of ws c x y z) (state_of ws d x y z) e
+abbrev pub NextSays : List ℕ → Declarations → ℕ → Code → ℕ → ℕ → ℕ → List ℕ → Maybe Next → Type 0
+NextSays s D p c x y z ws None = NoneFrom s D p (state_of ws c x y z)
+NextSays s D p c x y z ws (Some (Whole n e)) = (p ≤ e) × ((c ≡ Done → ⊥) → p < e) × DoneFrom s D p (state_of ws c x y z) n e
+NextSays s D p c x y z ws (Some (Operand d e)) = (d ≡ Fresh → ⊥) × (d ≡ call_code → c ≡ call_code) × OperandFrom s D p (state_of ws c x y z) (state_of ws d x y z) e
 
-abbrev pub NextIs : List ℕ → ℕ → ℕ → ℕ → ℕ → ℕ → Next → Type 0
+abbrev pub NextIs : List ℕ → ℕ → Code → ℕ → ℕ → ℕ → Maybe Next → Type 0
 NextIs s p c x y z r = (D : Declarations) (ws : List ℕ) → (c ≡ call_code → ArgumentsAt s x ws) → NextSays s D p c x y z ws r
 
 -- an operand that begins at place e: after a blank at place p; or after the bracket of a store there, and a blank
@@ -83,10 +84,10 @@ Begun s p e = ((get_or s p 0 ≡ 32) × (e ≡ p + 1)) ⊎ ((get_or s p 0 ≡ 41
 abbrev pub Ended : List ℕ → ℕ → ℕ → Type 0
 Ended s p e = (e ≡ p) ⊎ ((get_or s p 0 ≡ 41) × (e ≡ p + 1))
 
-abbrev pub StandsAt : List ℕ → ℕ → Next → Type 0
-StandsAt s p NoNext = Unit
-StandsAt s p (Done n e) = Ended s p e
-StandsAt s p (Operand d e) = Begun s p e
+abbrev pub StandsAt : List ℕ → ℕ → Maybe Next → Type 0
+StandsAt s p None = Unit
+StandsAt s p (Some (Whole n e)) = Ended s p e
+StandsAt s p (Some (Operand d e)) = Begun s p e
 
 -- the bytes from place p to place e
 abbrev pub MovedTo : List ℕ → ℕ → ℕ → Bool → Type 0
@@ -94,37 +95,68 @@ MovedTo s p e true = Begun s p e
 MovedTo s p e false = 0 < e → Ended s p e
 
 -- an operand of the term from place a on follows; or the term was read, or has no sort
-abbrev pub Turned : List ℕ → Declarations → ℕ → ℕ → List ℕ → Bool → Type 0
+abbrev pub Turned : List ℕ → Declarations → ℕ → ℕ → Coded → Bool → Type 0
 Turned s D a p w true = Asking s D a w p
-Turned s D a p w false = SortedTo s D a (get_or w 1 0) p
+Turned s D a p w false = SortedTo s D a w.x p
 
 -- one turn from place p to place p': an operand that follows is further on
-pub record Turn (s : List ℕ) (D : Declarations) (a p p' : ℕ) (w' : List ℕ) (r : Bool) : Type 0 where
+pub record Turn (s : List ℕ) (D : Declarations) (a p p' : ℕ) (w' : Coded) (r : Bool) : Type 0 where
   pub turned : Turned s D a p' w' r
   pub further : r ≡ true → p < p'
 
-abbrev pub NextTo : List ℕ → ℕ → List ℕ → ℕ → List ℕ → Bool → Type 0
+abbrev pub NextTo : List ℕ → ℕ → Coded → ℕ → Coded → Bool → Type 0
 NextTo s p w p' w' r = (D : Declarations) (a : ℕ) → Going s D a w p → Turn s D a p p' w' r
 
 -- ---------------------------------------------------------------- heads
 
--- how many numerals an operator has, by the code of its shape
-abbrev pub numeral_count : ℕ → ℕ
-numeral_count c = get_or (0 ∷ 0 ∷ 0 ∷ 1 ∷ 2 ∷ 0 ∷ 1 ∷ []) c 0
+-- how many numerals an operator of the shape has
+abbrev pub numeral_count : Shape → ℕ
+numeral_count shapes.var = 0
+numeral_count shapes.const = 0
+numeral_count shapes.binary = 0
+numeral_count shapes.rotation = 1
+numeral_count shapes.extraction = 2
+numeral_count shapes.concat = 0
+numeral_count shapes.extension = 1
+numeral_count shapes.ite = 0
+numeral_count shapes.comparison = 0
+numeral_count shapes.negation = 0
+numeral_count shapes.connective = 0
+numeral_count shapes.unary = 0
+numeral_count shapes.select = 0
+numeral_count shapes.call = 0
+numeral_count shapes.unknown = 0
+
+-- the code of an operator of the shape, or that of a term that has no sort
+abbrev pub code_from : Shape → Code
+code_from shapes.var = Failed
+code_from shapes.const = Failed
+code_from shapes.binary = Binary
+code_from shapes.rotation = Rotation
+code_from shapes.extraction = Extraction
+code_from shapes.concat = Concat
+code_from shapes.extension = Extension
+code_from shapes.ite = Ite
+code_from shapes.comparison = Comparison
+code_from shapes.negation = Negation
+code_from shapes.connective = Connective
+code_from shapes.unary = Unary
+code_from shapes.select = Failed
+code_from shapes.call = Failed
+code_from shapes.unknown = Failed
 
 -- the code c is that of an operator of kind k with m numerals, or such an operator has no sort
-pub record CodeIs (k m c : ℕ) : Type 0 where
+pub record CodeIs (k m : ℕ) (c : Code) : Type 0 where
   pub state : m ≤ 2 → (D : Declarations) (i j z : ℕ) (ws : List ℕ) (f : ℕ) (b : List ℕ) → operands f D (first (shape_of k) (numerals_of m i j)) b ≡ rest f D (state_of ws c i j z) b
-  pub small : c ≤ 11
-  pub other : c ≡ 1 → ⊥
+  pub plain : c ≡ call_code → ⊥
+  pub other : c ≡ Done → ⊥
 
-abbrev pub OpenedIs : List ℕ → Declarations → ℕ → Opened → Type 0
-OpenedIs s D a NotOpened = (f : ℕ) → enough s a ≤ f → sorted f D (drop a s) ≡ none
-OpenedIs s D a (At c x y z e) = Going s D a (c ∷ x ∷ y ∷ z ∷ []) e
+abbrev pub OpenedIs : List ℕ → Declarations → ℕ → Maybe Opened → Type 0
+OpenedIs s D a None = (f : ℕ) → enough s a ≤ f → sorted f D (drop a s) ≡ none
+OpenedIs s D a (Some o) = Going s D a o.state o.end
 
 -- the place after a head
 abbrev pub head_end : Head → ℕ
-head_end NoHead = 0
 head_end (Constant e) = e
 head_end (Variable k w e) = e
 head_end (Nullary g w e) = e
@@ -132,26 +164,22 @@ head_end (Operator k m i j e) = e
 head_end (Call g p w e) = e
 head_end (Select a i v n e) = e
 
-abbrev pub BeginsAt : Head → Opened → Type 0
-BeginsAt x NotOpened = Unit
-BeginsAt x (At c a b d e) = e ≡ head_end x
-
 -- ---------------------------------------------------------------- turns
 
 -- an operand of the sort n came, up to place p, for the state that the numbers w are
-pub record Came (s : List ℕ) (D : Declarations) (a : ℕ) (w : List ℕ) (n p : ℕ) : Type 0 where
+pub record Came (s : List ℕ) (D : Declarations) (a : ℕ) (w : Coded) (n p : ℕ) : Type 0 where
   pub state : State
   pub held : Held s w state
   pub low : a < p
   pub high : p ≤ length s
   pub reads : (f : ℕ) → enough s a ≤ f → (g : ℕ) × (2 * length (drop p s) < g) × (sorted f D (drop a s) ≡ rest g D (after state (sort_from n)) (drop p s))
 
--- where no term was begun the number 22 stands in place of a code
-pub record TurnTo (s : List ℕ) (D : Declarations) (p : ℕ) (w : List ℕ) (n p' : ℕ) (w' : List ℕ) (r : Bool) : Type 0 where
-  pub begun : get_or w 0 0 ≡ 22 → Turn s D p p p' w' r
-  pub gone_on : (get_or w 0 0 ≡ 22 → ⊥) → (a : ℕ) → Came s D a w n p → Turn s D a p p' w' r
+-- where no term was begun
+pub record TurnTo (s : List ℕ) (D : Declarations) (p : ℕ) (w : Coded) (n p' : ℕ) (w' : Coded) (r : Bool) : Type 0 where
+  pub begun : w.code ≡ Fresh → Turn s D p p p' w' r
+  pub gone_on : (w.code ≡ Fresh → ⊥) → (a : ℕ) → Came s D a w n p → Turn s D a p p' w' r
 
 -- an operand of a term in a state of code c, where the term must not end after place l, must not end after place r
-pub record BeforeIs (c l r : ℕ) : Type 0 where
+pub record BeforeIs (c : Code) (l r : ℕ) : Type 0 where
   pub takes : (D : Declarations) (ws : List ℕ) (x y u : ℕ) (σ : TreeSort) (g : ℕ) (b : List ℕ) (τ : TreeSort) (z : List ℕ)
       → rest g D (after (state_of ws c x y u) σ) b ≡ took τ z → l + length z ≤ r + length b

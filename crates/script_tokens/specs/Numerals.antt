@@ -12,6 +12,7 @@ use Rattle.theorems.specs.Texts.{decimal-numeral}
 use Rattle.readback.specs.Reader.{Took, took, and_then, up_to, numeral_is, numeral_from, read_numeral}
 use Rattle.reader_laws.specs.TermsStrict.{up-to-joins}
 use Rattle.script_tokens.specs.Reached.{between, Stretch, numeral64}
+use Rattle.script_tokens.specs.Bytes.{digit-bounds}
 use Rattle.script_tokens.specs.Stretches.{bytes-at, front-is, Runs, runs-start, runs_on, stretch-ends, stretch-whole}
 
 -- ---------------------------------------------------------------- decimals
@@ -204,6 +205,29 @@ digits-none s a h q = none-fits (drop a s) (λ k r e. absurd (by-inside (ltb a (
     by-inside false p k r e =
         let z : drop a s ≡ [] = drop_of_length-le s {i = a} (nltb→le a (length s) (rw p tt)) in
         empty (ap (λ (b : List ℕ). (up_to (λ c. not (digit c)) b).value) z) k r e
+
+-- one digit more, and too many
+pub digits_on : {s : List ℕ} {a e v d n : ℕ} → Digits s a e v → e < length s → digit (get_or s e 0) ≡ true → d ≡ get_or s e 0 - 48 → n ≡ v * 10 + d → Digits s a (e + 1) n
+digits_on {s} {a} {e} {v} {d} {n} g h q k z =
+    let b = digit-bounds (get_or s e 0) (true→T q) in
+    subst (Digits s a (e + 1)) (sym z) (digits_more g h (true→T q) (omega arith) (omega arith))
+
+pub digits-past : {s : List ℕ} {a e v d : ℕ} → Digits s a e v → e < length s → digit (get_or s e 0) ≡ true → d ≡ get_or s e 0 - 48 → largest < v * 10 + d → numeral64 (drop a s) ≡ none
+digits-past {s} {a} {e} {v} {d} g h q k l =
+    let b = digit-bounds (get_or s e 0) (true→T q) in
+    digits-over g h (true→T q) (omega arith) (omega arith) (no→false (fits64 (v * 10 + d)) (λ p. let m = leb→le (v * 10 + d) largest p in omega arith))
+
+-- the digits go on to the end
+pub digits-all : {s : List ℕ} {a e v : ℕ} → Digits s a e v → v ≤ largest → length s ≤ e → numeral64 (drop a s) ≡ took v (drop (length s) s)
+digits-all {s} {a} {e} {v} g m h =
+    let z : e ≡ length s = omega (arith, g.high) in
+    subst (λ (k : ℕ). numeral64 (drop a s) ≡ took v (drop k s)) z (digits-whole g m z)
+
+-- the first digit, no zero
+pub digits-begun : {s : List ℕ} {a v : ℕ} → digit (get_or s a 0) ≡ true → (get_or s a 0 ≡ 48 → ⊥) → v ≡ get_or s a 0 - 48 → Digits s a (a + 1) v
+digits-begun {s} {a} {v} q z k =
+    let b = digit-bounds (get_or s a 0) (true→T q) in
+    digits-first (digit-inside s a (true→T q)) (true→T q) (omega arith) (omega arith) z
 
 -- a zero that stands alone
 pub zero-alone : (s : List ℕ) (a : ℕ) → a < length s → get_or s a 0 ≡ 48 → digit (get_or s (a + 1) 0) ≡ false → numeral64 (drop a s) ≡ took 0 (drop (a + 1) s)

@@ -1,15 +1,14 @@
 -- Laws of stretches: bytes read one by one up to the first that ends them.
-use Rattle.std.specs.Prelude.{ℕ, zero, suc, ◌+◌, ◌-◌, ◌≤◌, ◌<◌, ◌≡◌, refl, List, [], ◌∷◌, ◌++◌, Bool, true, false, not, T, eqb, length, take, drop, get_or}
+use Rattle.std.specs.Prelude.{ℕ, suc, ◌+◌, ◌-◌, ◌≤◌, ◌<◌, ◌≡◌, refl, List, [], ◌∷◌, ◌++◌, Bool, true, false, ◌&&◌, T, eqb, length, take, drop, get_or, Some}
 use Rattle.std.proofs.Common.{ap, sym, ◌∙◌, subst, arith, eqb→eq, length-append, length-drop, drop_of_length-le, drop-cons}
-use Rattle.std.proofs.Math.Option.{Option, none, some}
-use Rattle.std.proofs.Math.Dec.{eqb_refl}
-use Rattle.std.proofs.Math.Seq.{drop-append_seam, take-append_seam}
-use Rattle.lists.specs.Tests.{T→true, true→T, no→false}
+use Rattle.std.proofs.Math.Option.{none}
+use Rattle.std.proofs.Math.Seq.{take-append_seam}
+use Rattle.std.specs.Cmp.Lexicographic.{pointwise}
+use Rattle.lists.specs.Tests.{true→T}
 use Rattle.readback.specs.Reader.{Took, took, and_then, expect, up_to, name_read}
 use Rattle.lists.specs.Bytes.{bytes}
 use Rattle.reader_laws.specs.TermsStrict.{up-to-joins}
-use Rattle.script_tokens.specs.declared.Step.TheVariants.{No, To}
-use Rattle.script_tokens.specs.Reached.{between, Reached, NameTo, Stretch, ends_name}
+use Rattle.script_tokens.specs.Reached.{between, NameTo, Stretch, ends_name}
 
 -- ---------------------------------------------------------------- bytes by their places
 
@@ -70,6 +69,21 @@ stretch-whole {ends} {s} {a} {e} r l h =
     let z : drop e s ≡ [] = drop_of_length-le s {i = e} (omega arith) in
     stretch ends s a e l (omega arith) r (ap (λ (b : List ℕ). (up_to ends b).rest) z ∙ sym z)
 
+pub within_start : {ends : ℕ → Bool} {s : List ℕ} {a : ℕ} → a ≤ length s → Within ends s a a
+within_start h = record { low = omega arith; high = h; runs = runs-start }
+
+-- one byte more
+pub within_on : {ends : ℕ → Bool} {s : List ℕ} {a e : ℕ} → Within ends s a e → e < length s → ends (get_or s e 0) ≡ false → Within ends s a (e + 1)
+within_on w h q = record { low = omega (arith, w.low); high = omega arith; runs = runs_on w.runs h q }
+
+pub within-ends : {ends : ℕ → Bool} {s : List ℕ} {a e : ℕ} → Within ends s a e → e < length s → ends (get_or s e 0) ≡ true → Stretch ends s a e
+within-ends w h q = stretch-ends w.runs w.low h q
+
+pub within-whole : {ends : ℕ → Bool} {s : List ℕ} {a e : ℕ} → Within ends s a e → length s ≤ e → Stretch ends s a (length s)
+within-whole {ends} {s} {a} {e} w h =
+    let z : e ≡ length s = omega (arith, w.high) in
+    subst (Stretch ends s a) z (stretch-whole w.runs w.low z)
+
 -- what follows a stretch begins with what ends it
 rest-ends : (ends : ℕ → Bool) (b : List ℕ) (c : ℕ) (r : List ℕ) → (up_to ends b).rest ≡ c ∷ r → ends c ≡ false → ⊥
 unfolding up_to
@@ -85,46 +99,25 @@ rest-ends ends (x ∷ b) c r e q = by_first (ends x) refl e (λ f. rest-ends end
 
 -- ---------------------------------------------------------------- words
 
-pub expect-short : (w b : List ℕ) → length b < length w → expect w b ≡ none
+pub expect-found : (w b : List ℕ) → pointwise eqb w (take (length w) b) ≡ true → expect w b ≡ took [] (drop (length w) b)
 unfolding expect
-expect-short [] b h = absurd (omega arith)
-expect-short (c ∷ w) [] h = refl
-expect-short (c ∷ w) (x ∷ b) h = by_first (eqb c x) refl (expect-short w b (omega arith))
+expect-found [] b h = refl
+expect-found (c ∷ w) [] h = cc
+expect-found (c ∷ w) (x ∷ b) h = by_first (eqb c x) refl h (expect-found w b)
   where
-    by_first : (t : Bool) → eqb c x ≡ t → expect w b ≡ none → expect (c ∷ w) (x ∷ b) ≡ none
-    by_first true q e = rw (q, expect) e
-    by_first false q e = rw (q, expect)
+    by_first : (t : Bool) → eqb c x ≡ t → (t && pointwise eqb w (take (length w) b)) ≡ true → (pointwise eqb w (take (length w) b) ≡ true → expect w b ≡ took [] (drop (length w) b)) → expect (c ∷ w) (x ∷ b) ≡ took [] (drop (length w) b)
+    by_first true q h e = rw (q, expect) (e h)
+    by_first false q h e = cc
 
--- the first i bytes of the word stand at the place
-pub record Begun (s w : List ℕ) (at i : ℕ) : Type 0 where
-  pub left : expect w (drop at s) ≡ expect (drop i w) (drop (at + i) s)
-
-pub begun-start : {s w : List ℕ} {at : ℕ} → Begun s w at 0
-begun-start {s} {w} {at} =
-    let z : at + 0 ≡ at = omega arith in
-    record { left = rw z }
-
-begun-step : (s w : List ℕ) (at i : ℕ) → i < length w → at + i < length s → (t : Bool) → eqb (get_or w i 0) (get_or s (at + i) 0) ≡ t
-    → expect (drop i w) (drop (at + i) s) ≡ elim t as (λ _. Option (Took (List ℕ))) [ true ↦ expect (drop (i + 1) w) (drop (at + i + 1) s) | false ↦ none ]
+pub expect-none : (w b : List ℕ) → pointwise eqb w (take (length w) b) ≡ false → expect w b ≡ none
 unfolding expect
-begun-step s w at i h k t q =
-    let p : expect (drop i w) (drop (at + i) s) ≡ expect (get_or w i 0 ∷ drop (i + 1) w) (get_or s (at + i) 0 ∷ drop (at + i + 1) s) = λ j. expect (bytes-at w i h j) (bytes-at s (at + i) k j) in
-    p ∙ rw (q, expect)
-
-pub begun_more : {s w : List ℕ} {at i : ℕ} → Begun s w at i → i < length w → at + i < length s → get_or s (at + i) 0 ≡ get_or w i 0 → Begun s w at (i + 1)
-begun_more {s} {w} {at} {i} b h k e =
-    let z : at + i + 1 ≡ at + (i + 1) = omega arith in
-    record { left = b.left ∙ begun-step s w at i h k true (rw e (T→true (eqb (get_or w i 0) (get_or w i 0)) (eqb_refl (get_or w i 0)))) ∙ ap (λ (k : ℕ). expect (drop (i + 1) w) (drop k s)) z }
-
-pub begun-apart : {s w : List ℕ} {at i : ℕ} → Begun s w at i → i < length w → at + i < length s → (get_or s (at + i) 0 ≡ get_or w i 0 → ⊥) → expect w (drop at s) ≡ none
-begun-apart {s} {w} {at} {i} b h k f =
-    b.left ∙ begun-step s w at i h k false (no→false (eqb (get_or w i 0) (get_or s (at + i) 0)) (λ q. f (sym (eqb→eq (get_or w i 0) (get_or s (at + i) 0) q))))
-
-pub begun-whole : {s w : List ℕ} {at i : ℕ} → Begun s w at i → i ≡ length w → expect w (drop at s) ≡ took [] (drop (at + length w) s)
-unfolding expect
-begun-whole {s} {w} {at} {i} b e =
-    let z : drop i w ≡ [] = drop_of_length-le w {i = i} (omega arith) in
-    b.left ∙ rw (z, expect, e)
+expect-none [] b h = cc
+expect-none (c ∷ w) [] h = refl
+expect-none (c ∷ w) (x ∷ b) h = by_first (eqb c x) refl h (expect-none w b)
+  where
+    by_first : (t : Bool) → eqb c x ≡ t → (t && pointwise eqb w (take (length w) b)) ≡ false → (pointwise eqb w (take (length w) b) ≡ false → expect w b ≡ none) → expect (c ∷ w) (x ∷ b) ≡ none
+    by_first true q h e = rw (q, expect) (e h)
+    by_first false q h e = rw (q, expect)
 
 -- ---------------------------------------------------------------- names
 
@@ -140,7 +133,7 @@ bar-there s a e st h = by_byte (eqb (get_or s e 0) 124) refl
     by_byte true q = eqb→eq (get_or s e 0) 124 (true→T q)
     by_byte false q = absurd (rest-ends ends_name (drop a s) (get_or s e 0) (drop (e + 1) s) (ended ∙ bytes-at s e h) q)
 
-pub name-found : (s : List ℕ) (a e : ℕ) → Stretch ends_name s a e → e < length s → NameTo s a (name_read (drop a s)) (To (e + 1))
+pub name-found : (s : List ℕ) (a e : ℕ) → Stretch ends_name s a e → e < length s → NameTo s a (name_read (drop a s)) (Some (e + 1))
 unfolding name_read and_then expect bytes
 name-found s a e st h =
     let q = bar-there s a e st h in

@@ -10,26 +10,24 @@ use Rattle.echo_spec.specs.Answers.{at_front, zeroed, text_refusal, echo_answer,
 use Rattle.refusals.specs.declared.EchoError.{EchoError}
 use Rattle.refusals.specs.declared.EchoError.TheVariants.{Room}
 use Rattle.refusals.specs.Numbers.{error_number, error-number}
-use Rattle.short_records.specs.declared.Converted.TheVariants.{Done, Refused}
-use Rattle.short_records.specs.declared.Counted.{Counted}
-use Rattle.short_records.specs.declared.Counted.TheVariants as counted
+use Rattle.std.specs.Prelude.{Result, Ok, Err}
 use Rattle.short_records.specs.Short.{old_refusal, new_refusal}
 use Rattle.short_records.specs.Outcomes.{answered, Tells, Told}
 
 -- of any result, with its number with endless room
 module _ (number : ℕ) (text lent : List ℕ) {out : List ℕ} where
-  pub refused : (e : EchoError) → number ≡ error_number e → out ≡ zeroed lent → answered (Refused e) out ≡ text_answer number text lent
+  pub refused : (e : EchoError) → number ≡ error_number e → out ≡ zeroed lent → answered (Err e) out ≡ text_answer number text lent
   unfolding text_answer text_refusal echo_answer
   refused e n z =
       let s : error_number e ≡ suc (error_number e - 1) = error-number e in
       rw (z, n, s) refl
 
   module _ (n : number ≡ 0) where
-    pub no_room : length lent < length text → out ≡ zeroed lent → answered (Refused Room) out ≡ text_answer number text lent
+    pub no_room : length lent < length text → out ≡ zeroed lent → answered (Err Room) out ≡ text_answer number text lent
     unfolding text_answer text_refusal echo_answer
     no_room l z = rw (z, n, lt-leb (length text) (length lent) l) refl
 
-    pub done : {k : ℕ} → k ≡ length text → k ≤ length lent → out ≡ at_front text lent → answered (Done k) out ≡ text_answer number text lent
+    pub done : {k : ℕ} → k ≡ length text → k ≤ length lent → out ≡ at_front text lent → answered (Ok k) out ≡ text_answer number text lent
     unfolding text_answer text_refusal echo_answer
     done {k} e l z =
         let m : length text ≤ length lent = rw e at l in
@@ -52,9 +50,9 @@ module _ (old : List ℕ) where
 
 -- ---------------------------------------------------------------- the arms over what was counted
 
-module _ {new : List ℕ} {r : Counted} (h : Told new r) where
-  pub told-whole : {n : ℕ} → r ≡ counted.Whole n → Tells new (counted.Whole n)
-  told-whole {n} e = subst (λ (x : Counted). Tells new x) e h.told
+module _ {new : List ℕ} {r : Result ℕ EchoError} (h : Told new r) where
+  pub told-whole : {n : ℕ} → r ≡ Ok n → Tells new (Ok n)
+  told-whole {n} e = subst (λ (x : Result ℕ EchoError). Tells new x) e h.told
 
-  pub told-refused : {e : EchoError} → r ≡ counted.Refused e → new_refusal new ≡ error_number e
-  told-refused {e} f = subst (λ (x : Counted). Tells new x) f h.told
+  pub told-refused : {e : EchoError} → r ≡ Err e → new_refusal new ≡ error_number e
+  told-refused {e} f = subst (λ (x : Result ℕ EchoError). Tells new x) f h.told

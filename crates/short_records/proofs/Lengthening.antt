@@ -2,18 +2,19 @@
 use Prim.Native.Nat.{ℕ, zero, suc, ◌+◌, ◌*◌, ◌-◌, ◌≤◌, ◌<◌}
 use mathlib.Core.Path.{◌≡◌, refl, ap, sym, ◌∙◌}
 use mathlib.Core.List.{List, [], ◌∷◌, ◌++◌, append_assoc, append-nil}
-use mathlib.Core.Bool.{Bool, true, false, ◌&&◌, and-false}
+use mathlib.Core.Bool.{Bool, true, false, and-false}
 use native.Mathlib.Omega.{arith}
-use native.Mathlib.Numerals.{add-one}
 use borrow.Author.Tests.{lt-ltb, le-ltb, le-leb, lt-leb}
-use lib.Dec.{T, leb, ltb, leb→le}
+use lib.Dec.{ltb, leb→le}
 use lib.ListN.{length, take, drop, get_or, replicate, length-append, length-drop, length-replicate, drop_of_length-le}
 use lib.Seq.{paste, length-paste, length-take-le, drop-drop, drop-cons}
+use borrow.Rule.Slice.PartMut.{put_mid}
+use Rattle.std.proofs.lemmas.Slice.{put_mid-paste}
 use Rattle.lists.specs.Tests.{and-1, true→T}
 use Rattle.echo_spec.specs.Answers.{at_front}
 use Rattle.short_records.specs.Short.{operand_bytes, short_size, whole, short_refusal, filled, long_form}
 use Rattle.short_records.specs.RecordLaws.{operand-bytes}
-use Rattle.short_records.proofs.Shortening.{written_next, rest-is}
+use Rattle.short_records.proofs.Shortening.{written_next, part-copied}
 
 -- n records are taken, up to the byte `from`, and at most `more` may follow; `done` is their old form
 pub record Taken (s : List ℕ) (limit n from : ℕ) : Type 0 where
@@ -188,6 +189,15 @@ take-zeros zero m h = refl
 take-zeros (suc n) zero h = absurd (omega arith)
 take-zeros (suc n) (suc m) h = ap (λ (l : List ℕ). 0 ∷ l) (take-zeros n m (omega arith))
 
+-- a part of the buffer behind z bytes of a record is filled with zeros
+zeros-filled : (mid ys : List ℕ) (at z : ℕ) → z ≤ 17 → at + 17 ≤ length mid
+    → ys ≡ replicate (length (take (at + 17 - (at + z)) (drop (at + z) mid))) 0
+    → put_mid (at + z) (at + 17 - (at + z)) mid ys ≡ paste mid (at + z) (replicate (17 - z) 0) (17 - z)
+zeros-filled mid ys at z s h e =
+    let f : at + 17 - (at + z) ≡ 17 - z = omega arith in
+    let l : length (take (17 - z) (drop (at + z) mid)) ≡ 17 - z = length-take-le (17 - z) (drop (at + z) mid) (omega (arith, length-drop (at + z) mid)) in
+    put_mid-paste (at + z) (at + 17 - (at + z)) mid ys (replicate (17 - z) 0) (17 - z) (rw (f, l) at e) (sym f) (sym (length-replicate (17 - z) 0))
+
 -- the old form of n records is written, and they are those up to the byte `from`
 pub record Filling (s lent out : List ℕ) (limit from at : ℕ) : Type 0 where
   pub n : ℕ
@@ -220,25 +230,34 @@ module _ {s lent out : List ℕ} {limit from at : ℕ} (h : Filling s lent out l
     fits = omega (arith, form-within h.taken l few z e good, h.place, h.long)
 
     -- what the copy of the record asks
-    pub record-fits : (z ≤ length (take (length s - from) (drop from s))) × (z ≤ length out - at)
-    record-fits = (omega (arith, inside, ap length (rest-is from s), length-drop from s), omega (arith, fits, small))
+    pub record-fits : at + z ≤ length out
+    record-fits = omega (arith, fits, small)
 
-    module _ {mid : List ℕ} (p : mid ≡ paste out at (take (length s - from) (drop from s)) z) where
+    module _ {xs : List ℕ} (p : xs ≡ take (from + z - from) (drop from s)) where
+      abbrev mid : List ℕ
+      mid = put_mid at (at + z - at) out xs
+
       copied : mid ≡ paste out at (drop from s) z
-      copied = p ∙ ap (λ (w : List ℕ). paste out at w z) (rest-is from s)
+      copied = part-copied s out xs at from z inside p
 
       mid-long : length mid ≡ length out
-      mid-long = ap length copied ∙ length-paste out at (drop from s) z (omega (arith, fits, small)) (omega (arith, inside, length-drop from s))
+      mid-long = ap length copied ∙ length-paste out at (drop from s) z record-fits (omega (arith, inside, length-drop from s))
 
       -- and that of the zeros
-      pub zeros-fit : (17 - z ≤ 17) × (17 - z ≤ length mid - (at + z))
-      zeros-fit = (omega arith, omega (arith, fits, small, mid-long))
+      pub zeros-fit : at + 17 ≤ length mid
+      zeros-fit = omega (arith, fits, mid-long)
 
-      module _ {end : List ℕ} (q : end ≡ paste mid (at + z) (replicate 17 0) (17 - z)) where
+      module _ {ys : List ℕ} (q : ys ≡ replicate (length (take (at + 17 - (at + z)) (drop (at + z) mid))) 0) where
+        abbrev end : List ℕ
+        end = put_mid (at + z) (at + 17 - (at + z)) mid ys
+
+        end-zeros : end ≡ paste mid (at + z) (replicate (17 - z) 0) (17 - z)
+        end-zeros = zeros-filled mid ys at z small zeros-fit q
+
         end-long : length end ≡ length lent
         end-long =
-            ap length q
-            ∙ length-paste mid (at + z) (replicate 17 0) (17 - z) (omega (arith, fits, small, mid-long)) (omega (arith, length-replicate {A = ℕ} 17 0))
+            ap length end-zeros
+            ∙ length-paste mid (at + z) (replicate (17 - z) 0) (17 - z) (omega (arith, fits, small, mid-long)) (omega (arith, length-replicate {A = ℕ} (17 - z) 0))
             ∙ mid-long ∙ h.long
 
         end_is : end ≡ (h.taken.done ++ (take z (drop from s) ++ replicate (17 - z) 0)) ++ drop (at + 17) lent
@@ -249,8 +268,8 @@ module _ {s lent out : List ℕ} {limit from at : ℕ} (h : Filling s lent out l
             let c : length x ≡ z = length-take-le z (drop from s) (omega (arith, inside, length-drop from s)) in
             let d : length (h.taken.done ++ x) ≡ at + z = omega (arith, length-append h.taken.done x, a) in
             let f : at + z + (17 - z) ≡ at + 17 = omega (arith, small) in
-            q ∙ written_next (h.taken.done ++ x) lent mid (at + z) (17 - z) (replicate 17 0) d b
-            ∙ (λ i. (append_assoc h.taken.done x (take-zeros (17 - z) 17 (omega arith) i) i) ++ drop (f i) lent)
+            end-zeros ∙ written_next (h.taken.done ++ x) lent mid (at + z) (17 - z) (replicate (17 - z) 0) d b
+            ∙ (λ i. (append_assoc h.taken.done x (take-zeros (17 - z) (17 - z) (omega arith) i) i) ++ drop (f i) lent)
 
         pub filling-more : Filling s lent end limit (from + z) (at + 17)
         unfolding taken_more

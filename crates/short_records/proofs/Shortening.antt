@@ -1,12 +1,14 @@
 -- The loops over the records of an old form, one record a turn. Assumes nothing.
-use Prim.Native.Nat.{ℕ, zero, suc, ◌+◌, ◌*◌, ◌-◌, ◌≤◌, ◌<◌}
+use Prim.Native.Nat.{ℕ, suc, ◌+◌, ◌*◌, ◌-◌, ◌≤◌, ◌<◌}
 use mathlib.Core.Path.{◌≡◌, refl, ap, sym, ◌∙◌}
 use mathlib.Core.List.{List, [], ◌++◌, append_assoc, append-nil}
 use native.Mathlib.Omega.{arith}
 use lib.ListN.{length, take, drop, get_or, length-append, length-drop}
-use lib.Seq.{paste, length-paste, take_all, length-take-le, drop-drop, get_or-drop, take_at, drop_at, drop-append-add}
+use lib.Seq.{paste, length-paste, length-take-le, drop-drop, get_or-drop, take_at, drop-append-add}
+use borrow.Rule.Slice.PartMut.{put_mid}
 use Rattle.echo_spec.specs.Answers.{at_front}
-use Rattle.short_records.specs.Short.{short_size, short_record, short_form}
+use Rattle.echo_bytes.proofs.Copying.{over-part}
+use Rattle.short_records.specs.Short.{short_size, short_form}
 use Rattle.short_records.specs.RecordLaws.{operand-bytes}
 
 -- what is to come after i of n records
@@ -89,28 +91,26 @@ pub writing-none : (s lent : List ℕ) (n : ℕ) → Writing s lent lent n 0 0
 unfolding begun-none
 writing-none s lent n = record { begun = begun-none s n; long = refl; now = refl }
 
--- the bytes from a place on, as a slice has them
-pub rest-is : (m : ℕ) (s : List ℕ) → take (length s - m) (drop m s) ≡ drop m s
-rest-is m s = take_all (length s - m) (drop m s) (omega (arith, length-drop m s))
+-- bytes of s from `from` on are copied to a part of the buffer, as slices have the two
+pub part-copied : (s out ys : List ℕ) (at from z : ℕ) → z ≤ length s - from → ys ≡ take (from + z - from) (drop from s)
+    → put_mid at (at + z - at) out ys ≡ paste out at (drop from s) z
+part-copied s out ys at from z h e =
+    let f : from + z - from ≡ z = omega arith in
+    over-part out (drop from s) ys at (at + z) z refl (omega (arith, length-drop from s)) (rw f at e)
 
 module _ {s lent out : List ℕ} {n i at : ℕ} (h : Writing s lent out n i at) where
   module _ (l : i < n) (m : 17 * n ≤ length s) (room : length (short_form n s) ≤ length lent) (z : ℕ) (e : z ≡ short_size (get_or s (17 * i) 0)) where
-    -- what the copy of a record asks
-    pub copy-fits : (z ≤ length (take (length s - 17 * i) (drop (17 * i) s))) × (z ≤ length out - at)
-    copy-fits = (
-      omega (arith, within-bytes h.begun l m z e, ap length (rest-is (17 * i) s), length-drop (17 * i) s),
-      omega (arith, within-form h.begun l m z e, h.long),
-    )
+    pub copy-fits : at + z ≤ length out
+    copy-fits = omega (arith, within-form h.begun l m z e, h.long)
 
-    pub writing_more : {end : List ℕ} → end ≡ paste out at (take (length s - 17 * i) (drop (17 * i) s)) z → Writing s lent end n (i + 1) (at + z)
+    pub writing_more : {ys : List ℕ} → ys ≡ take (17 * i + z - 17 * i) (drop (17 * i) s) → Writing s lent (put_mid at (at + z - at) out ys) n (i + 1) (at + z)
     unfolding begun_more
-    writing_more {end} p =
-        let q : end ≡ paste out at (drop (17 * i) s) z = p ∙ ap (λ (w : List ℕ). paste out at w z) (rest-is (17 * i) s) in
-        let a : at + z ≤ length out = omega (arith, within-form h.begun l m z e, h.long) in
+    writing_more {ys} p =
+        let q : put_mid at (at + z - at) out ys ≡ paste out at (drop (17 * i) s) z = part-copied s out ys at (17 * i) z (within-bytes h.begun l m z e) p in
         let b : z ≤ length (drop (17 * i) s) = omega (arith, within-bytes h.begun l m z e, length-drop (17 * i) s) in
         record {
           begun = begun_more h.begun l m z e;
-          long = ap length q ∙ length-paste out at (drop (17 * i) s) z a b ∙ h.long;
+          long = ap length q ∙ length-paste out at (drop (17 * i) s) z copy-fits b ∙ h.long;
           now = q ∙ written_next h.begun.done lent out at z (drop (17 * i) s) h.begun.size h.now;
         }
 

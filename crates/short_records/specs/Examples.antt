@@ -1,5 +1,5 @@
 -- Computed examples of both conversions: each clause of the definitions has one that fails without it.
-use Rattle.std.specs.Prelude.{ℕ, zero, suc, ◌+◌, ◌*◌, ◌-◌, ◌≡◌, refl, List, [], ◌∷◌, ◌++◌, map, Bool, true, leb, length, drop, replicate}
+use Rattle.std.specs.Prelude.{ℕ, zero, suc, ◌-◌, ◌≡◌, refl, List, [], ◌∷◌, ◌++◌, map, true, leb, length, replicate}
 use Prim.Native.String.{String}
 use Rattle.std.proofs.Common.{ap, arith, le-leb}
 use Rattle.std.proofs.lemmas.List.{length-replicate}

@@ -1,18 +1,18 @@
 -- Laws of one record: its size in the new form, the words of its operands, and what of it is 0. Assumes nothing.
-use Prim.Native.Nat.{ℕ, zero, suc, ◌+◌, ◌*◌, ◌-◌, ◌≤◌, ◌<◌}
-use Rattle.std.specs.Prelude.{◌≡◌, refl, Bool, true, ◌&&◌, ltb, eqb, length, take, get_or}
-use Rattle.std.proofs.Common.{ap, sym, ◌∙◌, eqb→eq, length-append, length-take, length-drop, length-take-le, drop-drop, get_or-drop, take-add, take_at, drop_at}
+use Prim.Native.Nat.{ℕ, zero, suc, ◌+◌, ◌*◌, ◌-◌, ◌≤◌}
+use Rattle.std.specs.Prelude.{◌≡◌, refl, Bool, ltb, eqb, length, take, get_or}
+use Rattle.std.proofs.Common.{ap, sym, ◌∙◌, eqb→eq, length-drop, length-take-le, drop-drop, get_or-drop, take-add, drop_at}
 use mathlib.Core.List.{List, [], ◌∷◌, ◌++◌, append_assoc}
 use native.Mathlib.Omega.{arith}
 use Rattle.std.proofs.Math.Dec.{T}
 use Rattle.std.proofs.Math.ListN.{drop, replicate}
-use Rattle.std.proofs.lemmas.List.{length-replicate, replicate-append-replicate}
+use Rattle.std.proofs.lemmas.List.{replicate-append-replicate}
 use Rattle.lists.specs.Tests.{every, and_0, and-1, and_T}
 use Rattle.lists.specs.Build.{tabulate}
 use Rattle.echo_spec.specs.Shapes.{shape_of, operand_count}
-use Rattle.echo_spec.specs.Input.{Node, word32, node_at, node_encoded}
+use Rattle.echo_spec.specs.Input.{word32, node_at, node_encoded}
 use Rattle.blast_kernel.specs.Codes.{at-most-four}
-use Rattle.short_records.specs.Short.{operand_bytes, short_size, filled}
+use Rattle.short_records.specs.Short.{operand_bytes, filled}
 
 pub operand-bytes : (k : ℕ) → operand_bytes k ≤ 16
 operand-bytes k = omega (arith, at-most-four (shape_of k))

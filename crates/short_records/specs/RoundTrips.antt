@@ -1,7 +1,7 @@
 -- Either way round gives back what was begun with, and how long a new form is. Assumes nothing.
-use Rattle.std.specs.Prelude.{ℕ, zero, suc, ◌+◌, ◌*◌, ◌-◌, ◌/◌, ◌%◌, ◌≤◌, ◌<◌, ◌≡◌, List, [], ◌∷◌, ◌++◌, Bool, true, false, ◌&&◌, T, leb, ltb, eqb, length, take, drop, get_or, replicate}
+use Rattle.std.specs.Prelude.{ℕ, zero, suc, ◌+◌, ◌*◌, ◌-◌, ◌/◌, ◌%◌, ◌≤◌, ◌≡◌, List, [], ◌∷◌, ◌++◌, Bool, true, false, T, leb, ltb, eqb, length, take, drop, get_or, replicate}
 use Rattle.std.proofs.Math.Path.{refl}
-use Rattle.std.proofs.Common.{ap, sym, ◌∙◌, append_assoc, arith, eqb→eq, le→leb, leb→le, length-append, length-take, length-drop, take-append-drop, length-take-le, take_at, leb-true, eqb-true, le-leb, eq-eqb}
+use Rattle.std.proofs.Common.{ap, ◌∙◌, append_assoc, arith, eqb→eq, le→leb, leb→le, length-append, length-take, length-drop, take-append-drop, length-take-le, take_at, leb-true, le-leb, eq-eqb}
 use Rattle.std.proofs.lemmas.List.{length-replicate}
 use Rattle.std.proofs.Math.Seq.{drop_at}
 use Rattle.lists.specs.Tests.{among, every, and_0, and-1, and_T, T→true, true→T}
@@ -9,20 +9,7 @@ use Rattle.lists.specs.Build.{tabulate, length-tabulate}
 use Rattle.echo_spec.specs.Refusals.{unless, ◌or_else◌}
 use Rattle.echo_spec.specs.Shapes.{shape_of, operand_count}
 use Rattle.echo_spec.specs.Input.{Node, shape, node_at, nodes_of, node_encoded, encoded}
-use Rattle.short_records.specs.Short.{
-  operand_bytes,
-  short_size,
-  short_record,
-  short_form,
-  shortened,
-  old_refusal,
-  whole,
-  short_refusal,
-  filled,
-  long_form,
-  lengthened,
-  new_refusal,
-}
+use Rattle.short_records.specs.Short.{operand_bytes, short_size, short_form, shortened, old_refusal, whole, short_refusal, filled, long_form, lengthened, new_refusal}
 use Rattle.short_records.specs.RecordLaws.{operand-bytes, nodes-drop, known, cut-filled, filled-encoded}
 
 -- ---------------------------------------------------------------- from the old form and back

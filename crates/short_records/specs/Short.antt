@@ -2,7 +2,7 @@
 --
 -- A record of the new form is the kind byte and the operands that its kind has, 32 bits each, least significant byte first. In a record of
 -- 17 bytes the operands that a kind has come first and each stands in that same way, so that the new record is the front of the old one.
-use Rattle.std.specs.Prelude.{ℕ, zero, suc, ◌+◌, ◌*◌, ◌-◌, ◌/◌, List, [], ◌∷◌, ◌++◌, Bool, true, false, ◌&&◌, leb, ltb, length, take, drop, get_or, replicate}
+use Rattle.std.specs.Prelude.{ℕ, zero, suc, ◌*◌, ◌-◌, ◌/◌, List, [], ◌∷◌, ◌++◌, Bool, true, false, ◌&&◌, leb, ltb, length, take, drop, get_or, replicate}
 use Rattle.echo_spec.specs.Refusals.{unless, ◌or_else◌}
 use Rattle.echo_spec.specs.Shapes.{shape_of, operand_count}
 use Rattle.echo_spec.specs.Input.{record_bytes, node_limit, node_bytes_limit, encoded}

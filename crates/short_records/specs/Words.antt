@@ -1,6 +1,6 @@
 -- The new form in terms of nodes: the kind byte of each, and then the operands that its kind has, 32 bits each, the least significant byte
 -- first. For bytes it is the form of `Short`, which is in terms of records and asks nothing of the numbers in them. Assumes nothing.
-use Rattle.std.specs.Prelude.{ℕ, zero, suc, ◌+◌, ◌*◌, ◌/◌, ◌%◌, ◌≤◌, ◌<◌, ◌≡◌, refl, List, [], ◌∷◌, ◌++◌, Bool, T, ltb, length, take, drop}
+use Rattle.std.specs.Prelude.{ℕ, zero, suc, ◌+◌, ◌*◌, ◌/◌, ◌%◌, ◌≤◌, ◌<◌, ◌≡◌, refl, List, [], ◌∷◌, ◌++◌, ltb, length, take, drop}
 use Rattle.std.proofs.Common.{ap, sym, ◌∙◌, arith, ltb→lt, length-drop, take-add}
 use Rattle.lists.specs.Tests.{All}
 use Rattle.lists.specs.Build.{tabulate}

@@ -2,7 +2,7 @@
 ghost use Rattle.std.specs.Prelude.{◌≡◌};
 ghost use Rattle.short_records.specs.Outcomes as outcomes;
 
-use crate::Converted;
+use refusals::EchoError;
 
 // Number 0: the result is written, and length is its length. Any other number: a refusal, and length is 0.
 #[repr(C)]
@@ -13,17 +13,19 @@ pub struct RecordAnswer {
 }
 
 // Ruled out: a length beside a refusal; the length left out.
-pub fn record_answer(r: Converted) -> RecordAnswer
-    ensures { (result.number ≡ outcomes.number r) × (result.length ≡ outcomes.count r) }
-{
-    match r {
-        Converted::Done(size) => RecordAnswer {
-            number: 0,
-            length: size as u64,
-        },
-        Converted::Refused(e) => RecordAnswer {
-            number: refusals::number_of(e),
-            length: 0,
-        },
+impl From<Result<usize, EchoError>> for RecordAnswer {
+    ghost from_gives = { λ r a. (a.number ≡ outcomes.number r) × (a.length ≡ outcomes.count r) };
+
+    fn from(r: Result<usize, EchoError>) -> RecordAnswer {
+        match r {
+            Ok(size) => RecordAnswer {
+                number: 0,
+                length: size as u64,
+            },
+            Err(e) => RecordAnswer {
+                number: u64::from(e),
+                length: 0,
+            },
+        }
     }
 }

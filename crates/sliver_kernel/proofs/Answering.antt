@@ -12,8 +12,9 @@ use Rattle.echo_spec.specs.Input.{ArrayWidths, nodes_of, nodes_within, pass_with
 use Rattle.echo_spec.specs.Widths.{array_widths_ok}
 use Rattle.echo_spec.specs.Tables.{one_length}
 use Rattle.echo_spec.specs.Answers.{at_front, zeroed, width_refusal, refused_node, width_answer, ext_wf_answer}
-use Rattle.sliver_kernel.specs.declared.Outcome.TheVariants.{Accepted, Refused, Encoding, Limit, Room, ArrayWidth}
-use Rattle.sliver_kernel.specs.Outcomes.{answered}
+use Rattle.std.specs.Prelude.{Result, Ok, Err}
+use Rattle.sliver_kernel.specs.declared.WidthError.TheVariants.{Malformed, Encoding, Limit, Room, ArrayWidth}
+use Rattle.sliver_kernel.specs.Outcomes.{answered, Ready, AllFormed}
 use Rattle.sliver_kernel.specs.Pass.{Passed, ext-wf-short}
 
 -- two columns are of one length
@@ -40,65 +41,69 @@ pub nodes-passed : (nodes bits side : List ℕ) (arrays : ArrayWidths) → pass_
 unfolding pass_within
 nodes-passed nodes bits side arrays e = T→true (nodes_within nodes bits side) (and_0 (nodes_within nodes bits side) _ (true→T e))
 
--- the tests before the pass are passed
-pub record Ready (nodes bits side : List ℕ) (arrays : ArrayWidths) : Type 0 where
-  pub within : pass_within nodes bits side arrays ≡ true
-  pub well : encoded nodes bits ≡ true
-  pub even : one_length (arrays.index ∷ arrays.value ∷ []) ≡ true
-  pub allowed : array_widths_ok arrays ≡ true
-
-module _ (nodes bits side : List ℕ) (arrays : ArrayWidths) (lent : List ℕ) {out : List ℕ} (z : out ≡ zeroed lent) where
-  pub over-limit : pass_within nodes bits side arrays ≡ false → answered Limit out ≡ ext_wf_answer nodes bits side arrays lent
+module _ (nodes bits side : List ℕ) (arrays : ArrayWidths) (lent : List ℕ) where
+  pub over-limit : pass_within nodes bits side arrays ≡ false → answered (Err Limit) (zeroed lent) ≡ ext_wf_answer nodes bits side arrays lent
   unfolding ext_wf_answer width_refusal width_answer
-  over-limit e = rw (e, z) refl
+  over-limit e = rw e refl
 
   module _ (e : pass_within nodes bits side arrays ≡ true) where
-    pub ill-encoded : encoded nodes bits ≡ false → answered Encoding out ≡ ext_wf_answer nodes bits side arrays lent
+    pub ill-encoded : encoded nodes bits ≡ false → answered (Err Encoding) (zeroed lent) ≡ ext_wf_answer nodes bits side arrays lent
     unfolding ext_wf_answer width_refusal width_answer
-    ill-encoded f = rw (e, f, z) refl
+    ill-encoded f = rw (e, f) refl
 
     module _ (f : encoded nodes bits ≡ true) where
       pub uneven : {n : ℕ} → n ≡ length (nodes_of nodes) → one_length (arrays.index ∷ arrays.value ∷ []) ≡ false
-          → answered (Refused n) out ≡ ext_wf_answer nodes bits side arrays lent
+          → answered (Err (Malformed n)) (zeroed lent) ≡ ext_wf_answer nodes bits side arrays lent
       unfolding ext_wf_answer width_refusal refused_node width_answer
-      uneven c g = rw (e, f, g, z, c) refl
+      uneven c g = rw (e, f, g, c) refl
 
       pub not-allowed : one_length (arrays.index ∷ arrays.value ∷ []) ≡ true → array_widths_ok arrays ≡ false
-          → answered ArrayWidth out ≡ ext_wf_answer nodes bits side arrays lent
+          → answered (Err ArrayWidth) (zeroed lent) ≡ ext_wf_answer nodes bits side arrays lent
       unfolding ext_wf_answer width_refusal width_answer
-      not-allowed g h = rw (e, f, g, h, z) refl
+      not-allowed g h = rw (e, f, g, h) refl
 
-module _ {nodes bits side : List ℕ} {arrays : ArrayWidths} (h : Ready nodes bits side arrays) (lent : List ℕ)
+module _ {nodes bits side : List ℕ} {arrays : ArrayWidths} (h : Ready nodes bits side arrays)
     {n : ℕ} {ws : List ℕ} (p : Passed (length bits) arrays side (nodes_of nodes) n ws) where
-  pub node-refused : {out : List ℕ} → n < length (nodes_of nodes) → out ≡ zeroed lent
-      → answered (Refused n) out ≡ ext_wf_answer nodes bits side arrays lent
+  pub node-refused : (lent : List ℕ) → n < length (nodes_of nodes)
+      → answered (Err (Malformed n)) (zeroed lent) ≡ ext_wf_answer nodes bits side arrays lent
   unfolding ext_wf_answer width_refusal refused_node width_answer
-  node-refused l z =
-      rw (h.within, h.well, h.even, h.allowed, ← p.count, ne_eqb n (length (nodes_of nodes)) (λ q. omega arith), z) refl
+  node-refused lent l =
+      rw (h.within, h.well, h.even, h.allowed, ← p.count, ne_eqb n (length (nodes_of nodes)) (λ q. omega arith)) refl
 
-  module _ (l : length (nodes_of nodes) ≤ n) where
-    all-formed : n ≡ length (nodes_of nodes)
-    all-formed = omega (arith, p.count, ext-wf-short (length bits) arrays side (nodes_of nodes))
+  pub all-formed : length (nodes_of nodes) ≤ n → AllFormed nodes bits side arrays n ws
+  all-formed l =
+      record { ready = h; passed = p; all = omega (arith, p.count, ext-wf-short (length bits) arrays side (nodes_of nodes)) }
 
-    pub no_room : {out : List ℕ} → length lent < n → out ≡ zeroed lent → answered Room out ≡ ext_wf_answer nodes bits side arrays lent
-    unfolding ext_wf_answer width_refusal width_answer
-    no_room m z =
-        rw (h.within, h.well, h.even, h.allowed, ← p.count, eq-eqb n (length (nodes_of nodes)) all-formed, lt-leb n (length lent) m, z) refl
+module _ {nodes bits side : List ℕ} {arrays : ArrayWidths} {n : ℕ} {ws : List ℕ} (a : AllFormed nodes bits side arrays n ws) (lent : List ℕ) where
+  pub no_room : {out : List ℕ} → length lent < n → out ≡ zeroed lent → answered (Err Room) out ≡ ext_wf_answer nodes bits side arrays lent
+  unfolding ext_wf_answer width_refusal width_answer
+  no_room m z =
+      rw (
+        a.ready.within,
+        a.ready.well,
+        a.ready.even,
+        a.ready.allowed,
+        ← a.passed.count,
+        eq-eqb n (length (nodes_of nodes)) a.all,
+        lt-leb n (length lent) m,
+        z,
+      )
+      refl
 
-    pub accepted : {out : List ℕ} → n ≤ length lent → out ≡ at_front (take n ws) lent
-        → answered (Accepted n) out ≡ ext_wf_answer nodes bits side arrays lent
-    unfolding ext_wf_answer width_refusal width_answer
-    accepted m z =
-        rw (
-          h.within,
-          h.well,
-          h.even,
-          h.allowed,
-          ← p.count,
-          eq-eqb n (length (nodes_of nodes)) all-formed,
-          le-leb n (length lent) m,
-          z,
-          p.table,
-          ← p.count,
-        )
-        refl
+  pub accepted : {out : List ℕ} → n ≤ length lent → out ≡ at_front (take n ws) lent
+      → answered (Ok n) out ≡ ext_wf_answer nodes bits side arrays lent
+  unfolding ext_wf_answer width_refusal width_answer
+  accepted m z =
+      rw (
+        a.ready.within,
+        a.ready.well,
+        a.ready.even,
+        a.ready.allowed,
+        ← a.passed.count,
+        eq-eqb n (length (nodes_of nodes)) a.all,
+        le-leb n (length lent) m,
+        z,
+        a.passed.table,
+        ← a.passed.count,
+      )
+      refl

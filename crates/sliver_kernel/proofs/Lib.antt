@@ -1,5 +1,3 @@
-mod Columns
-mod Turns
 mod Passing
-mod Writing
 mod Answering
+mod Turns

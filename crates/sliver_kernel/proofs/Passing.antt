@@ -1,4 +1,4 @@
--- The pass over the nodes, one a turn, and the arms of `ext_node_wf` and `ext_node_width`. Assumes nothing.
+-- The pass over the nodes, one a turn. Assumes nothing.
 use Prim.Native.Nat.{ℕ, suc, ◌+◌, ◌≤◌, ◌<◌}
 use mathlib.Core.Path.{◌≡◌, refl, ap, sym, ◌∙◌}
 use mathlib.Core.List.{List, ◌∷◌}
@@ -9,27 +9,7 @@ use lib.ListN.{length, take, drop, get_or, set, length-set, drop_of_length-le}
 use lib.Seq.{drop-cons, take-suc-set, length-take-le}
 use Rattle.echo_spec.specs.Input.{ArrayWidths, Node, no_node, shape}
 use Rattle.echo_spec.specs.Widths.{wf_as, width_as, node_wf, node_width, ext_wf_from, ext_wf_of}
-use Rattle.blast_kernel.specs.Codes.{code_of, shape_coded, in-arm}
-use Rattle.kernel.specs.Closed.{closed_wf, closed_width, IsClosed, closed-wf-is, closed-width-is}
 use Rattle.sliver_kernel.specs.Pass.{Passed, from-formed, from-refused}
-
--- ---------------------------------------------------------------- the arms: r is the code of the node's shape
-
-module _ (ws : List ℕ) (n : Node) {r : ℕ} (e : r ≡ code_of (shape n)) where
-  pub wf-arm : (nbits : ℕ) (arrays : ArrayWidths) (side : List ℕ) (k : ℕ) {b : Bool} → r ≡ k
-      → b ≡ wf_as nbits arrays side ws n (shape_coded k) → b ≡ node_wf nbits arrays side ws n
-  unfolding node_wf
-  wf-arm nbits arrays side k f g = g ∙ ap (wf_as nbits arrays side ws n) (sym (in-arm (shape n) e f))
-
-  pub width-arm : (arrays : ArrayWidths) (k : ℕ) {w : ℕ} → r ≡ k → w ≡ width_as arrays ws n (shape_coded k) → w ≡ node_width arrays ws n
-  unfolding node_width
-  width-arm arrays k f g = g ∙ ap (width_as arrays ws n) (sym (in-arm (shape n) e f))
-
-  pub wf-rest : (nbits : ℕ) (arrays : ArrayWidths) (side : List ℕ) → IsClosed r → closed_wf nbits ws n ≡ node_wf nbits arrays side ws n
-  wf-rest nbits arrays side h = closed-wf-is nbits arrays side ws n (rw e at h)
-
-  pub width-rest : (arrays : ArrayWidths) → IsClosed r → closed_width ws n ≡ node_width arrays ws n
-  width-rest arrays h = closed-width-is arrays ws n (rw e at h)
 
 -- ---------------------------------------------------------------- the loop
 
@@ -51,11 +31,12 @@ module _ {nbits : ℕ} {arrays : ArrayWidths} {side : List ℕ} {ns : List Node}
       let l : i ≤ length ws = omega (arith, h.all, h.size, h.within) in
       record { count = sym (ap length e ∙ length-take-le i ws l); table = sym e }
 
-  pub going-ends : n ≤ i → Passed nbits arrays side ns i ws
+  pub going-ends : n ≤ i → Passed nbits arrays side ns n ws
   unfolding ext_wf_from
   going-ends l =
       let p : length ns ≤ i = omega (arith, h.all) in
-      stopped (h.rest ∙ rw (drop_of_length-le ns p) refl)
+      let e : n ≡ i = omega (arith, h.within) in
+      rw e (stopped (h.rest ∙ rw (drop_of_length-le ns p) refl))
 
   module _ (x : Node) (at : get_or ns i no_node ≡ x) (l : i < n) where
     next : drop i ns ≡ x ∷ drop (suc i) ns

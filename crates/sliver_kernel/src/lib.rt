@@ -3,36 +3,28 @@
 // contract refuses.
 #![tactic(auto)]
 
-ghost use Rattle.std.specs.Prelude.{◌≡◌, ◌&&◌, ◌≤◌, ltb, length, drop};
+ghost use Rattle.std.specs.Prelude.{◌≡◌, ◌&&◌, ◌≤◌, ltb, length, drop, get_or};
 ghost use Rattle.lists.specs.Tests.{every};
 ghost use Rattle.echo_spec.specs.Input.{array_columns, pass_within, nodes_of, fits64};
 ghost use Rattle.echo_spec.specs.Widths as widths;
-ghost use Rattle.echo_spec.specs.Answers.{at_front, zeroed, ext_wf_answer};
 ghost use Rattle.lent.specs.Records.{node_of};
+ghost use Rattle.echo_spec.specs.Answers.{at_front, ext_wf_answer};
+ghost use Rattle.sliver_kernel.specs.Arrays.{columns_of};
 ghost use Rattle.sliver_kernel.specs.Pass.{ExtFormed, Passed};
-ghost use Rattle.sliver_kernel.specs.Outcomes.{answered};
+ghost use Rattle.sliver_kernel.specs.Outcomes.{Measured, answered};
 
-use blast_kernel::{CALL, SELECT};
-use lent::{Node, clear_numbers};
+use blast_kernel::Shape;
+use kernel::{earlier, earlier_of};
+use lent::{Node, clear, node_at, node_count};
 use refusals::{MAX_ARRAY_WIDTH, MAX_ENTRIES, MAX_NODES};
 
 // ---------------------------------------------------------------- the array table
 
-// The width of an array's index, by its number: the column's, or the Rust's past its end. Ruled out: 64; the array's number; the first
-// entry for all.
-pub fn width_of_index(column: &[u64], array: u64) -> u64
-    ensures { result ≡ widths.index_width_of column.now array }
-{
-    let k = array as usize;
-    if k < column.len() { column[k] } else { 32 }
-}
-
-// The width of an array's value. Ruled out: the index's; 1; 0 past the column's end.
-pub fn width_of_value(column: &[u64], array: u64) -> u64
-    ensures { result ≡ widths.value_width_of column.now array }
-{
-    let k = array as usize;
-    if k < column.len() { column[k] } else { 8 }
+// The two columns of the array table that say how wide an array's index and value are, by its number.
+#[derive(Clone, Copy)]
+pub struct ArrayWidths<'a> {
+    pub index: &'a [u64],
+    pub value: &'a [u64],
 }
 
 // One width of a column. Ruled out: 0; the limit refused.
@@ -46,220 +38,196 @@ fn allowed(w: u64) -> bool
 fn column_allowed(column: &[u64]) -> bool
     ensures { result ≡ every widths.array_width_ok column.now }
 {
-    let mut i = 0;
-    while i < column.len() {
-        if !allowed(column[i]) {
+    for w in column {
+        if !allowed(*w) {
             return false;
         }
-        i += 1;
     }
     true
 }
 
-// 12: the widths of every array, used or not. Ruled out: the first array's alone; the values' unchecked.
-pub fn array_widths_ok(index_width: &[u64], value_width: &[u64]) -> bool
-    ensures { result ≡ widths.array_widths_ok (array_columns index_width.now value_width.now) }
+// What a column has for an array, or what stands past its end.
+fn entry(column: &[u64], array: u64, past: u64) -> u64
+    ensures { result ≡ get_or column.now array past }
 {
-    column_allowed(index_width) && column_allowed(value_width)
+    column.get(array as usize).copied().unwrap_or(past)
+}
+
+impl<'a> ArrayWidths<'a> {
+    // The width of an array's index, by its number: the column's, or the Rust's past its end. Ruled out: 64; the array's number; the first
+    // entry for all.
+    #[tactic(auto, unfolding(echo_spec::specs::Widths::index_width_of))]
+    pub fn index_of(&self, array: u64) -> u64
+        ensures { result ≡ widths.index_width_of self.now.index.now array }
+    {
+        entry(self.index, array, 32)
+    }
+
+    // The width of an array's value. Ruled out: the index's; 1; 0 past the column's end.
+    #[tactic(auto, unfolding(echo_spec::specs::Widths::value_width_of))]
+    pub fn value_of(&self, array: u64) -> u64
+        ensures { result ≡ widths.value_width_of self.now.value.now array }
+    {
+        entry(self.value, array, 8)
+    }
+
+    // 12: the widths of every array, used or not. Ruled out: the first array's alone; the values' unchecked.
+    #[tactic(auto, unfolding(echo_spec::specs::Widths::array_widths_ok))]
+    pub fn allowed(&self) -> bool
+        ensures { result ≡ widths.array_widths_ok (columns_of self.now) }
+    {
+        column_allowed(self.index) && column_allowed(self.value)
+    }
 }
 
 // 9 of the width pass. Ruled out: the two columns without a limit; 512 entries refused.
-fn pass_within(
-    nodes: &[u8],
-    bits: &[u8],
-    side: &[u64],
-    index_width: &[u64],
-    value_width: &[u64],
-) -> bool
-    ensures { result ≡ pass_within nodes.now bits.now side.now (array_columns index_width.now value_width.now) }
+#[tactic(auto, unfolding(echo_spec::specs::Input::pass_within, echo_spec::specs::Input::column_within))]
+fn pass_within(nodes: &[u8], bits: &[u8], side: &[u64], arrays: &ArrayWidths) -> bool
+    ensures { result ≡ pass_within nodes.now bits.now side.now (columns_of arrays.now) }
 {
-    if !blast_kernel::nodes_within(nodes, bits, side) {
-        return false;
-    }
-    index_width.len() <= MAX_ENTRIES && value_width.len() <= MAX_ENTRIES
+    blast_kernel::nodes_within(nodes, bits, side)
+        && arrays.index.len() <= MAX_ENTRIES
+        && arrays.value.len() <= MAX_ENTRIES
 }
 
 // ---------------------------------------------------------------- selects and calls
 
-// One level of a chain: a pair of an index and a value at this place of the side entries.
-fn pair_wf(ws: &[u64], side: &[u64], index: u64, value: u64, at: usize) -> bool
-    ensures { result ≡ widths.chain_wf index value ws.now 1 (drop at side.now) }
+// The entries from place s on, of which there are none past the last.
+fn entries_from<'a>(side: &'a [u64], s: u64) -> &'a [u64]
+    ensures { result.now ≡ drop s side.now }
 {
-    let m = side.len();
-    if at >= m {
-        return false;
+    let at = s as usize;
+    if at <= side.len() {
+        &side[at..]
+    } else {
+        &side[side.len()..]
     }
-    if m - at < 2 {
-        return false;
-    }
-    kernel::earlier_of(ws, index, side[at]) && kernel::earlier_of(ws, value, side[at + 1])
 }
 
-// n pairs from place s of the side entries on. (The Rust's `chain_wf`, with the two widths as parameters and `pair_wf` as its
-// turn.) Ruled out: value before index; a last pair of which only the index lies within the entries.
+// n pairs of an index and a value from place s of the side entries on. (The Rust's `chain_wf`, with the two widths as parameters.) Ruled
+// out: value before index; a last pair of which only the index lies within the entries.
 pub fn chain_wf(ws: &[u64], side: &[u64], index: u64, value: u64, s: u64, n: u64) -> bool
     ensures { result ≡ widths.chain_wf index value ws.now n (drop s side.now) }
 {
-    let mut at = s as usize;
-    let mut left = n;
-    while left > 0 {
-        if !pair_wf(ws, side, index, value, at) {
+    let mut rest = entries_from(side, s);
+    for _pair in 0..n {
+        let [x, v, others @ ..] = rest else {
+            return false;
+        };
+        if !earlier_of(ws, index, *x) {
             return false;
         }
-        at += 2;
-        left -= 1;
+        if !earlier_of(ws, value, *v) {
+            return false;
+        }
+        rest = others;
     }
     true
 }
 
-// One argument at this place of the side entries.
-fn arg_wf(ws: &[u64], side: &[u64], at: usize) -> bool
-    ensures { result ≡ widths.args_wf ws.now 1 (drop at side.now) }
-{
-    if at >= side.len() {
-        return false;
-    }
-    kernel::earlier(ws, side[at])
-}
-
-// n arguments from place s of the side entries on. (The Rust's `args_wf`, with `arg_wf` as its turn.) Ruled out: an argument that
-// is the call itself; arguments past the entries left out.
+// n arguments from place s of the side entries on. Ruled out: an argument that is the call itself; arguments past the entries left out.
 pub fn args_wf(ws: &[u64], side: &[u64], s: u64, n: u64) -> bool
     ensures { result ≡ widths.args_wf ws.now n (drop s side.now) }
 {
-    let mut at = s as usize;
-    let mut left = n;
-    while left > 0 {
-        if !arg_wf(ws, side, at) {
+    let mut rest = entries_from(side, s);
+    for _argument in 0..n {
+        let [x, others @ ..] = rest else {
+            return false;
+        };
+        if !earlier(ws, *x) {
             return false;
         }
-        at += 1;
-        left -= 1;
+        rest = others;
     }
     true
 }
 
-// Array number, index, side start and number of stores.
-fn select_wf(
-    ws: &[u64],
-    side: &[u64],
-    index_width: &[u64],
-    value_width: &[u64],
-    array: u64,
-    i: u64,
-    s: u64,
-    n: u64,
-) -> bool
-    ensures { result ≡ (widths.earlier_of ws.now (widths.index_width_of index_width.now array) i
-        && widths.chain_wf (widths.index_width_of index_width.now array) (widths.value_width_of value_width.now array) ws.now n
-        (drop s side.now)) }
-{
-    let w = width_of_index(index_width, array);
-    kernel::earlier_of(ws, w, i) && chain_wf(ws, side, w, width_of_value(value_width, array), s, n)
-}
+// ---------------------------------------------------------------- the pass
 
-// Width, side start and number of arguments.
-fn call_wf(ws: &[u64], side: &[u64], w: u64, s: u64, n: u64) -> bool
-    ensures { result ≡ (ltb 0 w && (fits64 w && widths.args_wf ws.now n (drop s side.now))) }
-{
-    kernel::has_width(w) && args_wf(ws, side, s, n)
-}
-
-// Is the node well formed after nodes of the widths `ws`. (The Rust's, but that a kind stands for the case of
-// `ExtNode`.) Ruled out: a call of width 0; a select whose chain is not looked at.
-pub fn ext_node_wf(
-    ws: &[u64],
-    nbits: usize,
-    side: &[u64],
-    index_width: &[u64],
-    value_width: &[u64],
-    n: Node,
-) -> bool
-    ensures { result ≡ widths.node_wf nbits (array_columns index_width.now value_width.now) side.now ws.now (node_of n) }
-{
-    let s = blast_kernel::shape(n.kind);
-    match s {
-        SELECT => select_wf(ws, side, index_width, value_width, n.a, n.b, n.c, n.d),
-        CALL => call_wf(ws, side, n.b, n.c, n.d),
-        _ => kernel::node_wf(ws, nbits, n),
-    }
-}
-
-// The width of a node that `ext_node_wf` accepted. Ruled out: a select as wide as its index; a call as wide as its first argument.
-pub fn ext_node_width(ws: &[u64], index_width: &[u64], value_width: &[u64], n: Node) -> u64
-    requires { ExtFormed ws.now (node_of n) }
-    ensures { result ≡ widths.node_width (array_columns index_width.now value_width.now) ws.now (node_of n) }
-{
-    let s = blast_kernel::shape(n.kind);
-    match s {
-        SELECT => width_of_value(value_width, n.a),
-        CALL => n.b,
-        _ => kernel::node_width(ws, n),
-    }
-}
-
-// Each node's width in turn, up to the first that is not well formed: the answer is how many were written.
-fn fill(
-    nodes: &[u8],
-    nbits: usize,
-    side: &[u64],
-    index_width: &[u64],
-    value_width: &[u64],
-    ws: &mut [u64],
-) -> usize
-    requires { length (nodes_of nodes.now) ≤ length ws.old }
-    ensures { Passed nbits (array_columns index_width.now value_width.now) side.now (nodes_of nodes.now) result ws.new }
-{
-    let n = lent::node_count(nodes);
-    let mut i = 0;
-    while i < n {
-        let node = lent::node_at(nodes, i);
-        if !ext_node_wf(&ws[..i], nbits, side, index_width, value_width, node) {
-            return i;
-        }
-        let w = ext_node_width(&ws[..i], index_width, value_width, node);
-        ws[i] = w;
-        i += 1;
-    }
-    i
-}
-
-// The pass over a table that has room for every node: how many nodes come before the first that is not well formed, and their widths.
-// (The Rust's `ext_wf` without its `Result`; the printer calls it too.) Ruled out: the node count where a node is refused; a table
-// that is all 0.
-pub fn widths(
-    nodes: &[u8],
-    nbits: usize,
-    side: &[u64],
-    index_width: &[u64],
-    value_width: &[u64],
-    ws: &mut [u64; MAX_NODES],
-) -> usize
-    requires { length nodes.now ≤ 34816 }
-    ensures { Passed nbits (array_columns index_width.now value_width.now) side.now (nodes_of nodes.now) result ws.new }
-{
-    fill(nodes, nbits, side, index_width, value_width, ws)
-}
-
-// The widths to the front of what was lent.
-fn copy(ws: &[u64], out: &mut [u64])
-    requires { length ws.now ≤ length out.old }
-    ensures { out.new ≡ at_front ws.now out.old }
-{
-    let mut i = 0;
-    while i < ws.len() {
-        out[i] = ws[i];
-        i += 1;
-    }
-}
-
-// What the width pass answers: its number and count are `answered`'s.
+// What the pass looks at beside the widths so far: how many bits there are, the side entries, and the widths of the arrays.
 #[derive(Clone, Copy)]
-pub enum Outcome {
-    // The node count: the widths are written.
-    Accepted(usize),
+pub struct Pass<'a> {
+    pub nbits: usize,
+    pub side: &'a [u64],
+    pub arrays: ArrayWidths<'a>,
+}
+
+impl<'a> Pass<'a> {
+    // Array number, index, side start and number of stores.
+    fn select_wf(&self, ws: &[u64], array: u64, i: u64, s: u64, n: u64) -> bool
+        ensures { result ≡ (widths.earlier_of ws.now (widths.index_width_of self.now.arrays.index.now array) i
+            && widths.chain_wf (widths.index_width_of self.now.arrays.index.now array) (widths.value_width_of self.now.arrays.value.now array) ws.now n
+            (drop s self.now.side.now)) }
+    {
+        let arrays = self.arrays;
+        let index = arrays.index_of(array);
+        let value = arrays.value_of(array);
+        earlier_of(ws, index, i) && chain_wf(ws, self.side, index, value, s, n)
+    }
+
+    // Width, side start and number of arguments.
+    fn call_wf(&self, ws: &[u64], w: u64, s: u64, n: u64) -> bool
+        ensures { result ≡ (ltb 0 w && (fits64 w && widths.args_wf ws.now n (drop s self.now.side.now))) }
+    {
+        kernel::has_width(w) && args_wf(ws, self.side, s, n)
+    }
+
+    // Is the node well formed after nodes of the widths `ws`. (The Rust's `ext_node_wf`, but that a kind stands for the case of
+    // `ExtNode`.) Ruled out: a call of width 0; a select whose chain is not looked at.
+    #[tactic(auto, unfolding(echo_spec::specs::Widths::node_wf, echo_spec::specs::Widths::wf_as))]
+    pub fn node_wf(&self, ws: &[u64], n: Node) -> bool
+        ensures { result ≡ widths.node_wf self.now.nbits (columns_of self.now.arrays) self.now.side.now ws.now (node_of n) }
+    {
+        match Shape::from(n.kind) {
+            Shape::Select => self.select_wf(ws, n.a, n.b, n.c, n.d),
+            Shape::Call => self.call_wf(ws, n.b, n.c, n.d),
+            _ => kernel::node_wf(ws, self.nbits, n),
+        }
+    }
+
+    // The width of a node that `node_wf` accepted. (The Rust's `ext_node_width`.) Ruled out: a select as wide as its index; a call as wide
+    // as its first argument.
+    #[tactic(auto, unfolding(echo_spec::specs::Widths::node_width, echo_spec::specs::Widths::width_as))]
+    pub fn node_width(&self, ws: &[u64], n: Node) -> u64
+        requires { ExtFormed ws.now (node_of n) }
+        ensures { result ≡ widths.node_width (columns_of self.now.arrays) ws.now (node_of n) }
+    {
+        match Shape::from(n.kind) {
+            Shape::Select => {
+                let arrays = self.arrays;
+                arrays.value_of(n.a)
+            }
+            Shape::Call => n.b,
+            _ => kernel::node_width(ws, n),
+        }
+    }
+
+    // Each node's width in turn, up to the first that is not well formed: the answer is how many were written. (The Rust's `ext_wf` without
+    // its `Result`; the printer calls it too.) Ruled out: the node count where a node is refused; a table that is all 0.
+    pub fn widths(&self, nodes: &[u8], ws: &mut [u64]) -> usize
+        requires { length (nodes_of nodes.now) ≤ length ws.old }
+        ensures { Passed self.now.nbits (columns_of self.now.arrays) self.now.side.now (nodes_of nodes.now) result ws.new }
+    {
+        let count = node_count(nodes);
+        for i in 0..count {
+            let node = node_at(nodes, i);
+            if !self.node_wf(&ws[..i], node) {
+                return i;
+            }
+            let w = self.node_width(&ws[..i], node);
+            ws[i] = w;
+        }
+        count
+    }
+}
+
+// ---------------------------------------------------------------- the entry point
+
+// Why the width pass refuses: the numbers are `answered`'s.
+#[derive(Clone, Copy, Debug, PartialEq, Eq)]
+pub enum WidthError {
     // The number of the first node that is not well formed, or the node count where the two columns differ in length.
-    Refused(usize),
+    Malformed(usize),
     // The nodes or bits are encoded wrongly.
     Encoding,
     // An input is over its limit.
@@ -268,6 +236,50 @@ pub enum Outcome {
     Room,
     // A width in the array table is 0 or over 65,536.
     ArrayWidth,
+}
+
+// Every check but the one for room, in order, and the widths of all nodes in a table of the pass's own; or the first refusal.
+fn measured(
+    nodes: &[u8],
+    bits: &[u8],
+    side: &[u64],
+    arrays: &ArrayWidths,
+    ws: &mut [u64; MAX_NODES],
+) -> Result<usize, WidthError>
+    ensures { Measured nodes.now bits.now side.now (columns_of arrays.now) ws.new result }
+{
+    if !pass_within(nodes, bits, side, arrays) {
+        return Err(WidthError::Limit);
+    }
+    if !blast_kernel::encoded(nodes, bits) {
+        return Err(WidthError::Encoding);
+    }
+    if arrays.index.len() != arrays.value.len() {
+        return Err(WidthError::Malformed(node_count(nodes)));
+    }
+    if !arrays.allowed() {
+        return Err(WidthError::ArrayWidth);
+    }
+    let nbits = bits.len();
+    let pass = Pass {
+        nbits,
+        side,
+        arrays: *arrays,
+    };
+    let n = pass.widths(nodes, ws);
+    if n < node_count(nodes) {
+        return Err(WidthError::Malformed(n));
+    }
+    Ok(n)
+}
+
+// The widths to the front of what was lent.
+fn copy(ws: &[u64], out: &mut [u64])
+    requires { length ws.now ≤ length out.old }
+    ensures { out.new ≡ at_front ws.now out.old }
+{
+    let n = ws.len();
+    out[..n].copy_from_slice(ws);
 }
 
 // THE WIDTH PASS. With a slice that is too short every node is still looked at, in a table of the pass's own, so that a node that
@@ -279,37 +291,78 @@ pub fn ext_wf(
     index_width: &[u64],
     value_width: &[u64],
     out: &mut [u64],
-) -> Outcome
+) -> Result<usize, WidthError>
     ensures { answered result out.new
         ≡ ext_wf_answer nodes.now bits.now side.now (array_columns index_width.now value_width.now)
         out.old }
 {
-    if !pass_within(nodes, bits, side, index_width, value_width) {
-        clear_numbers(out);
-        return Outcome::Limit;
-    }
-    if !blast_kernel::encoded(nodes, bits) {
-        clear_numbers(out);
-        return Outcome::Encoding;
-    }
-    if index_width.len() != value_width.len() {
-        clear_numbers(out);
-        return Outcome::Refused(lent::node_count(nodes));
-    }
-    if !array_widths_ok(index_width, value_width) {
-        clear_numbers(out);
-        return Outcome::ArrayWidth;
-    }
+    let arrays = ArrayWidths {
+        index: index_width,
+        value: value_width,
+    };
     let mut ws = [0u64; MAX_NODES];
-    let n = widths(nodes, bits.len(), side, index_width, value_width, &mut ws);
-    if n < lent::node_count(nodes) {
-        clear_numbers(out);
-        return Outcome::Refused(n);
+    match measured(nodes, bits, side, &arrays, &mut ws) {
+        Err(e) => {
+            clear(out);
+            Err(e)
+        }
+        Ok(n) => {
+            if n > out.len() {
+                clear(out);
+                return Err(WidthError::Room);
+            }
+            copy(&ws[..n], out);
+            Ok(n)
+        }
     }
-    if n > out.len() {
-        clear_numbers(out);
-        return Outcome::Room;
-    }
-    copy(&ws[..n], out);
-    Outcome::Accepted(n)
+}
+
+// For the crates that are not yet written over: the columns and the pass as functions of slices.
+
+// The width of an array's index, by its number.
+#[tactic(auto, unfolding(echo_spec::specs::Widths::index_width_of))]
+pub fn width_of_index(column: &[u64], array: u64) -> u64
+    ensures { result ≡ widths.index_width_of column.now array }
+{
+    entry(column, array, 32)
+}
+
+// The width of an array's value.
+#[tactic(auto, unfolding(echo_spec::specs::Widths::value_width_of))]
+pub fn width_of_value(column: &[u64], array: u64) -> u64
+    ensures { result ≡ widths.value_width_of column.now array }
+{
+    entry(column, array, 8)
+}
+
+// 12: the widths of every array, used or not.
+#[tactic(auto, unfolding(echo_spec::specs::Widths::array_widths_ok))]
+pub fn array_widths_ok(index_width: &[u64], value_width: &[u64]) -> bool
+    ensures { result ≡ widths.array_widths_ok (array_columns index_width.now value_width.now) }
+{
+    column_allowed(index_width) && column_allowed(value_width)
+}
+
+// The pass over a table that has room for every node: how many nodes come before the first that is not well formed, and their widths.
+pub fn widths(
+    nodes: &[u8],
+    nbits: usize,
+    side: &[u64],
+    index_width: &[u64],
+    value_width: &[u64],
+    ws: &mut [u64; MAX_NODES],
+) -> usize
+    requires { length nodes.now ≤ 34816 }
+    ensures { Passed nbits (array_columns index_width.now value_width.now) side.now (nodes_of nodes.now) result ws.new }
+{
+    let arrays = ArrayWidths {
+        index: index_width,
+        value: value_width,
+    };
+    let pass = Pass {
+        nbits,
+        side,
+        arrays,
+    };
+    pass.widths(nodes, ws)
 }

@@ -53,8 +53,8 @@ pub fn write_number<W: Write>(out: &mut W, label: &[u8], n: u64) -> io::Result<(
 pub fn write_line<W: Write>(out: &mut W, label: &[u8], n: u64) -> io::Result<()>
     ensures { OnOk result (Appends (W.contents out.old) (W.contents out.new) (label.now ++ (decimal n ++ (10 ∷ [])))) }
 {
-    out.write_all(label)?;
-    writeln!(out, "{n}")
+    write_number(out, label, n)?;
+    out.write_all(b"\n")
 }
 
 #[cfg(test)]

@@ -3,7 +3,7 @@
 
 ghost use Rattle.std.specs.Prelude.{◌≡◌, ℕ, ◌≤◌, ◌<◌, length};
 ghost use Rattle.std.specs.Int.Count.{ones};
-ghost use Rattle.lent.specs.Lent.{problem_at};
+ghost use Rattle.lent.specs.Arrays.{problem_at};
 ghost use Rattle.trace_terms.specs.Places.{Usable, widths_in, entries_in};
 ghost use Rattle.trace_rows.specs.Masks.{Roots, Masked};
 ghost use Rattle.trace_rows.specs.Rows.{Trace, Done};

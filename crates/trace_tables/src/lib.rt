@@ -8,7 +8,7 @@ ghost use Rattle.echo_spec.specs.Trees.{constant_bits, bits_value};
 ghost use Rattle.vectors.specs.Values.{number};
 ghost use Rattle.trace_tables.specs.Fixed.{Lent, Inside, Steady, fixed_of, Fixed};
 
-use blast_kernel::{CONST, ROTATION, VAR, shape};
+use blast_kernel::codes::{CONST, ROTATION, VAR, shape};
 use echo_tables::rot_amount;
 use lent::{get, node_count, node_of, wide};
 use refusals::MAX_NODES;

@@ -2,7 +2,7 @@
 use Rattle.std.specs.Prelude.{ℕ, ◌+◌, ◌*◌, ◌≤◌, ◌<◌, ◌≡◌, List, T, ltb, length}
 use Rattle.std.proofs.Common.{sym, ◌∙◌, arith}
 use Rattle.std.proofs.Math.Dec.{ltb→lt}
-use Rattle.lent.specs.Lent.{Slice, slot, problem_at}
+use Rattle.lent.specs.Arrays.{Slice, slot, problem_at}
 use Rattle.lists.specs.Tests.{and_0}
 use Rattle.lent.specs.Records.{nodes-length, nodes-at}
 use Rattle.echo_spec.specs.Input.{Node, no_node, node_at, nodes_of}

@@ -7,7 +7,7 @@ ghost use Rattle.std.specs.Prelude.{◌≡◌, ℕ, ◌+◌, ◌-◌, ◌*◌, �
 ghost use Rattle.std.specs.Int.Count.{ones};
 ghost use Rattle.trace_terms.specs.Places.{Usable, Good, Valued};
 
-use blast_kernel::{
+use blast_kernel::codes::{
     BINARY, COMPARISON, CONCAT, CONNECTIVE, CONST, EXTENSION, EXTRACTION, ITE, NEGATION, ROTATION,
     UNARY, VAR, shape,
 };

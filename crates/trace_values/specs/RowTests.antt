@@ -1,8 +1,9 @@
 -- Laws of the test of values: columns one after the other, and what the test says of a row.
-use Prim.Native.Nat.{ℕ, zero, suc, ◌+◌, ◌-◌, ◌*◌, ◌/◌, ◌%◌, ◌^◌, ◌≤◌, ◌<◌}
-use Rattle.std.specs.Prelude.{◌≡◌, Bool, true, false, ◌&&◌, ◌||◌, length, get_or}
+use Prim.Native.Nat.{ℕ, zero, suc, ◌+◌, ◌*◌, ◌/◌, ◌%◌, ◌^◌, ◌≤◌, ◌<◌}
+use Rattle.std.specs.Prelude.{◌≡◌, Bool, true, false, ◌&&◌, length, get_or, Option, Some, None}
+use Rattle.std.specs.Option.{SomeIff, unwrap_or}
 use Rattle.std.proofs.Math.Path.{refl, sym, subst}
-use Rattle.std.proofs.Common.{ap, ◌∙◌, mod-lt, mod-eq_of_lt, div-add-mod', zero-mul, arith, pow_pos}
+use Rattle.std.proofs.Common.{◌∙◌, mod-lt, mod-eq_of_lt, div-add-mod', zero-mul, arith, pow_pos}
 use mathlib.Core.List.{List, [], ◌∷◌}
 use Rattle.std.proofs.Math.Nat.{mod_self, mod-add-mod, div-eq_of_lt}
 use borrow.Author.Tests.{lt-ltb, le-ltb, le-leb, lt-leb, eq-eqb, ne_eqb}
@@ -39,14 +40,13 @@ column-later c v h n = sym (mod-eq_of_lt (omega arith))
 pub column-next : (c k v : ℕ) → c ≡ k % v → (c + 1) % v ≡ (k + 1) % v
 column-next c k v e = rw e (mod-add-mod k v 1)
 
-pub rows_none : (v len : ℕ) → v ≡ 0 → 1 ≡ row_count v len
+-- the quotient, where there is one
+pub rows-by : (v len : ℕ) (q : Option ℕ) → SomeIff q (0 < v) (len / v) → unwrap_or q 1 ≡ row_count v len
 unfolding row_count
-rows_none v len e = rw e refl
-
-pub rows-some : (v len : ℕ) → (v ≡ 0 → ⊥) → len / v ≡ row_count v len
-unfolding row_count
-rows-some zero len h = absurd (h refl)
-rows-some (suc v) len h = refl
+rows-by zero len None h = refl
+rows-by zero len (Some x) h = absurd (let l : 0 < 0 = h.0 in omega arith)
+rows-by (suc v) len None h = absurd (h (omega arith))
+rows-by (suc v) len (Some x) h = h.1
 
 -- ---------------------------------------------------------------- the test
 
@@ -74,9 +74,6 @@ module _ (widths values : List ℕ) where
   -- the first k values fit
   pub record FitTo (k : ℕ) : Type 0 where
     pub at : (j : ℕ) → j < k → T (fitting j)
-
-  pub fit-start : FitTo 0
-  fit-start = record { at = λ j h. absurd (omega arith) }
 
   pub fit_next : (c k : ℕ) → c ≡ k % length widths → {b : Bool} → b ≡ fits (get_or widths c 0) (get_or values k 0) → b ≡ true → FitTo k → FitTo (k + 1)
   fit_next c k e {b} q t f = record { at = λ j h. by_place j (eqb j k) refl h }

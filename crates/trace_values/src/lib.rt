@@ -8,10 +8,7 @@ ghost use Rattle.traces.specs.Trace as trace;
 pub fn fits(w: u64, x: u64) -> bool
     ensures { result ≡ trace.fits w x }
 {
-    if w >= 64 {
-        return true;
-    }
-    x >> w == 0
+    w >= 64 || x >> w == 0
 }
 
 // The column after c, of v.
@@ -19,10 +16,7 @@ fn next(c: usize, v: usize) -> usize
     requires { c < v }
     ensures { result ≡ (c + 1) % v }
 {
-    if c + 1 == v {
-        return 0;
-    }
-    c + 1
+    if c + 1 == v { 0 } else { c + 1 }
 }
 
 // Ruled out: a row that lacks its last value; the width of the column before.
@@ -31,19 +25,17 @@ pub fn values_fit(widths: &[u64], values: &[u64]) -> bool
 {
     let v = widths.len();
     if v == 0 {
-        return values.len() == 0;
+        return values.is_empty();
     }
     if values.len() % v != 0 {
         return false;
     }
     let mut c = 0;
-    let mut k = 0;
-    while k < values.len() {
-        if !fits(widths[c], values[k]) {
+    for x in values {
+        if !fits(widths[c], *x) {
             return false;
         }
         c = next(c, v);
-        k += 1;
     }
     true
 }
@@ -52,8 +44,5 @@ pub fn values_fit(widths: &[u64], values: &[u64]) -> bool
 pub fn row_count(v: usize, len: usize) -> usize
     ensures { result ≡ trace.row_count v len }
 {
-    if v == 0 {
-        return 1;
-    }
-    len / v
+    len.checked_div(v).unwrap_or(1)
 }

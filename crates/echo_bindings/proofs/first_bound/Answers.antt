@@ -2,7 +2,7 @@
 use mathlib.Core.Path.{◌∙◌}
 use native.Mathlib.Omega.{arith}
 use Rattle.lets.specs.Lets.{binds}
-use Rattle.lent.specs.Lent.{dag_at}
+use Rattle.lent.specs.Arrays.{dag_at}
 use Rattle.echo_reach.specs.Remainders.{same_none}
 use Rattle.echo_bindings.specs.Checking.{uses_at, by-tables, past-nodes, few-widths}
 use Rattle.echo_bindings.proofs.first_bound.Goals as goal

@@ -3,7 +3,7 @@ use Prim.Native.Nat.{◌-◌, ◌≤◌}
 use mathlib.Core.Path.{◌≡◌}
 use lib.ListN.{length, drop}
 use Rattle.lets.specs.Lets.{let_roots}
-use Rattle.lent.specs.Lent.{dag_at}
+use Rattle.lent.specs.Arrays.{dag_at}
 use Rattle.echo_reach.specs.Remainders.{Same}
 use Rattle.echo_bindings.specs.Checking.{uses_at}
 use Rattle.echo_bindings.proofs.roots_refused.Given as goal

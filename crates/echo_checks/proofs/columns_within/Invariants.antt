@@ -3,7 +3,7 @@ use Prim.Native.Nat.{◌-◌, ◌≤◌}
 use mathlib.Core.List.{[]}
 use Rattle.blast_kernel.specs.Every.{Left}
 use Rattle.echo_spec.specs.Input.{column_within}
-use Rattle.lent.specs.Lent.{problem_at}
+use Rattle.lent.specs.Arrays.{problem_at}
 use Rattle.echo_checks.specs.Limits.{columns}
 use Rattle.echo_checks.proofs.columns_within.Given as goal
 

@@ -1,6 +1,6 @@
 -- `echo_checks::decl_func_ok` meets its contract: the tests in the order of the definition. Assumes nothing.
 use Rattle.echo_spec.specs.Input.{dag_of}
-use Rattle.lent.specs.Lent.{dag_at}
+use Rattle.lent.specs.Arrays.{dag_at}
 use Rattle.echo_checks.specs.Declared.{func-empty, func-absent, func-by}
 use Rattle.echo_checks.proofs.decl_func_ok.Goals as goal
 

@@ -4,7 +4,7 @@ use mathlib.Core.Path.{◌≡◌}
 use lib.ListN.{length}
 use Rattle.lists.specs.Tests.{every_from}
 use Rattle.echo_spec.specs.Tables.{decl_func_ok as func-ok, decl_funcs_ok as funcs-ok}
-use Rattle.lent.specs.Lent.{problem_at, dag_at}
+use Rattle.lent.specs.Arrays.{problem_at, dag_at}
 use Rattle.echo_checks.proofs.decl_funcs_ok.Given as goal
 
 abbrev pub invariant-loop-g : goal.invariant-loop-g

@@ -1,7 +1,7 @@
 -- `echo_checks::names_ok` meets its contract: table by table. Assumes nothing.
 use mathlib.Core.Path.{refl, sym}
 use Rattle.echo_spec.specs.Input.{dag_of, name_table, aname_table}
-use Rattle.lent.specs.Lent.{dag_at}
+use Rattle.lent.specs.Arrays.{dag_at}
 use Rattle.echo_spec.specs.Names.{names_ok}
 use Rattle.echo_checks.specs.Answered.{passed, failed}
 use Rattle.echo_checks.specs.Named.{after_none, after_one}

@@ -2,7 +2,7 @@
 use mathlib.Core.Path.{sym}
 use Rattle.echo_spec.specs.Input.{dag_of}
 use Rattle.lets.specs.Lets.{uses_in}
-use Rattle.lent.specs.Lent.{problem_at, dag_at}
+use Rattle.lent.specs.Arrays.{problem_at, dag_at}
 use Rattle.echo_clash.specs.Clash.{first-clash, second-clash, last-clash}
 use Rattle.echo_clash.proofs.names_clear.Goals as goal
 

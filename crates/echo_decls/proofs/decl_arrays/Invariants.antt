@@ -3,7 +3,7 @@ use Prim.Native.Nat.{◌-◌, ◌≤◌}
 use mathlib.Core.Path.{◌≡◌}
 use lib.ListN.{length}
 use Rattle.echo_bytes.specs.Page.{page}
-use Rattle.lent.specs.Lent.{problem_at, dag_at}
+use Rattle.lent.specs.Arrays.{problem_at, dag_at}
 use Rattle.echo_decls.specs.NumberedLines.{LinesWritten}
 use Rattle.echo_decls.specs.DeclaredLines.{array_line}
 use Rattle.echo_decls.proofs.decl_arrays.Given as goal

@@ -1,7 +1,7 @@
 -- `echo_decls::decl_vars` meets its contract: at the loop's test, the lines of the first k variables are written. Assumes nothing.
 use native.Mathlib.Omega.{arith}
 use Rattle.echo_spec.specs.Input.{dag_of}
-use Rattle.lent.specs.Lent.{dag_at}
+use Rattle.lent.specs.Arrays.{dag_at}
 use Rattle.echo_decls.specs.NumberedLines.{none_written, more-written}
 use Rattle.echo_decls.specs.DeclaredLines.{variables-written}
 use Rattle.echo_decls.proofs.decl_vars.Goals as goal

@@ -1,6 +1,6 @@
 -- `echo_decls::declare` meets its contract: one text after the other. Assumes nothing.
 use Rattle.echo_spec.specs.Input.{dag_of}
-use Rattle.lent.specs.Lent.{dag_at}
+use Rattle.lent.specs.Arrays.{dag_at}
 use Rattle.echo_decls.specs.DeclaredLines.{opening-written}
 use Rattle.echo_decls.proofs.declare.Goals as goal
 

@@ -2,7 +2,7 @@
 use mathlib.Core.Path.{ap, ◌∙◌}
 use Rattle.echo_spec.specs.Input.{dag_of}
 use Rattle.echo_bytes.specs.Page.{written}
-use Rattle.lent.specs.Lent.{dag_at}
+use Rattle.lent.specs.Arrays.{dag_at}
 use Rattle.echo_decls.specs.DeclaredLines.{array-line}
 use Rattle.echo_decls.proofs.push_array.Goals as goal
 

@@ -1,6 +1,6 @@
 use Prim.Native.Nat.{◌-◌, ◌≤◌, ◌<◌}
 use lib.ListN.{drop}
-use Rattle.lent.specs.Lent.{problem_at}
+use Rattle.lent.specs.Arrays.{problem_at}
 use Rattle.echo_bytes.specs.Page.{page}
 use Rattle.echo_walk.proofs.Laws.{μ, Begun}
 use Rattle.echo_pieces.specs.Signs.{sign_of}

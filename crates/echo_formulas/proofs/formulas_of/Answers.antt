@@ -4,7 +4,7 @@ use native.Mathlib.Omega.{arith}
 use Rattle.echo_spec.specs.Input.{query_of}
 use Rattle.echo_spec.specs.Answers.{endless_refusal}
 use Rattle.formula_answers.specs.Answers.{formula_lines, echo_formulas_answer}
-use Rattle.lent.specs.Lent.{problem_at}
+use Rattle.lent.specs.Arrays.{problem_at}
 use Rattle.echo_kernel.proofs.Answering.{listed, answer-refused, answer-room, answer-printed}
 use Rattle.echo_formulas.proofs.formulas_of.Goals as goal
 

@@ -1,6 +1,6 @@
 -- `echo_formulas::print` meets its contract: the lines of the roots. Assumes nothing.
 use mathlib.Core.Path.{refl, ap, ◌∙◌}
-use Rattle.lent.specs.Lent.{problem_at, dag_at}
+use Rattle.lent.specs.Arrays.{problem_at, dag_at}
 use Rattle.echo_spec.specs.Input.{dag_of}
 use Rattle.echo_bytes.specs.Page.{written}
 use Rattle.echo_script.proofs.Printing.{ready, all-fine}

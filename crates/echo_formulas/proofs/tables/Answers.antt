@@ -1,6 +1,6 @@
 -- `echo_formulas::tables` meets its contract: the checks from the names on, in order. Assumes nothing.
 use Rattle.echo_spec.specs.ColumnLaws.{columns-aligned}
-use Rattle.lent.specs.Lent.{problem_at}
+use Rattle.lent.specs.Arrays.{problem_at}
 use Rattle.echo_checks.specs.Answered.{passed, failed}
 use Rattle.echo_checks.specs.Limits.{bounds}
 use Rattle.echo_script.proofs.Checking.{bad-names, shared-node, names-passed}

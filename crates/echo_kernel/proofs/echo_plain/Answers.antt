@@ -2,7 +2,7 @@ use borrow.Author.Rules.{rules}
 use native.Mathlib.Omega.{arith}
 use Rattle.echo_spec.specs.Input.{query_of}
 use Rattle.echo_spec.specs.Answers.{script, endless_refusal, echo_ext_answer}
-use Rattle.lent.specs.Lent.{problem_at}
+use Rattle.lent.specs.Arrays.{problem_at}
 use Rattle.echo_kernel.proofs.Answering.{listed, answer-refused, answer-room, answer-printed}
 use Rattle.echo_kernel.proofs.echo_plain.Goals as goal
 

@@ -3,7 +3,7 @@ use borrow.Author.Rules.{rules}
 use native.Mathlib.Omega.{arith}
 use Rattle.echo_spec.specs.Input.{query_of}
 use Rattle.lets.specs.Lets.{let_script, endless_let, echo_let_answer}
-use Rattle.lent.specs.Lent.{problem_at}
+use Rattle.lent.specs.Arrays.{problem_at}
 use Rattle.echo_kernel.proofs.Answering.{answer-refused, answer-room, answer-printed}
 use Rattle.let_script.specs.Printing.{listed}
 use Rattle.echo_let.proofs.let_of.Goals as goal

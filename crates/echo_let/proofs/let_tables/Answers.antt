@@ -1,7 +1,7 @@
 -- `echo_let::let_tables` meets its contract. The checks from the names on, in order. Assumes nothing.
 use mathlib.Core.Path.{sym, ◌∙◌}
 use Rattle.echo_spec.specs.ColumnLaws.{columns-aligned}
-use Rattle.lent.specs.Lent.{problem_at}
+use Rattle.lent.specs.Arrays.{problem_at}
 use Rattle.echo_checks.specs.Answered.{passed, failed}
 use Rattle.echo_checks.specs.Limits.{bounds}
 use Rattle.let_script.specs.Printing.{bad-names, clashing, cleared, clear-plain, as_plain, whole}

@@ -2,7 +2,7 @@
 use mathlib.Core.Path.{refl}
 use native.Mathlib.Omega.{arith}
 use Rattle.echo_spec.specs.Input.{dag_of}
-use Rattle.lent.specs.Lent.{problem_at}
+use Rattle.lent.specs.Arrays.{problem_at}
 use Rattle.echo_reach.specs.Marks.{few-nodes}
 use Rattle.let_script.specs.Printing.{clear-plain, flags_of, unshared-is}
 use Rattle.echo_let.proofs.names_clear.Goals as goal

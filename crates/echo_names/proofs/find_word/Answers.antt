@@ -1,64 +1,66 @@
--- `find_word` meets its contract: the words of the groups from g on decide the answer, and inside a group those from `at` on with the other groups'.
+-- `find_word` meets its contract: the words of the groups from g on decide the answer, and inside a group those from word k on with the other groups'.
 use mathlib.Core.Path.{sym, ◌∙◌}
-use mathlib.Core.Logic.{⊎_elim}
 use native.Mathlib.Omega.{arith}
-use lib.ListN.{length}
-use Rattle.echo_names.specs.Groups.{groups-all, inside-all, group-inside, inside-next, group-enter, group-pass, groups-end, word_next, word-found, words-end, word-inside}
+use Rattle.echo_names.specs.Groups.{groups-all, inside-all, group-inside, inside-next, group-enter, group-pass, groups-end, word-at, word-found, words-end, turn-first, turn_next}
 use Rattle.echo_names.proofs.find_word.Goals as goal
-use Rattle.echo_names.proofs.find_word.Goals.{then-size-n+else-loop-left-test, else-size-n}
+use Rattle.echo_names.proofs.find_word.Goals.{then-g-n+else-loop-k-test, else-g-n}
 
-pub search-init : goal.search-init
-search-init c =
-    (omega arith, inside-all c.args.words.now c.args.counts.now c.requires, groups-all c.args.words.now c.args.counts.now c.args.name.now)
+pub loop-g-init : goal.loop-g-init
+loop-g-init c =
+    (inside-all c.args.words.now c.args.counts.now c.requires, groups-all c.args.words.now c.args.counts.now c.args.name.now)
 
-pub loop-left-init : goal.loop-left-init
-loop-left-init c = (
-  rw c.if-size-n.true at (group-inside c.args.words.now c.args.counts.now c.search.g c.search.start (omega arith) c.search.invariant.1),
-  group-enter c.args.words.now c.args.counts.now c.search.g c.search.start (omega arith) c.args.name.now c.search.invariant.2 _ c.if-size-n.true,
-)
+pub loop-k-init : goal.loop-k-init
+loop-k-init c =
+    turn-first _ _ _ _ _ _ (group-enter c.args.words.now c.args.counts.now c.loop-g.g c.loop-g.start (omega arith) c.args.name.now c.loop-g.invariant.1 _ c.if-g-n.true)
+
+pub overflow_mul-at : goal.overflow_mul-at
+overflow_mul-at c =
+    let i = rw c.if-g-n.true at (group-inside c.args.words.now c.args.counts.now c.loop-g.g c.loop-g.start (omega arith) c.loop-g.invariant.0) in
+    omega (arith, word-at _ c.loop-k.k _ _ _ (omega arith) i)
 
 pub overflow_add-at : goal.overflow_add-at
 overflow_add-at c =
-    omega (arith, (word-inside (length c.args.words.now) (length c.args.name.now) c.loop-left.at c.loop-left.left (omega arith) c.loop-left.invariant.0).0)
+    let i = rw c.if-g-n.true at (group-inside c.args.words.now c.args.counts.now c.loop-g.g c.loop-g.start (omega arith) c.loop-g.invariant.0) in
+    omega (arith, word-at _ c.loop-k.k _ _ _ (omega arith) i)
+
+pub overflow_add-at-in-loop-k : goal.overflow_add-at-in-loop-k
+overflow_add-at-in-loop-k c =
+    let i = rw c.if-g-n.true at (group-inside c.args.words.now c.args.counts.now c.loop-g.g c.loop-g.start (omega arith) c.loop-g.invariant.0) in
+    omega (arith, word-at _ c.loop-k.k _ _ _ (omega arith) i)
 
 pub slice_bounds-same_bytes-end : goal.slice_bounds-same_bytes-end
 slice_bounds-same_bytes-end c =
-    (word-inside (length c.args.words.now) (length c.args.name.now) c.loop-left.at c.loop-left.left (omega arith) c.loop-left.invariant.0).0
+    let i = rw c.if-g-n.true at (group-inside c.args.words.now c.args.counts.now c.loop-g.g c.loop-g.start (omega arith) c.loop-g.invariant.0) in
+    word-at _ c.loop-k.k _ _ _ (omega arith) i
 
-pub overflow_add-at-in-loop-left : goal.overflow_add-at-in-loop-left
-overflow_add-at-in-loop-left c =
-    omega (arith, (word-inside (length c.args.words.now) (length c.args.name.now) c.loop-left.at c.loop-left.left (omega arith) c.loop-left.invariant.0).0)
-
-pub loop-left-preserved : goal.loop-left-preserved
-loop-left-preserved c = (
-  (word-inside (length c.args.words.now) (length c.args.name.now) c.loop-left.at c.loop-left.left (omega arith) c.loop-left.invariant.0).1,
-  word_next c.args.words.now c.args.name.now _ _ _ c.loop-left.left (omega arith) (sym c.same_bytes.ensures ∙ c.if-same_bytes.false) c.loop-left.invariant.1,
-)
+pub loop-k-preserved : goal.loop-k-preserved
+loop-k-preserved c =
+    turn_next c.args.words.now c.args.name.now _ _ _ _ c.loop-k.k (omega arith) (sym c.same_bytes.ensures ∙ c.if-same_bytes.false) c.loop-k.invariant
 
 pub overflow_mul-start : goal.overflow_mul-start
 overflow_mul-start c =
-    omega (arith, group-inside c.args.words.now c.args.counts.now c.search.g c.search.start (omega arith) c.search.invariant.1)
+    omega (arith, group-inside c.args.words.now c.args.counts.now c.loop-g.g c.loop-g.start (omega arith) c.loop-g.invariant.0)
 
-pub overflow_add-start : goal.overflow_add-start
-overflow_add-start c =
-    omega (arith, group-inside c.args.words.now c.args.counts.now c.search.g c.search.start (omega arith) c.search.invariant.1)
-
-pub search-preserved : goal.search-preserved
-search-preserved c = (
-  omega arith,
-  inside-next c.args.words.now c.args.counts.now c.search.g c.search.start (omega arith) c.search.invariant.1,
-  elim c.if-size-n.branch [
-    | then-size-n+else-loop-left-test w ↦ words-end c.args.words.now c.args.name.now _ _ w.loop-left.at w.loop-left.left (omega arith) w.loop-left.invariant.1
-    | else-size-n w ↦ group-pass c.args.words.now c.args.counts.now c.search.g c.search.start (omega arith) c.args.name.now
-        c.search.invariant.2 c.search.invariant.1 w.if-size-n.false
-  ],
-)
-
-pub returns-then-g-counts : goal.returns-then-g-counts
-returns-then-g-counts c =
-    groups-end c.args.words.now c.args.counts.now c.args.name.now c.search.g c.search.start (omega arith) c.search.invariant.2
+pub overflow_add-start-in-loop-g : goal.overflow_add-start-in-loop-g
+overflow_add-start-in-loop-g c =
+    omega (arith, group-inside c.args.words.now c.args.counts.now c.loop-g.g c.loop-g.start (omega arith) c.loop-g.invariant.0)
 
 pub returns-then-same_bytes : goal.returns-then-same_bytes
 returns-then-same_bytes c =
-    word-found c.args.words.now c.args.name.now _ _ _ c.loop-left.left (omega arith) (sym c.same_bytes.ensures ∙ c.if-same_bytes.true)
-    c.loop-left.invariant.1
+    word-found c.args.words.now c.args.name.now _ _ _ _ (omega arith) (sym c.same_bytes.ensures ∙ c.if-same_bytes.true) c.loop-k.invariant
+
+pub loop-g-preserved : goal.loop-g-preserved
+loop-g-preserved c =
+    let words = c.args.words.now in
+    let counts = c.args.counts.now in
+    let inside = c.loop-g.invariant.0 in (
+      inside-next words counts c.loop-g.g c.loop-g.start (omega arith) inside,
+      elim c.if-g-n.branch [
+        | then-g-n+else-loop-k-test w ↦ words-end words c.args.name.now _ _ _ _ (omega arith) w.loop-k.invariant
+        | else-g-n w ↦ group-pass words counts c.loop-g.g c.loop-g.start (omega arith) c.args.name.now c.loop-g.invariant.1 inside w.if-g-n.false
+      ],
+    )
+
+pub returns-after-loop-g : goal.returns-after-loop-g
+returns-after-loop-g c =
+    groups-end c.args.words.now c.args.counts.now c.args.name.now c.loop-g.g c.loop-g.start (omega arith) c.loop-g.invariant.1

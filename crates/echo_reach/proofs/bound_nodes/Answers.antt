@@ -3,7 +3,7 @@ use borrow.Author.Rules.{rules}
 use mathlib.Core.Path.{◌≡◌}
 use native.Mathlib.Omega.{arith}
 use lib.ListN.{length}
-use Rattle.lent.specs.Lent.{dag_at}
+use Rattle.lent.specs.Arrays.{dag_at}
 use Rattle.echo_reach.specs.Remainders.{same_back}
 use Rattle.echo_reach.specs.Marks.{few-nodes, reaching-root, reaching-down, reaching-over, reaching-same, reaching-ends}
 use Rattle.echo_reach.proofs.bound_nodes.Goals as goal

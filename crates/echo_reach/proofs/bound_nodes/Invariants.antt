@@ -1,6 +1,6 @@
 -- `bound_nodes` meets its contract: from the root down, the nodes that are reached are marked, over the flags with the root's mark alone.
 use Prim.Native.Nat.{◌+◌, ◌≤◌}
-use Rattle.lent.specs.Lent.{dag_at}
+use Rattle.lent.specs.Arrays.{dag_at}
 use Rattle.echo_reach.specs.Marks.{Reaching}
 use Rattle.echo_reach.proofs.bound_nodes.Given as goal
 

@@ -1,7 +1,7 @@
 -- `visit` meets its contract.
 use native.Mathlib.Omega.{arith}
 use Rattle.lets.specs.Lets.{operands_of}
-use Rattle.lent.specs.Lent.{dag_at}
+use Rattle.lent.specs.Arrays.{dag_at}
 use Rattle.echo_reach.specs.Marks.{few-nodes, record-within, record_is, form-within, adds-operands, visited-free, visited-marked}
 use Rattle.echo_spec.specs.Input.{dag_of}
 use Rattle.echo_reach.proofs.visit.Goals as goal

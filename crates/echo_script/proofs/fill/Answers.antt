@@ -2,7 +2,7 @@
 use Rattle.lists.specs.Tests.{true→T}
 use Rattle.echo_spec.specs.Input.{dag_of}
 use Rattle.echo_spec.specs.ColumnLaws.{columns-aligned}
-use Rattle.lent.specs.Lent.{problem_at}
+use Rattle.lent.specs.Arrays.{problem_at}
 use Rattle.echo_checks.specs.Answered.{passed, failed}
 use Rattle.echo_checks.specs.Limits.{bounds}
 use Rattle.echo_decls.specs.Declarable.{each-called}

@@ -1,7 +1,7 @@
 -- `echo_script::measure` meets its contract: the checks before the names, in order. Assumes nothing.
 use Rattle.lists.specs.Tests.{true→T}
 use native.Mathlib.Omega.{arith}
-use Rattle.lent.specs.Lent.{problem_at}
+use Rattle.lent.specs.Arrays.{problem_at}
 use Rattle.echo_checks.specs.Answered.{passed, failed}
 use Rattle.echo_checks.specs.Limits.{bounds}
 use Rattle.echo_script.proofs.Checking.{over-limit, ill-encoded, bad-columns, bad-widths, ill-formed, measured}

@@ -2,7 +2,7 @@
 use native.Mathlib.Omega.{arith}
 use Rattle.echo_spec.specs.Input.{dag_of}
 use Rattle.echo_spec.specs.ColumnLaws.{columns-aligned}
-use Rattle.lent.specs.Lent.{problem_at}
+use Rattle.lent.specs.Arrays.{problem_at}
 use Rattle.echo_checks.specs.Answered.{passed, failed}
 use Rattle.echo_checks.specs.Limits.{bounds}
 use Rattle.echo_script.proofs.Checking.{names-refused, sharing-refused, filling-refused, roots-told}

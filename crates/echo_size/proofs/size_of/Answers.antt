@@ -1,5 +1,5 @@
 -- `echo_size::size_of` meets its contract. Assumes nothing.
-use Rattle.lent.specs.Lent.{problem_at}
+use Rattle.lent.specs.Arrays.{problem_at}
 use Rattle.echo_kernel.proofs.Answering.{listed}
 use Rattle.echo_size.proofs.Sizing.{size-refused, countable, size-told}
 use Rattle.echo_size.proofs.size_of.Goals as goal

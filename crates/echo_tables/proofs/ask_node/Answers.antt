@@ -4,7 +4,7 @@ use native.Mathlib.Omega.{arith}
 use lib.ListN.{length}
 use Rattle.echo_spec.specs.Input.{dag_of, aname_table, fname_table}
 use Rattle.echo_spec.specs.ColumnLaws.{names-counted}
-use Rattle.lent.specs.Lent.{problem_at, dag_at}
+use Rattle.lent.specs.Arrays.{problem_at, dag_at}
 use Rattle.blast_kernel.specs.Codes.{in-arm}
 use Rattle.echo_tables.specs.Asked.{asked-variable, asked-rotation, asked-select, asked-no-array, asked-call, asked-no-function, asked-nothing}
 use borrow.Author.Rules.{rules}

@@ -1,5 +1,5 @@
 -- `echo_tables::call_ok` meets its contract: the tests in the order of the definition. Assumes nothing.
-use Rattle.lent.specs.Lent.{dag_at}
+use Rattle.lent.specs.Arrays.{dag_at}
 use Rattle.lent.specs.Records.{node_of}
 use Rattle.echo_spec.specs.Input.{dag_of}
 use Rattle.echo_tables.specs.Asked.{call-width, call-absent, call_by}

@@ -4,7 +4,7 @@ use mathlib.Core.Path.{ap, ◌∙◌}
 use native.Mathlib.Omega.{arith}
 use Rattle.echo_spec.specs.Input as input
 use Rattle.blast_kernel.specs.Codes.{code_of}
-use Rattle.lent.specs.Lent.{dag_at}
+use Rattle.lent.specs.Arrays.{dag_at}
 use Rattle.echo_tables.specs.Refused.{refused-small}
 use Rattle.echo_tables.proofs.code_node.Goals as goal
 

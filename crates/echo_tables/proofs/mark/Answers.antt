@@ -3,7 +3,7 @@ use mathlib.Core.Path.{sym, ◌∙◌}
 use native.Mathlib.Omega.{arith}
 use lib.ListN.{length-set}
 use Rattle.echo_spec.specs.Input.{dag_of, no_node}
-use Rattle.lent.specs.Lent.{problem_at, dag_at}
+use Rattle.lent.specs.Arrays.{problem_at, dag_at}
 use Rattle.lent.specs.Records.{nodes-length, nodes-at}
 use Rattle.echo_tables.specs.Asked.{marked_more}
 use Rattle.echo_tables.proofs.mark.Goals as goal

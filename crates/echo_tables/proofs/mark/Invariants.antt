@@ -3,7 +3,7 @@ use Prim.Native.Nat.{◌≤◌, ◌-◌}
 use mathlib.Core.Path.{◌≡◌}
 use lib.ListN.{length}
 use Rattle.echo_spec.specs.Input.{nodes_of}
-use Rattle.lent.specs.Lent.{problem_at, dag_at}
+use Rattle.lent.specs.Arrays.{problem_at, dag_at}
 use Rattle.echo_tables.specs.Asked.{MarkedTo}
 use Rattle.echo_tables.proofs.mark.Given as goal
 

@@ -1,7 +1,7 @@
 -- `echo_tables::refuse_node` meets its contract: what is asked of the node, or else its operands, which are in the table. Assumes nothing.
 use native.Mathlib.Omega.{arith}
 use Rattle.echo_spec.specs.Input.{dag_of}
-use Rattle.lent.specs.Lent.{problem_at}
+use Rattle.lent.specs.Arrays.{problem_at}
 use Rattle.lent.specs.Records.{nodes-length}
 use mathlib.Core.Path.{refl}
 use Rattle.echo_tables.specs.Uses.{marking-inside, marking-asked, marking-operands}

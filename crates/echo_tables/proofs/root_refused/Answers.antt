@@ -1,7 +1,7 @@
 -- `echo_tables::root_refused` meets its contract: there are as many nodes as widths. Assumes nothing.
 use native.Mathlib.Omega.{arith}
 use mathlib.Core.Path.{sym, ◌∙◌}
-use Rattle.lent.specs.Lent.{problem_at, dag_at}
+use Rattle.lent.specs.Arrays.{problem_at, dag_at}
 use lib.ListN.{length}
 use mathlib.Core.Bool.{true}
 use Rattle.echo_tables.specs.Refused.{walk-past}

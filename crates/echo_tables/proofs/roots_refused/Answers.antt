@@ -2,7 +2,7 @@
 use mathlib.Core.Path.{refl}
 use native.Mathlib.Omega.{arith}
 use Rattle.echo_spec.specs.Walk.{formula, walk, walk_roots}
-use Rattle.lent.specs.Lent.{dag_at}
+use Rattle.lent.specs.Arrays.{dag_at}
 use Rattle.echo_tables.specs.Uses.{entry-stops, entry-passes, entries-end}
 use Rattle.echo_tables.proofs.roots_refused.Goals as goal
 

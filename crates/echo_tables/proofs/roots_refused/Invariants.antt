@@ -4,7 +4,7 @@ use mathlib.Core.Path.{◌≡◌}
 use mathlib.Core.List.{map}
 use lib.ListN.{length, drop}
 use Rattle.echo_spec.specs.Walk.{formula, walk_all, walk, walk_roots}
-use Rattle.lent.specs.Lent.{dag_at}
+use Rattle.lent.specs.Arrays.{dag_at}
 use Rattle.echo_tables.proofs.roots_refused.Given as goal
 
 abbrev pub invariant-loop-k : goal.invariant-loop-k

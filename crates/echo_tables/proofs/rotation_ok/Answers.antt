@@ -1,6 +1,6 @@
 -- `echo_tables::rotation_ok` meets its contract. Assumes nothing.
 use native.Mathlib.Omega.{arith}
-use Rattle.lent.specs.Lent.{dag_at}
+use Rattle.lent.specs.Arrays.{dag_at}
 use Rattle.lent.specs.Records.{node_of}
 use Rattle.echo_spec.specs.Input.{dag_of}
 use Rattle.echo_tables.specs.Asked.{rotation-empty, rotation-wide, rotation-by}

@@ -1,5 +1,5 @@
 -- `echo_tables::variable_ok` meets its contract. Assumes nothing.
-use Rattle.lent.specs.Lent.{dag_at}
+use Rattle.lent.specs.Arrays.{dag_at}
 use Rattle.lent.specs.Records.{node_of}
 use Rattle.echo_spec.specs.Input.{dag_of}
 use Rattle.echo_tables.specs.Asked.{variable-absent, variable-known}

@@ -1,5 +1,5 @@
 use Prim.Native.Nat.{◌+◌}
-use Rattle.lent.specs.Lent.{problem_at}
+use Rattle.lent.specs.Arrays.{problem_at}
 use Rattle.echo_bytes.specs.Page.{page}
 use Rattle.echo_walk.specs.Operands.{Entries}
 use Rattle.echo_walk.specs.Texts.{levels_text, args_text}

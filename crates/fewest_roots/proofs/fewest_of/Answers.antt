@@ -1,6 +1,6 @@
 -- `fewest_roots::fewest_of` meets its contract. Assumes nothing.
 use native.Mathlib.Omega.{arith}
-use Rattle.lent.specs.Lent.{problem_at}
+use Rattle.lent.specs.Arrays.{problem_at}
 use mathlib.Core.Path.{sym}
 use lib.Seq.{length-take-le}
 use Rattle.fewest_roots.proofs.Telling.{before-names}

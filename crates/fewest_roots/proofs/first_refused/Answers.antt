@@ -3,7 +3,7 @@ use native.Mathlib.Omega.{arith}
 use Prim.Native.Nat.{◌-◌}
 use mathlib.Core.Path.{sym, ◌∙◌}
 use lib.ListN.{length}
-use Rattle.lent.specs.Lent.{dag_at}
+use Rattle.lent.specs.Arrays.{dag_at}
 use Rattle.fewest_sharing.specs.Found.{below_more}
 use Rattle.fewest_roots.proofs.Telling.{root-alone, zero_of, none-refused, left-inside, one_left, none_left}
 use Rattle.fewest_roots.proofs.first_refused.Goals as goal

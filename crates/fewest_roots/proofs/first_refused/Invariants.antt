@@ -4,7 +4,7 @@ use mathlib.Core.Path.{◌≡◌}
 use mathlib.Core.List.{[], ◌∷◌}
 use lib.ListN.{length, get_or}
 use Rattle.echo_spec.specs.Walk.{walk_roots}
-use Rattle.lent.specs.Lent.{dag_at}
+use Rattle.lent.specs.Arrays.{dag_at}
 use Rattle.fewest_roots.proofs.first_refused.Given as goal
 
 abbrev pub invariant-loop-left : goal.invariant-loop-left

@@ -1,6 +1,6 @@
 -- `fewest_roots::from_declared` meets its contract. Assumes nothing.
 use Rattle.echo_spec.specs.Input.{dag_of}
-use Rattle.lent.specs.Lent.{problem_at}
+use Rattle.lent.specs.Arrays.{problem_at}
 use Rattle.lent.specs.Clearing.{replicate-zeros}
 use Rattle.fewest_roots.proofs.Telling.{declared-refused, walked-told}
 use Rattle.fewest_roots.proofs.from_declared.Goals as goal

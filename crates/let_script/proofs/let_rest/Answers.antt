@@ -2,7 +2,7 @@
 use mathlib.Core.Path.{refl, sym}
 use native.Mathlib.Omega.{arith}
 use Rattle.lists.specs.Bytes.{bytes}
-use Rattle.lent.specs.Lent.{problem_at}
+use Rattle.lent.specs.Arrays.{problem_at}
 use Rattle.echo_checks.specs.Limits.{bounds}
 use Rattle.echo_reach.specs.Marks.{odd-flags}
 use Rattle.echo_script.proofs.Checking.{wrote-refused, wrote-done}

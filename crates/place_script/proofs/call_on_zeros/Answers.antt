@@ -1,38 +1,44 @@
 -- `call_on_zeros` meets its contract: at each turn the arguments before the place reached have their nodes and wait.
-use mathlib.Core.Path.{refl}
-use mathlib.Core.List.{map}
-use native.Mathlib.Omega.{arith}
-use borrow.Author.Tests.{not-true, not-false}
+use Rattle.std.proofs.Common.{map, refl, arith, Some, None}
 use Rattle.readback.specs.Rebuild.{here}
 use Rattle.place_script.specs.Zeros.{zeroing-start, now, place-low, top-low, argument-on, zero-over, zero-small, zero-next, zero-full, zero-nodes, zero-stack, zeros-called}
 use Rattle.place_script.proofs.call_on_zeros.Goals as goal
 
-pub loop-heap-init : goal.loop-heap-init
-loop-heap-init c = λ ws first x h k. zeroing-start x h k
+pub loop-x-init : goal.loop-x-init
+loop-x-init c = λ ws first x h k. zeroing-start x h k
 
-pub next_argument-x-requires : goal.next_argument-x-requires
-next_argument-x-requires c = place-low (c.loop-heap.invariant c.requires.0 c.requires.1.0 c.requires.1.1 c.requires.1.2 c.requires.1.3)
-
-pub add_call-r-requires : goal.add_call-r-requires
-add_call-r-requires c = ((c.loop-heap.bits, (now (c.loop-heap.invariant c.requires.0 c.requires.1.0 c.requires.1.1 c.requires.1.2 c.requires.1.3), (c.loop-heap.invariant c.requires.0 c.requires.1.0 c.requires.1.1 c.requires.1.2 c.requires.1.3).held)), omega arith, top-low (c.loop-heap.invariant c.requires.0 c.requires.1.0 c.requires.1.1 c.requires.1.2 c.requires.1.3))
-
-pub returns-in-No : goal.returns-in-No
-returns-in-No c = λ ws first x h k. zeros-called (c.loop-heap.invariant ws first x h k) c.next_argument-x.result (c.next_argument-x.ensures (c.loop-heap.invariant ws first x h k).left (c.loop-heap.invariant ws first x h k).sorts) c.in-No.is c.args.g c.args.width c.add_call-r.new.heap c.add_call-r.new.nodes c.loop-heap.bits c.add_call-r.result c.added.result (c.add_call-r.ensures c.loop-heap.bits (now (c.loop-heap.invariant ws first x h k)) c.args.s.now (map here (zero-nodes (c.loop-heap.invariant ws first x h k) c.next_argument-x.result (c.next_argument-x.ensures (c.loop-heap.invariant ws first x h k).left (c.loop-heap.invariant ws first x h k).sorts) c.in-No.is)) (zero-nodes (c.loop-heap.invariant ws first x h k) c.next_argument-x.result (c.next_argument-x.ensures (c.loop-heap.invariant ws first x h k).left (c.loop-heap.invariant ws first x h k).sorts) c.in-No.is) (c.loop-heap.invariant ws first x h k).held (zero-stack (c.loop-heap.invariant ws first x h k) c.next_argument-x.result (c.next_argument-x.ensures (c.loop-heap.invariant ws first x h k).left (c.loop-heap.invariant ws first x h k).sorts) c.in-No.is) refl) c.added.ensures.0 c.added.ensures.1
+pub next_argument-requires : goal.next_argument-requires
+next_argument-requires c = place-low (c.loop-x.invariant c.requires.0 c.requires.1.0 c.requires.1.1 c.requires.1.2 c.requires.1.3)
 
 pub settle_number-requires : goal.settle_number-requires
-settle_number-requires c = (now (c.loop-heap.invariant c.requires.0 c.requires.1.0 c.requires.1.1 c.requires.1.2 c.requires.1.3), (c.loop-heap.invariant c.requires.0 c.requires.1.0 c.requires.1.1 c.requires.1.2 c.requires.1.3).held)
+settle_number-requires c = (now (c.loop-x.invariant c.requires.0 c.requires.1.0 c.requires.1.1 c.requires.1.2 c.requires.1.3), (c.loop-x.invariant c.requires.0 c.requires.1.0 c.requires.1.1 c.requires.1.2 c.requires.1.3).held)
 
-pub returns-in_default : goal.returns-in_default
-returns-in_default c = λ ws first x h k. zero-over (c.loop-heap.invariant ws first x h k) c.next_argument-x.result (c.next_argument-x.ensures (c.loop-heap.invariant ws first x h k).left (c.loop-heap.invariant ws first x h k).sorts) c.in-Is.w c.in-Is.e c.in-Is.is c.settle_number.new.heap c.settle_number.new.nodes c.settle_number.new.bits c.settle_number.result (c.settle_number.ensures (now (c.loop-heap.invariant ws first x h k)) (c.loop-heap.invariant ws first x h k).held) c.args.g c.args.width c.in_default.is
+pub returns-in_err-m : goal.returns-in_err-m
+returns-in_err-m c =
+    λ ws first x h k. rw c.from_residual.ensures (zero-over (c.loop-x.invariant ws first x h k) c.next_argument.result (c.next_argument.ensures (c.loop-x.invariant ws first x h k).left (c.loop-x.invariant ws first x h k).sorts) c.in-Some.x.value c.in-Some.x.end c.in-Some.is c.settle_number.new.heap c.settle_number.result (c.settle_number.ensures (now (c.loop-x.invariant ws first x h k)) (c.loop-x.invariant ws first x h k).held) c.args.g c.args.width c.in_err-m.was)
 
 pub push_node-requires : goal.push_node-requires
-push_node-requires c = let l = zero-small (c.loop-heap.invariant c.requires.0 c.requires.1.0 c.requires.1.1 c.requires.1.2 c.requires.1.3) c.next_argument-x.result (c.next_argument-x.ensures (c.loop-heap.invariant c.requires.0 c.requires.1.0 c.requires.1.1 c.requires.1.2 c.requires.1.3).left (c.loop-heap.invariant c.requires.0 c.requires.1.0 c.requires.1.1 c.requires.1.2 c.requires.1.3).sorts) c.in-Is.w c.in-Is.e c.in-Is.is c.settle_number.new.heap c.settle_number.new.nodes c.settle_number.new.bits c.settle_number.result (c.settle_number.ensures (now (c.loop-heap.invariant c.requires.0 c.requires.1.0 c.requires.1.1 c.requires.1.2 c.requires.1.3)) (c.loop-heap.invariant c.requires.0 c.requires.1.0 c.requires.1.1 c.requires.1.2 c.requires.1.3).held) c.in-At.m c.in-At.is in omega arith
+push_node-requires c = let l = zero-small (c.loop-x.invariant c.requires.0 c.requires.1.0 c.requires.1.1 c.requires.1.2 c.requires.1.3) c.next_argument.result (c.next_argument.ensures (c.loop-x.invariant c.requires.0 c.requires.1.0 c.requires.1.1 c.requires.1.2 c.requires.1.3).left (c.loop-x.invariant c.requires.0 c.requires.1.0 c.requires.1.1 c.requires.1.2 c.requires.1.3).sorts) c.in-Some.x.value c.in-Some.x.end c.in-Some.is c.settle_number.new.heap c.settle_number.result (c.settle_number.ensures (now (c.loop-x.invariant c.requires.0 c.requires.1.0 c.requires.1.1 c.requires.1.2 c.requires.1.3)) (c.loop-x.invariant c.requires.0 c.requires.1.0 c.requires.1.1 c.requires.1.2 c.requires.1.3).held) c.in_ok-m.m c.in_ok-m.was in omega arith
 
-pub returns-then-not-push_node : goal.returns-then-not-push_node
-returns-then-not-push_node c = λ ws first x h k. zero-full (c.loop-heap.invariant ws first x h k) c.next_argument-x.result (c.next_argument-x.ensures (c.loop-heap.invariant ws first x h k).left (c.loop-heap.invariant ws first x h k).sorts) c.in-Is.w c.in-Is.e c.in-Is.is c.settle_number.new.heap c.settle_number.new.nodes c.settle_number.new.bits c.settle_number.result (c.settle_number.ensures (now (c.loop-heap.invariant ws first x h k)) (c.loop-heap.invariant ws first x h k).held) c.in-At.m c.in-At.is c.push_node.new.heap c.push_node.ensures.0 c.push_node.result c.push_node.ensures.1 c.args.g c.args.width (not-true c.push_node.result c.if-not-push_node.true-raw)
+pub returns-in_err-push_node : goal.returns-in_err-push_node
+returns-in_err-push_node c =
+    λ ws first x h k. rw c.from_residual-in_err-push_node.ensures (zero-full (c.loop-x.invariant ws first x h k) c.next_argument.result (c.next_argument.ensures (c.loop-x.invariant ws first x h k).left (c.loop-x.invariant ws first x h k).sorts) c.in-Some.x.value c.in-Some.x.end c.in-Some.is c.settle_number.new.heap c.settle_number.result (c.settle_number.ensures (now (c.loop-x.invariant ws first x h k)) (c.loop-x.invariant ws first x h k).held) c.in_ok-m.m c.in_ok-m.was
+    c.push_node.new.heap c.push_node.ensures.held c.push_node.result c.push_node.ensures.pushed c.args.g c.args.width c.in_err-push_node.was)
 
-pub loop-heap-smaller : goal.loop-heap-smaller
-loop-heap-smaller c = let l = argument-on (c.loop-heap.invariant c.requires.0 c.requires.1.0 c.requires.1.1 c.requires.1.2 c.requires.1.3) c.next_argument-x.result (c.next_argument-x.ensures (c.loop-heap.invariant c.requires.0 c.requires.1.0 c.requires.1.1 c.requires.1.2 c.requires.1.3).left (c.loop-heap.invariant c.requires.0 c.requires.1.0 c.requires.1.1 c.requires.1.2 c.requires.1.3).sorts) c.in-Is.w c.in-Is.e c.in-Is.is in omega (arith, l.0, l.1)
+pub loop-x-smaller : goal.loop-x-smaller
+loop-x-smaller c = let l = argument-on (c.loop-x.invariant c.requires.0 c.requires.1.0 c.requires.1.1 c.requires.1.2 c.requires.1.3) c.next_argument.result (c.next_argument.ensures (c.loop-x.invariant c.requires.0 c.requires.1.0 c.requires.1.1 c.requires.1.2 c.requires.1.3).left (c.loop-x.invariant c.requires.0 c.requires.1.0 c.requires.1.1 c.requires.1.2 c.requires.1.3).sorts) c.in-Some.x.value c.in-Some.x.end c.in-Some.is in omega (arith, l.0, l.1)
 
-pub loop-heap-preserved : goal.loop-heap-preserved
-loop-heap-preserved c = λ ws first x h k. zero-next (c.loop-heap.invariant ws first x h k) c.next_argument-x.result (c.next_argument-x.ensures (c.loop-heap.invariant ws first x h k).left (c.loop-heap.invariant ws first x h k).sorts) c.in-Is.w c.in-Is.e c.in-Is.is c.settle_number.new.heap c.settle_number.new.nodes c.settle_number.new.bits c.settle_number.result (c.settle_number.ensures (now (c.loop-heap.invariant ws first x h k)) (c.loop-heap.invariant ws first x h k).held) c.in-At.m c.in-At.is c.push_node.new.heap c.push_node.ensures.0 c.push_node.result c.push_node.ensures.1 (not-false c.push_node.result c.if-not-push_node.false-raw)
+pub loop-x-preserved : goal.loop-x-preserved
+loop-x-preserved c =
+    λ ws first x h k. zero-next (c.loop-x.invariant ws first x h k) c.next_argument.result (c.next_argument.ensures (c.loop-x.invariant ws first x h k).left (c.loop-x.invariant ws first x h k).sorts) c.in-Some.x.value c.in-Some.x.end c.in-Some.is c.settle_number.new.heap c.settle_number.result (c.settle_number.ensures (now (c.loop-x.invariant ws first x h k)) (c.loop-x.invariant ws first x h k).held) c.in_ok-m.m c.in_ok-m.was
+    c.push_node.new.heap c.push_node.ensures.held c.push_node.result c.push_node.ensures.pushed _ c.in_ok-push_node.was
+
+pub add_call-requires : goal.add_call-requires
+add_call-requires c = record { holds = (c.loop-x.heap.bits, (now (c.loop-x.invariant c.requires.0 c.requires.1.0 c.requires.1.1 c.requires.1.2 c.requires.1.3), (c.loop-x.invariant c.requires.0 c.requires.1.0 c.requires.1.1 c.requires.1.2 c.requires.1.3).held)); low = omega arith; room = top-low (c.loop-x.invariant c.requires.0 c.requires.1.0 c.requires.1.1 c.requires.1.2 c.requires.1.3) }
+
+pub returns-in_err-add_call : goal.returns-in_err-add_call
+returns-in_err-add_call c =
+    λ ws first x h k. rw c.from_residual-in_err-add_call.ensures (zeros-called (c.loop-x.invariant ws first x h k) c.next_argument.result (c.next_argument.ensures (c.loop-x.invariant ws first x h k).left (c.loop-x.invariant ws first x h k).sorts) c.in_default.is c.args.g c.args.width c.add_call.new.heap None (c.in_err-add_call.ensures (now (c.loop-x.invariant ws first x h k)) c.args.s.now (map here (zero-nodes (c.loop-x.invariant ws first x h k) c.next_argument.result (c.next_argument.ensures (c.loop-x.invariant ws first x h k).left (c.loop-x.invariant ws first x h k).sorts) c.in_default.is)) (zero-nodes (c.loop-x.invariant ws first x h k) c.next_argument.result (c.next_argument.ensures (c.loop-x.invariant ws first x h k).left (c.loop-x.invariant ws first x h k).sorts) c.in_default.is) (c.loop-x.invariant ws first x h k).held (zero-stack (c.loop-x.invariant ws first x h k) c.next_argument.result (c.next_argument.ensures (c.loop-x.invariant ws first x h k).left (c.loop-x.invariant ws first x h k).sorts) c.in_default.is) refl))
+
+pub returns : goal.returns
+returns c = λ ws first x h k. zeros-called (c.loop-x.invariant ws first x h k) c.next_argument.result (c.next_argument.ensures (c.loop-x.invariant ws first x h k).left (c.loop-x.invariant ws first x h k).sorts) c.in_default.is c.args.g c.args.width c.add_call.new.heap (Some _) (c.in_ok-add_call.ensures (now (c.loop-x.invariant ws first x h k)) c.args.s.now (map here (zero-nodes (c.loop-x.invariant ws first x h k) c.next_argument.result (c.next_argument.ensures (c.loop-x.invariant ws first x h k).left (c.loop-x.invariant ws first x h k).sorts) c.in_default.is)) (zero-nodes (c.loop-x.invariant ws first x h k) c.next_argument.result (c.next_argument.ensures (c.loop-x.invariant ws first x h k).left (c.loop-x.invariant ws first x h k).sorts) c.in_default.is) (c.loop-x.invariant ws first x h k).held (zero-stack (c.loop-x.invariant ws first x h k) c.next_argument.result (c.next_argument.ensures (c.loop-x.invariant ws first x h k).left (c.loop-x.invariant ws first x h k).sorts) c.in_default.is) refl)

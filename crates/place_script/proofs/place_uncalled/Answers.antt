@@ -1,7 +1,5 @@
 -- `place_uncalled` meets its contract: at each turn the first g functions are through.
-use mathlib.Core.Path.{refl}
-use native.Mathlib.Omega.{arith}
-use borrow.Author.Tests.{not-true, not-false}
+use Rattle.std.proofs.Common.{refl, arith}
 use Rattle.rebuilt.specs.Built.{function_at}
 use Rattle.place_script.specs.Uncalled.{uncalling-start, uncalling-end, function-called, function-zeros, function-over}
 use Rattle.place_script.proofs.place_uncalled.Goals as goal
@@ -10,28 +8,32 @@ pub overflow_sub-n : goal.overflow_sub-n
 overflow_sub-n c = omega (arith, c.requires.2.functions)
 
 pub loop-g-init : goal.loop-g-init
-loop-g-init c = ((λ D first κ h k. uncalling-start D h k), omega (arith, c.requires.2.functions))
+loop-g-init c = λ D first κ h k. uncalling-start D h k
 
 pub offset_bounds-flags-g : goal.offset_bounds-flags-g
-offset_bounds-flags-g c = omega (arith, c.requires.2.functions, c.requires.4, c.loop-g.invariant.1)
+offset_bounds-flags-g c = omega (arith, c.requires.2.functions, c.requires.4, c.loop-g-test.true)
 
 pub bounds-flags-g : goal.bounds-flags-g
-bounds-flags-g c = omega (arith, c.requires.2.functions, c.requires.4, c.loop-g.invariant.1)
+bounds-flags-g c = omega (arith, c.requires.2.functions, c.requires.4, c.loop-g-test.true)
 
 pub function_at-f-requires : goal.function_at-f-requires
-function_at-f-requires c = ((c.requires.0, c.requires.2), c.requires.3, omega (arith, c.loop-g.invariant.1))
+function_at-f-requires c = ((c.requires.0, c.requires.2), c.requires.3, omega (arith, c.requires.2.functions, c.loop-g-test.true))
 
 pub call_on_zeros-requires : goal.call_on_zeros-requires
-call_on_zeros-requires c = ((function_at c.requires.0 c.loop-g.g).arguments, ((c.loop-g.invariant.0 c.requires.0 c.requires.1 c.requires.2 c.requires.5 c.requires.6).now, (c.function_at-f.ensures c.requires.0 c.requires.2).0, (c.loop-g.invariant.0 c.requires.0 c.requires.1 c.requires.2 c.requires.5 c.requires.6).held, (c.loop-g.invariant.0 c.requires.0 c.requires.1 c.requires.2 c.requires.5 c.requires.6).stacked))
+call_on_zeros-requires c = ((function_at c.requires.0 c.loop-g.g).arguments, ((c.loop-g.invariant c.requires.0 c.requires.1 c.requires.2 c.requires.5 c.requires.6).now, (c.function_at-f.ensures c.requires.0 c.requires.2).0, (c.loop-g.invariant c.requires.0 c.requires.1 c.requires.2 c.requires.5 c.requires.6).held, (c.loop-g.invariant c.requires.0 c.requires.1 c.requires.2 c.requires.5 c.requires.6).stacked))
 
-pub returns-then-not-call_on_zeros : goal.returns-then-not-call_on_zeros
-returns-then-not-call_on_zeros c = λ D first κ h k. function-over (c.loop-g.invariant.0 D first κ h k) (omega (arith, κ.functions, c.loop-g.invariant.1)) c.if-flags-g-eq0.true (function_at D c.loop-g.g).arguments c.function_at-f.result.width refl (c.function_at-f.ensures D κ).1 c.call_on_zeros.new.heap c.call_on_zeros.new.nodes c.call_on_zeros.new.bits c.call_on_zeros.result (not-true c.call_on_zeros.result c.if-not-call_on_zeros.true-raw) (c.call_on_zeros.ensures (function_at D c.loop-g.g).arguments (c.loop-g.invariant.0 D first κ h k).now (c.function_at-f.ensures D κ).0 (c.loop-g.invariant.0 D first κ h k).held (c.loop-g.invariant.0 D first κ h k).stacked)
+pub returns-in_err-call_on_zeros : goal.returns-in_err-call_on_zeros
+returns-in_err-call_on_zeros c =
+    λ D first κ h k. rw c.from_residual.ensures (function-over (c.loop-g.invariant D first κ h k) (omega (arith, κ.functions, c.loop-g-test.true)) c.if-flags-g-ne0.false (function_at D c.loop-g.g).arguments c.function_at-f.result.width refl (c.function_at-f.ensures D κ).1
+    c.call_on_zeros.new.heap c.call_on_zeros.result c.in_err-call_on_zeros.was (c.call_on_zeros.ensures (function_at D c.loop-g.g).arguments (c.loop-g.invariant D first κ h k).now (c.function_at-f.ensures D κ).0 (c.loop-g.invariant D first κ h k).held (c.loop-g.invariant D first κ h k).stacked))
 
-pub loop-g-preserved-then-flags-g-eq0 : goal.loop-g-preserved-then-flags-g-eq0
-loop-g-preserved-then-flags-g-eq0 c = ((λ D first κ h k. function-zeros (c.loop-g.invariant.0 D first κ h k) (omega (arith, κ.functions, c.loop-g.invariant.1)) c.if-flags-g-eq0.true (function_at D c.loop-g.g).arguments c.function_at-f.result.width refl (c.function_at-f.ensures D κ).1 c.call_on_zeros.new.heap c.call_on_zeros.new.nodes c.call_on_zeros.new.bits c.call_on_zeros.result (not-false c.call_on_zeros.result c.if-not-call_on_zeros.false-raw) (c.call_on_zeros.ensures (function_at D c.loop-g.g).arguments (c.loop-g.invariant.0 D first κ h k).now (c.function_at-f.ensures D κ).0 (c.loop-g.invariant.0 D first κ h k).held (c.loop-g.invariant.0 D first κ h k).stacked)), c.loop-g.invariant.1)
+pub loop-g-preserved-then-flags-g-ne0 : goal.loop-g-preserved-then-flags-g-ne0
+loop-g-preserved-then-flags-g-ne0 c = λ D first κ h k. function-called (c.loop-g.invariant D first κ h k) (omega (arith, κ.functions, c.loop-g-test.true)) c.if-flags-g-ne0.true
 
 pub loop-g-preserved : goal.loop-g-preserved
-loop-g-preserved c = ((λ D first κ h k. function-called (c.loop-g.invariant.0 D first κ h k) (omega (arith, κ.functions, c.loop-g.invariant.1)) c.if-flags-g-eq0.false), c.loop-g.invariant.1)
+loop-g-preserved c =
+    λ D first κ h k. function-zeros (c.loop-g.invariant D first κ h k) (omega (arith, κ.functions, c.loop-g-test.true)) c.if-flags-g-ne0.false (function_at D c.loop-g.g).arguments c.function_at-f.result.width refl (c.function_at-f.ensures D κ).1
+    c.call_on_zeros.new.heap c.call_on_zeros.result _ c.in_ok-call_on_zeros.was (c.call_on_zeros.ensures (function_at D c.loop-g.g).arguments (c.loop-g.invariant D first κ h k).now (c.function_at-f.ensures D κ).0 (c.loop-g.invariant D first κ h k).held (c.loop-g.invariant D first κ h k).stacked)
 
 pub returns : goal.returns
-returns c = λ D first κ h k. uncalling-end (c.loop-g.invariant.0 D first κ h k) (omega (arith, κ.functions, c.loop-g.invariant.1))
+returns c = λ D first κ h k. uncalling-end (c.loop-g.invariant D first κ h k) (omega (arith, κ.functions, c.loop-g-test.false))

@@ -5,7 +5,7 @@ use Rattle.release_meanings.specs.Clashes.{Met}
 use Rattle.release_meanings.proofs.earliest_clash.Given as goal
 
 abbrev pub invariant-loop-n : goal.invariant-loop-n
-invariant-loop-n l = Met l.file l.places l.nexts l.heads l.count l.at l.k
+invariant-loop-n l = Met l.file l.names.places l.names.links l.names.heads l.names.count l.at l.k
 
 abbrev pub decreases-loop-n : goal.decreases-loop-n
 decreases-loop-n l = length l.file - l.at

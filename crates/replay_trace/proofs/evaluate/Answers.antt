@@ -1,5 +1,5 @@
 -- `replay_trace::evaluate` meets its contract. Assumes nothing.
-use Rattle.lent.specs.Lent.{problem_at}
+use Rattle.lent.specs.Arrays.{problem_at}
 use Rattle.trace_theorems.specs.Accepting.{few}
 use Rattle.replay_trace.proofs.Replaying.{lent_at}
 use Rattle.replay_trace.proofs.evaluate.Goals as goal

@@ -1,6 +1,6 @@
 -- `replay_trace::printing` meets its contract. Assumes nothing.
 use native.Mathlib.Omega.{arith}
-use Rattle.lent.specs.Lent.{problem_at}
+use Rattle.lent.specs.Arrays.{problem_at}
 use Rattle.echo_spec.specs.Input.{query_of}
 use Rattle.echo_spec.specs.Answers.{script, endless_refusal}
 use Rattle.echo_kernel.proofs.Answering.{outcome-refused, outcome-done}

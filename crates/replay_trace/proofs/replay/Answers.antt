@@ -1,6 +1,6 @@
 -- `replay_trace::replay` meets its contract. Assumes nothing.
 use lib.ListN.{length}
-use Rattle.lent.specs.Lent.{problem_at}
+use Rattle.lent.specs.Arrays.{problem_at}
 use Rattle.sliver_kernel.specs.Pass.{passed_length, passed-within}
 use Rattle.trace_theorems.specs.Accepting.{bytes-few}
 use Rattle.replay_trace.proofs.Replaying.{printed-first, first-listed, by_first, refuses, widths-are}

@@ -1,5 +1,5 @@
 -- `replay_trace::tracing` meets its contract. Assumes nothing.
-use Rattle.lent.specs.Lent.{problem_at}
+use Rattle.lent.specs.Arrays.{problem_at}
 use Rattle.trace_theorems.specs.Accepting.{few}
 use Rattle.replay_trace.proofs.Replaying.{narrow-is, too_wide, no-values, no-mask-room, no-count-room, all_pass}
 use Rattle.replay_trace.proofs.tracing.Goals as goal

@@ -1,5 +1,5 @@
 -- `replay_trace::with_tables` meets its contract. Assumes nothing.
-use Rattle.lent.specs.Lent.{problem_at}
+use Rattle.lent.specs.Arrays.{problem_at}
 use Rattle.replay_trace.proofs.Replaying.{usable, trace, written}
 use Rattle.replay_trace.proofs.with_tables.Goals as goal
 

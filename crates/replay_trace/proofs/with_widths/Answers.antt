@@ -3,7 +3,7 @@ use Prim.Native.Nat.{ℕ}
 use mathlib.Core.Path.{◌≡◌, ap, ◌∙◌}
 use native.Mathlib.Omega.{arith}
 use lib.ListN.{length}
-use Rattle.lent.specs.Lent.{problem_at}
+use Rattle.lent.specs.Arrays.{problem_at}
 use Rattle.traces.specs.Trace.{row_count}
 use Rattle.replay_trace.proofs.Replaying.{later-listed, by-later, refuses, passes, accepts}
 use Rattle.replay_trace.proofs.with_widths.Goals as goal

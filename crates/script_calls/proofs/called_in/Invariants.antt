@@ -3,12 +3,12 @@ use Prim.Native.Nat.{ℕ, ◌-◌, ◌≤◌, ◌<◌}
 use mathlib.Core.Path.{◌≡◌}
 use lib.ListN.{length, get_or}
 use Rattle.reading.specs.Trees.{Declarations}
-use Rattle.script_entries.specs.Entries.{Known}
+use Rattle.script_entries.specs.Entries.{Declares}
 use Rattle.script_calls.specs.Scan.{Scanned}
 use Rattle.script_calls.proofs.called_in.Given as goal
 
 abbrev pub invariant-loop-done : goal.invariant-loop-done
-invariant-loop-done l = (l.p ≤ length l.s) × ((D : Declarations) → Known l.s l.t l.h D → Scanned l.s D l.from l.p l.flags) × (l.done ≤ l.n) × ((g : ℕ) → g < l.done → get_or l.flags g 0 ≡ 1)
+invariant-loop-done l = (l.p ≤ length l.script.text.now) × ((D : Declarations) → Declares l.script D → Scanned l.script.text.now D l.from l.p l.flags) × (l.done ≤ l.n) × ((g : ℕ) → g < l.done → get_or l.flags g 0 ≡ 1)
 
 abbrev pub decreases-loop-done : goal.decreases-loop-done
-decreases-loop-done l = length l.s - l.p
+decreases-loop-done l = length l.script.text.now - l.p

@@ -2,12 +2,12 @@
 use Prim.Native.Nat.{◌-◌, ◌≤◌}
 use lib.ListN.{length}
 use mathlib.Core.Bool.{false}
-use Rattle.script_tokens.specs.declared.Step.{Step}
+use Rattle.std.specs.Prelude.{Option, ℕ}
 use Rattle.script_decls.specs.Tails.{SortsTo}
 use Rattle.script_decls.proofs.more_sorts.Given as goal
 
 abbrev pub invariant-loop-p : goal.invariant-loop-p
-invariant-loop-p l = (l.p ≤ length l.s) × ((r : Step) → SortsTo false l.s l.p r → SortsTo false l.s l.at r)
+invariant-loop-p l = (l.p ≤ length l.s) × ((r : Option ℕ) → SortsTo false l.s l.p r → SortsTo false l.s l.at r)
 
 abbrev pub decreases-loop-p : goal.decreases-loop-p
 decreases-loop-p l = length l.s - l.p

@@ -1,25 +1,16 @@
 -- `read_line` meets its contract, a step at a time.
-use lib.ListN.{drop}
-use Rattle.readback.specs.Reader.{expect}
-use Rattle.script_decls.specs.Lines.{word_of}
-use Rattle.script_decls.specs.Sorts.{reached-none, reached-to}
-use Rattle.script_decls.specs.Going.{named-of, name-none, tail_none, tail-whole, line-no-head, line-no-name, line-no-tail, line-whole}
+use Rattle.script_decls.specs.Lines.{stage_number}
+use Rattle.script_decls.specs.Going.{named-of, line-no-head, line-no-name, line-no-tail, line-whole}
 use Rattle.script_decls.proofs.read_line.Goals as goal
 
-pub returns-in_default : goal.returns-in_default
-returns-in_default c = line-no-head c.args.stage c.args.s.now c.args.at (reached-none c.args.s.now (expect (word_of c.args.stage) (drop c.args.at c.args.s.now)) c.head.ensures c.in_default.is)
+pub returns-in_err-name : goal.returns-in_err-name
+returns-in_err-name c = rw c.from_residual.ensures (line-no-head (stage_number c.args.stage) c.args.s.now c.args.at c.in_err-name.ensures)
 
-pub name_end-requires : goal.name_end-requires
-name_end-requires c = (reached-to c.args.s.now (expect (word_of c.args.stage) (drop c.args.at c.args.s.now)) c.head.ensures c.in-To.is).0
+pub returns-in_err-name_end : goal.returns-in_err-name_end
+returns-in_err-name_end c = rw c.from_residual-in_err-name_end.ensures (line-no-name (stage_number c.args.stage) c.args.s.now c.args.at c.in_ok-name.name c.in_ok-name.ensures.1 c.in_err-name_end.ensures)
 
-pub returns-in_default-name_end : goal.returns-in_default-name_end
-returns-in_default-name_end c = line-no-name c.args.stage c.args.s.now c.args.at c.in-To.a (reached-to c.args.s.now (expect (word_of c.args.stage) (drop c.args.at c.args.s.now)) c.head.ensures c.in-To.is).1 (name-none c.args.s.now c.in-To.a c.name_end.ensures c.in_default-name_end.is)
-
-pub tail-requires : goal.tail-requires
-tail-requires c = (named-of c.args.s.now c.in-To.a c.name_end.ensures c.in-To-name_end.is).high
-
-pub returns-in_default-tail : goal.returns-in_default-tail
-returns-in_default-tail c = line-no-tail c.args.stage c.args.s.now c.args.at c.in-To.a (reached-to c.args.s.now (expect (word_of c.args.stage) (drop c.args.at c.args.s.now)) c.head.ensures c.in-To.is).1 c.in-To-name_end.f (named-of c.args.s.now c.in-To.a c.name_end.ensures c.in-To-name_end.is) (tail_none c.args.stage c.args.s.now c.in-To-name_end.f c.tail.ensures c.in_default-tail.is)
+pub returns-in_err-end : goal.returns-in_err-end
+returns-in_err-end c = rw c.from_residual-in_err-end.ensures (line-no-tail (stage_number c.args.stage) c.args.s.now c.args.at c.in_ok-name.name c.in_ok-name.ensures.1 c.in_ok-name_end.name_end (named-of c.args.s.now c.in_ok-name.name c.in_ok-name_end.ensures) c.in_err-end.ensures)
 
 pub returns : goal.returns
-returns c = line-whole c.args.stage c.args.s.now c.args.at c.in-To.a (reached-to c.args.s.now (expect (word_of c.args.stage) (drop c.args.at c.args.s.now)) c.head.ensures c.in-To.is).1 c.in-To-name_end.f (named-of c.args.s.now c.in-To.a c.name_end.ensures c.in-To-name_end.is) c.in-To-tail.e c.requires (tail-whole c.args.stage c.args.s.now c.in-To-name_end.f c.tail.ensures c.in-To-tail.is)
+returns c = line-whole (stage_number c.args.stage) c.args.s.now c.args.at c.in_ok-name.name c.in_ok-name.ensures.1 c.in_ok-name_end.name_end (named-of c.args.s.now c.in_ok-name.name c.in_ok-name_end.ensures) c.in_ok-end.end c.requires c.in_ok-end.ensures

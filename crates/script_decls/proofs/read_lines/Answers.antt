@@ -1,32 +1,18 @@
 -- `read_lines` meets its contract: at each turn, what is read from the place reached tells what is read from the start.
-use mathlib.Core.Path.{sym, ◌∙◌}
-use mathlib.Core.List.{[]}
-use native.Mathlib.Omega.{arith}
-use borrow.Author.Tests.{not-true, not-false}
-use Rattle.script_decls.specs.declared.Lines.TheVariants.{No, To}
-use Rattle.script_decls.specs.Going.{line-none, line_at, stage-end, stage-bad, stage-more, ready-more, here-name}
+use Rattle.std.specs.Prelude.{Some, None}
+use Rattle.std.proofs.Common.{sym, ◌∙◌}
+use Rattle.script_decls.specs.Lines.{stage_number}
+use Rattle.script_decls.specs.Going.{stage-end, stage-bad, stage-more, ready-more}
 use Rattle.script_decls.proofs.read_lines.Goals as goal
 
-pub loop-a-init : goal.loop-a-init
-loop-a-init c = (c.requires, λ u r h. h)
-
-pub read_line-requires : goal.read_line-requires
-read_line-requires c = c.loop-a.invariant.0.place
-
-pub returns-in_default : goal.returns-in_default
-returns-in_default c = c.loop-a.invariant.1 c.loop-a.t (To c.loop-a.c c.loop-a.p) (stage-end c.args.stage c.args.s.now c.args.first c.loop-a.t c.loop-a.c c.loop-a.p c.loop-a.invariant.0 (line-none c.args.stage c.args.s.now c.loop-a.p c.read_line.ensures c.in_default.is))
-
-pub declare-requires : goal.declare-requires
-declare-requires c = (c.loop-a.invariant.0.begin, (line_at c.args.stage c.args.s.now c.loop-a.p c.read_line.ensures c.in-Is.is).named, c.loop-a.invariant.0.tabled, here-name c.args.stage c.args.s.now c.args.first c.loop-a.c c.loop-a.p c.in-Is.a c.in-Is.f c.in-Is.e (line_at c.args.stage c.args.s.now c.loop-a.p c.read_line.ensures c.in-Is.is) c.loop-a.t c.loop-a.t c.loop-a.invariant.0)
-
 pub returns-then-not-declare : goal.returns-then-not-declare
-returns-then-not-declare c = c.loop-a.invariant.1 [] No (stage-bad c.args.stage c.args.s.now c.args.first c.loop-a.c c.loop-a.p c.in-Is.a c.in-Is.f c.in-Is.e (line_at c.args.stage c.args.s.now c.loop-a.p c.read_line.ensures c.in-Is.is) [] (sym c.declare.ensures.0 ∙ not-true c.declare.result c.if-not-declare.true-raw))
+returns-then-not-declare c = c.loop-line.invariant.1 c.loop-line.t None (stage-bad (stage_number c.args.stage) c.args.s.now c.args.first c.loop-line.c c.loop-line.p c.in-Some.line.name c.in-Some.line.name_end c.in-Some.line.end c.in-Some.ensures c.loop-line.t (sym c.declare.ensures.0 ∙ c.if-not-declare.true))
 
-pub overflow_add-c : goal.overflow_add-c
-overflow_add-c c = omega (arith, c.loop-a.invariant.0.few, (line_at c.args.stage c.args.s.now c.loop-a.p c.read_line.ensures c.in-Is.is).from, (line_at c.args.stage c.args.s.now c.loop-a.p c.read_line.ensures c.in-Is.is).low, (line_at c.args.stage c.args.s.now c.loop-a.p c.read_line.ensures c.in-Is.is).high)
+pub loop-line-preserved : goal.loop-line-preserved
+loop-line-preserved c = (
+  ready-more (stage_number c.args.stage) c.args.s.now c.args.first c.loop-line.c c.loop-line.p c.in-Some.line.name c.in-Some.line.name_end c.in-Some.line.end c.in-Some.ensures c.loop-line.t _ c.loop-line.invariant.0 (c.declare.ensures.1 c.if-not-declare.false),
+  λ u r h. c.loop-line.invariant.1 u r (stage-more (stage_number c.args.stage) c.args.s.now c.args.first c.loop-line.c c.loop-line.p c.in-Some.line.name c.in-Some.line.name_end c.in-Some.line.end c.in-Some.ensures c.loop-line.t c.loop-line.t c.loop-line.invariant.0 u (sym c.declare.ensures.0 ∙ c.if-not-declare.false) r h),
+)
 
-pub loop-a-smaller : goal.loop-a-smaller
-loop-a-smaller c = omega (arith, (line_at c.args.stage c.args.s.now c.loop-a.p c.read_line.ensures c.in-Is.is).from, (line_at c.args.stage c.args.s.now c.loop-a.p c.read_line.ensures c.in-Is.is).low, (line_at c.args.stage c.args.s.now c.loop-a.p c.read_line.ensures c.in-Is.is).high)
-
-pub loop-a-preserved : goal.loop-a-preserved
-loop-a-preserved c = (ready-more c.args.stage c.args.s.now c.args.first c.loop-a.c c.loop-a.p c.in-Is.a c.in-Is.f c.in-Is.e (line_at c.args.stage c.args.s.now c.loop-a.p c.read_line.ensures c.in-Is.is) c.loop-a.t _ c.loop-a.invariant.0 (c.declare.ensures.1 (not-false c.declare.result c.if-not-declare.false-raw)), λ u r h. c.loop-a.invariant.1 u r (stage-more c.args.stage c.args.s.now c.args.first c.loop-a.c c.loop-a.p c.in-Is.a c.in-Is.f c.in-Is.e (line_at c.args.stage c.args.s.now c.loop-a.p c.read_line.ensures c.in-Is.is) c.loop-a.t c.loop-a.t c.loop-a.invariant.0 u (sym c.declare.ensures.0 ∙ (not-false c.declare.result c.if-not-declare.false-raw)) r h))
+pub returns : goal.returns
+returns c = c.loop-line.invariant.1 c.loop-line.t (Some (record { names = c.loop-line.c; end = c.loop-line.p })) (stage-end (stage_number c.args.stage) c.args.s.now c.args.first c.loop-line.t c.loop-line.c c.loop-line.p c.loop-line.invariant.0 c.in_default.ensures)

@@ -1,13 +1,14 @@
 -- `read_lines` meets its contract: at each turn, what is read from the place reached tells what is read from the start.
-use Prim.Native.Nat.{ℕ, ◌-◌}
-use mathlib.Core.List.{List}
+use Prim.Native.Nat.{◌-◌}
 use lib.ListN.{length}
 use Rattle.script_decls.specs.declared.Lines.{Lines}
-use Rattle.script_decls.specs.Lines.{Ready, StageTo}
+use Rattle.script_names.specs.declared.Table.{Table}
+use Rattle.std.specs.Prelude.{Option}
+use Rattle.script_decls.specs.Lines.{stage_number, Ready, StageTo}
 use Rattle.script_decls.proofs.read_lines.Given as goal
 
-abbrev pub invariant-loop-a : goal.invariant-loop-a
-invariant-loop-a l = Ready l.s l.first l.t l.c l.p × ((u : List ℕ) (r : Lines) → StageTo l.stage l.s l.first l.c l.p u r → StageTo l.stage l.s l.first l.count l.at u r)
+abbrev pub invariant-loop-line : goal.invariant-loop-line
+invariant-loop-line l = Ready l.s l.first l.t l.c l.p × ((u : Table) (r : Option Lines) → StageTo (stage_number l.stage) l.s l.first l.c l.p u r → StageTo (stage_number l.stage) l.s l.first l.count l.at u r)
 
-abbrev pub decreases-loop-a : goal.decreases-loop-a
-decreases-loop-a l = length l.s - l.p
+abbrev pub decreases-loop-line : goal.decreases-loop-line
+decreases-loop-line l = length l.s - l.p

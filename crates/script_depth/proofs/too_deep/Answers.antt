@@ -1,4 +1,4 @@
--- `script_depth::too_deep` meets its contract: at the loop's test, the rest of the bytes decides. Assumes nothing.
+-- `script_depth::too_deep` meets its contract: the rest of the bytes decides. Assumes nothing.
 use Prim.Native.Nat.{◌+◌}
 use mathlib.Core.Path.{sym, refl, ◌∙◌}
 use native.Mathlib.Omega.{arith}
@@ -7,23 +7,22 @@ use Rattle.script_depth.specs.Nesting.{deep_from, too_deep}
 use Rattle.script_depth.proofs.Nested.{one_more, deep-over, deep_step, deep-end}
 use Rattle.script_depth.proofs.too_deep.Goals as goal
 
-pub loop-i-init : goal.loop-i-init
+pub loop-b-init : goal.loop-b-init
 unfolding too_deep
-loop-i-init c = (omega arith, omega arith, refl)
+loop-b-init c = (omega arith, refl)
 
-pub returns-then-depth-gt-DEEPEST : goal.returns-then-depth-gt-DEEPEST
-returns-then-depth-gt-DEEPEST c = sym (deep-over _ _ _ (omega (arith, c.if-depth-gt-DEEPEST.true))) ∙ c.loop-i.invariant.2
+pub returns-then-nest-gt-DEEPEST : goal.returns-then-nest-gt-DEEPEST
+returns-then-nest-gt-DEEPEST c = sym (deep-over _ _ _ (omega arith)) ∙ c.loop-b.invariant.1
 
-pub opened-depth-requires : goal.opened-depth-requires
-opened-depth-requires c = omega (arith, c.if-depth-gt-DEEPEST.false)
-
-pub turned-named-requires : goal.turned-named-requires
-turned-named-requires c = tt
-
-pub loop-i-preserved : goal.loop-i-preserved
-loop-i-preserved c =
-    let d = deep_step c.args.s.now c.loop-i.named c.loop-i.depth c.loop-i.i (omega arith) (omega (arith, c.if-depth-gt-DEEPEST.false)) in
-    (omega arith, omega (arith, c.opened-depth.ensures, one_more c.loop-i.named c.loop-i.depth (get_or c.args.s.now c.loop-i.i 0), c.if-depth-gt-DEEPEST.false), (λ i. deep_from (c.turned-named.ensures i) (c.opened-depth.ensures i) (drop (c.loop-i.i + 1) c.args.s.now)) ∙ sym d ∙ c.loop-i.invariant.2)
+pub loop-b-preserved : goal.loop-b-preserved
+loop-b-preserved c =
+    let s = c.args.s.now in
+    let n = c.loop-b.nest in
+    let i = c.loop-b.b-index in
+    let d = deep_step s n.named n.depth i (omega arith) (omega arith) in (
+      omega (arith, c.after-nest.ensures.depth, one_more n.named n.depth (get_or s i 0)),
+      (λ k. deep_from (c.after-nest.ensures.named k) (c.after-nest.ensures.depth k) (drop (i + 1) s)) ∙ sym d ∙ c.loop-b.invariant.1,
+    )
 
 pub returns : goal.returns
-returns c = sym (deep-end c.args.s.now c.loop-i.named c.loop-i.depth c.loop-i.i (omega (arith, c.loop-i-test.false))) ∙ c.loop-i.invariant.2
+returns c = sym (deep-end c.args.s.now c.loop-b.nest.named c.loop-b.nest.depth c.loop-b.b-index (omega arith)) ∙ c.loop-b.invariant.1

@@ -1,10 +1,5 @@
 -- `end_over` meets its contract: the constants among the operands have their nodes, and then the operator has its own, with its operands' nodes in its record.
-use Prim.Native.Nat.{ℕ}
-use mathlib.Core.Path.{◌≡◌, subst}
-use mathlib.Core.List.{List, [], ◌∷◌, ◌++◌}
-use native.Mathlib.Omega.{arith}
-use lib.ListN.{length}
-use borrow.Author.Tests.{not-true, not-false}
+use Rattle.std.proofs.Common.{ℕ, ◌≡◌, List, [], ◌∷◌, ◌++◌, subst, length, length-append, arith}
 use Rattle.echo_spec.specs.Shapes.{shape_of}
 use Rattle.readback.specs.Rebuild.{Item, an_operator, with_constants, node_of, pendings, fields, node_with}
 use Rattle.lent.specs.Records as records
@@ -13,35 +8,44 @@ use Rattle.script_heap.specs.Told.{Told}
 use Rattle.script_ends.specs.Ends.{settle-fails, settle-done, ended-told, behind, nodes_of, operator_item, made-over}
 use Rattle.script_ends.proofs.end_over.Goals as goal
 
-pub returns-then-not-settle_all : goal.returns-then-not-settle_all
-returns-then-not-settle_all c = λ s refs rs ks ms e o. settle-fails e (operator_item c.args.k ks rs ms) c.settle_all.new.heap c.settle_all.new.nodes c.settle_all.new.bits c.settle_all.result (not-true c.settle_all.result c.if-not-settle_all.true-raw) (c.settle_all.ensures s (refs ++ rs) e.held e.stacked)
+pub returns-in_err-settle_all : goal.returns-in_err-settle_all
+returns-in_err-settle_all c = λ s refs rs ks ms e o. rw c.from_residual.ensures (settle-fails e (operator_item c.args.k ks rs ms) c.settle_all.new.heap c.settle_all.result c.in_err-settle_all.was (c.settle_all.ensures s (refs ++ rs) e.held e.stacked))
 
 pub operand_or_zero-x-requires : goal.operand_or_zero-x-requires
-operand_or_zero-x-requires c = let (s, refs, rs, e) = c.requires in let (h, k) = (settle-done e c.settle_all.new.heap c.settle_all.new.nodes c.settle_all.new.bits c.settle_all.result (not-false c.settle_all.result c.if-not-settle_all.false-raw) (c.settle_all.ensures s (refs ++ rs) e.held e.stacked)) in (behind refs (nodes_of (with_constants (pending_in rs) s) rs) c.args.base k e.below).2
+operand_or_zero-x-requires c =
+    let (s, refs, rs, e) = c.requires in
+    let (h, k) = settle-done e c.settle_all.new.heap c.settle_all.result _ c.in_ok-settle_all.was (c.settle_all.ensures s (refs ++ rs) e.held e.stacked) in
+    (behind refs (nodes_of (with_constants (pending_in rs) s) rs) c.args.base k e.below).2
 
 pub overflow_add-base : goal.overflow_add-base
-overflow_add-base c = let (s, refs, rs, e) = c.requires in omega (arith, e.below, e.stacked.room, lib.ListN.length-append refs rs)
+overflow_add-base c = let (s, refs, rs, e) = c.requires in omega (arith, e.below, e.stacked.room, length-append refs rs)
 
 pub operand_or_zero-y-requires : goal.operand_or_zero-y-requires
-operand_or_zero-y-requires c = let (s, refs, rs, e) = c.requires in let (h, k) = (settle-done e c.settle_all.new.heap c.settle_all.new.nodes c.settle_all.new.bits c.settle_all.result (not-false c.settle_all.result c.if-not-settle_all.false-raw) (c.settle_all.ensures s (refs ++ rs) e.held e.stacked)) in (behind refs (nodes_of (with_constants (pending_in rs) s) rs) c.args.base k e.below).2
+operand_or_zero-y-requires c =
+    let (s, refs, rs, e) = c.requires in
+    let (h, k) = settle-done e c.settle_all.new.heap c.settle_all.result _ c.in_ok-settle_all.was (c.settle_all.ensures s (refs ++ rs) e.held e.stacked) in
+    (behind refs (nodes_of (with_constants (pending_in rs) s) rs) c.args.base k e.below).2
 
 pub overflow_add-base-2 : goal.overflow_add-base-2
-overflow_add-base-2 c = let (s, refs, rs, e) = c.requires in omega (arith, e.below, e.stacked.room, lib.ListN.length-append refs rs)
+overflow_add-base-2 c = let (s, refs, rs, e) = c.requires in omega (arith, e.below, e.stacked.room, length-append refs rs)
 
 pub operand_or_zero-z-requires : goal.operand_or_zero-z-requires
-operand_or_zero-z-requires c = let (s, refs, rs, e) = c.requires in let (h, k) = (settle-done e c.settle_all.new.heap c.settle_all.new.nodes c.settle_all.new.bits c.settle_all.result (not-false c.settle_all.result c.if-not-settle_all.false-raw) (c.settle_all.ensures s (refs ++ rs) e.held e.stacked)) in (behind refs (nodes_of (with_constants (pending_in rs) s) rs) c.args.base k e.below).2
+operand_or_zero-z-requires c =
+    let (s, refs, rs, e) = c.requires in
+    let (h, k) = settle-done e c.settle_all.new.heap c.settle_all.result _ c.in_ok-settle_all.was (c.settle_all.ensures s (refs ++ rs) e.held e.stacked) in
+    (behind refs (nodes_of (with_constants (pending_in rs) s) rs) c.args.base k e.below).2
 
 pub returns : goal.returns
 returns c = λ s refs rs ks ms e o.
-    let (h, k) = (settle-done e c.settle_all.new.heap c.settle_all.new.nodes c.settle_all.new.bits c.settle_all.result (not-false c.settle_all.result c.if-not-settle_all.false-raw) (c.settle_all.ensures s (refs ++ rs) e.held e.stacked)) in
+    let (h, k) = settle-done e c.settle_all.new.heap c.settle_all.result _ c.in_ok-settle_all.was (c.settle_all.ensures s (refs ++ rs) e.held e.stacked) in
     let t : List Item = with_constants (pending_in rs) s in
     let xs : List ℕ = nodes_of t rs in
     let ns : List ℕ = pendings (node_of t) ms in
     let m = made-over rs o c.operand_or_zero-x.result c.operand_or_zero-y.result c.operand_or_zero-z.result
     (c.operand_or_zero-x.ensures c.args.script.now refs xs 0 k (omega (arith, e.below))) (c.operand_or_zero-y.ensures c.args.script.now refs xs 1 k (omega (arith, e.below)))
     (c.operand_or_zero-z.ensures c.args.script.now refs xs 2 k (omega (arith, e.below))) in
-    ended-told e (operator_item c.args.k ks rs ms) c.settle_all.new.heap c.add_operator.new.heap c.add_operator.new.nodes c.settle_all.new.bits c.add_operator.result k
+    ended-told e (operator_item c.args.k ks rs ms) c.settle_all.new.heap c.add_operator.new.heap c.add_operator.result k
     (subst
     (λ (q : ℕ). node_with q (fields (shape_of q) ks xs ns) ≡ records.node_of c.operator_record-n.result
-    → Told c.settle_all.new.heap c.add_operator.new.heap c.add_operator.new.nodes c.settle_all.new.bits c.args.base (t ++ (an_operator q ks xs ns ∷ [])) (length t) c.add_operator.result)
-    c.operator_record-n.ensures.0 (c.add_operator.ensures c.settle_all.new.bits t ks xs ns h) (c.operator_record-n.ensures.1 ks xs ns m))
+    → Told c.settle_all.new.heap c.add_operator.new.heap c.args.base (t ++ (an_operator q ks xs ns ∷ [])) (length t) c.add_operator.result)
+    c.operator_record-n.ensures.0 (c.add_operator.ensures t ks xs ns h) (c.operator_record-n.ensures.1 ks xs ns m))

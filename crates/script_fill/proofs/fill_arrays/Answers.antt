@@ -8,10 +8,10 @@ use Rattle.script_fill.specs.Turns.{filled-same, arrays-fit, array-lines}
 use Rattle.script_fill.proofs.fill_arrays.Goals as goal
 
 pub fill_names-requires : goal.fill_names-requires
-fill_names-requires c = λ e. subst (λ (k : ℕ). Lines c.args.s.now c.args.t.now (variables_of c.args.h.now) k × NamesFit (line_names c.args.s.now c.args.t.now (variables_of c.args.h.now) k) c.args.names.now c.args.starts.now c.args.lengths.now) (sym c.lines_between-count.ensures) (arrays-fit (c.requires e).1 (c.requires e).2)
+fill_names-requires c = λ e. subst (λ (k : ℕ). Lines c.args.script.now.text.now c.args.script.now.table.now (variables_of c.args.script.now.header) k × NamesFit (line_names c.args.script.now.text.now c.args.script.now.table.now (variables_of c.args.script.now.header) k) c.args.names.now c.args.starts.now c.args.lengths.now) (sym c.lines_between-count.ensures) (arrays-fit (c.requires e).1 (c.requires e).2)
 
 pub fill_array_widths-requires : goal.fill_array_widths-requires
 fill_array_widths-requires c = λ e. (((c.requires e).0, (c.requires e).1), omega (arith, c.lines_between-count.ensures, (c.requires e).1.known.arrays), omega (arith, c.lines_between-count.ensures, (c.requires e).1.known.arrays, (c.requires e).2.index), omega (arith, c.lines_between-count.ensures, (c.requires e).1.known.arrays, (c.requires e).2.value))
 
 pub returns : goal.returns
-returns c = λ D f. record { named = filled-same (λ e. ap (line_names c.args.s.now c.args.t.now (variables_of c.args.h.now)) c.lines_between-count.ensures ∙ array-lines (f e)) c.fill_names.ensures; index = (c.fill_array_widths.ensures D f).0; value = (c.fill_array_widths.ensures D f).1 }
+returns c = λ D f. record { named = filled-same (λ e. ap (line_names c.args.script.now.text.now c.args.script.now.table.now (variables_of c.args.script.now.header)) c.lines_between-count.ensures ∙ array-lines (f e)) c.fill_names.ensures; index = (c.fill_array_widths.ensures D f).0; value = (c.fill_array_widths.ensures D f).1 }

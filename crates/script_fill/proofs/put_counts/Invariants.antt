@@ -5,7 +5,4 @@ use Rattle.script_fill.specs.Laws.{Going}
 use Rattle.script_fill.proofs.put_counts.Given as goal
 
 abbrev pub invariant-loop-i : goal.invariant-loop-i
-invariant-loop-i l = (l.i ≤ l.count) × Going (count_from 0 l.count) l.initial.out l.out l.i
-
-abbrev pub decreases-loop-i : goal.decreases-loop-i
-decreases-loop-i l = l.count - l.i
+invariant-loop-i l = Going (count_from 0 l.count) l.initial.out l.out l.i

@@ -3,12 +3,9 @@ use Prim.Native.Nat.{◌-◌, ◌≤◌}
 use mathlib.Core.Path.{◌≡◌}
 use lib.ListN.{length}
 use Rattle.reading.specs.Trees.{Declarations}
-use Rattle.script_fill.specs.Filling.{Few, function_widths}
+use Rattle.script_fill.specs.Filling.{FewOf, function_widths}
 use Rattle.script_fill.specs.Laws.{Going}
 use Rattle.script_fill.proofs.put_function_widths.Given as goal
 
 abbrev pub invariant-loop-i : goal.invariant-loop-i
-invariant-loop-i l = (l.i ≤ l.count) × (length l.out ≡ length l.initial.out) × ((D : Declarations) → Few l.s l.t l.h D → Going (function_widths D) l.initial.out l.out l.i)
-
-abbrev pub decreases-loop-i : goal.decreases-loop-i
-decreases-loop-i l = l.count - l.i
+invariant-loop-i l = (length l.out ≡ length l.initial.out) × ((D : Declarations) → FewOf l.script D → Going (function_widths D) l.initial.out l.out l.i)

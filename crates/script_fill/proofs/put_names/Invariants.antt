@@ -4,7 +4,4 @@ use Rattle.script_fill.specs.Turns.{Written}
 use Rattle.script_fill.proofs.put_names.Given as goal
 
 abbrev pub invariant-loop-i : goal.invariant-loop-i
-invariant-loop-i l = (l.i ≤ l.count) × Written l.s l.t l.from l.i l.at l.initial.names l.initial.starts l.initial.lengths l.names l.starts l.lengths
-
-abbrev pub decreases-loop-i : goal.decreases-loop-i
-decreases-loop-i l = l.count - l.i
+invariant-loop-i l = Written l.script.text.now l.script.table.now l.from l.i l.at l.initial.names l.initial.starts l.initial.lengths l.names l.starts l.lengths

@@ -5,7 +5,4 @@ use Rattle.script_fill.specs.Laws.{Going}
 use Rattle.script_fill.proofs.put_numbers.Given as goal
 
 abbrev pub invariant-loop-i : goal.invariant-loop-i
-invariant-loop-i l = (l.i ≤ l.n) × Going (take l.n (drop l.at l.local)) l.initial.out l.out l.i
-
-abbrev pub decreases-loop-i : goal.decreases-loop-i
-decreases-loop-i l = l.n - l.i
+invariant-loop-i l = Going (take l.n (drop l.at l.local)) l.initial.out l.out l.i

@@ -8,22 +8,16 @@ use Rattle.script_fill.specs.Laws.{going-none, column-next, column-end}
 use Rattle.script_fill.proofs.put_variable_widths.Goals as goal
 
 pub loop-i-init : goal.loop-i-init
-loop-i-init c = (omega arith, refl, λ D x. going-none _ _)
+loop-i-init c = (refl, λ D x. going-none _ _)
 
 pub variable_at-requires : goal.variable_at-requires
 variable_at-requires c = ((c.requires.0.0, c.requires.0.1.known), c.requires.0.1.few, c.loop-i-test.true)
 
 pub bounds-out-i : goal.bounds-out-i
-bounds-out-i c = omega (arith, c.loop-i.invariant.1, c.requires.1, c.loop-i-test.true)
-
-pub overflow_add-i : goal.overflow_add-i
-overflow_add-i c = omega (arith, c.loop-i-test.true)
-
-pub loop-i-smaller : goal.loop-i-smaller
-loop-i-smaller c = omega (arith, c.loop-i-test.true)
+bounds-out-i c = omega (arith, c.loop-i.invariant.0, c.requires.1, c.loop-i-test.true)
 
 pub loop-i-preserved : goal.loop-i-preserved
-loop-i-preserved c = (omega (arith, c.loop-i-test.true), length-set c.loop-i.out c.loop-i.i c.variable_at.result ∙ c.loop-i.invariant.1, λ D x. column-next (λ (v : Variable). v.width) no-variable refl D.variables (c.loop-i.invariant.2 D x) (c.variable_at.ensures D x.known) (omega (arith, x.known.variables, c.loop-i-test.true)) (omega (arith, c.requires.1, c.loop-i-test.true)))
+loop-i-preserved c = (length-set c.loop-i.out c.loop-i.i c.variable_at.result ∙ c.loop-i.invariant.0, λ D x. column-next (λ (v : Variable). v.width) no-variable refl D.variables (c.loop-i.invariant.1 D x) (c.variable_at.ensures D x.known) (omega (arith, x.known.variables, c.loop-i-test.true)) (omega (arith, c.requires.1, c.loop-i-test.true)))
 
 pub returns : goal.returns
-returns c = λ D x. column-end (λ (v : Variable). v.width) no-variable refl D.variables (c.loop-i.invariant.2 D x) (omega (arith, x.known.variables, c.loop-i-test.false))
+returns c = λ D x. column-end (λ (v : Variable). v.width) no-variable refl D.variables (c.loop-i.invariant.1 D x) (omega (arith, x.known.variables, c.loop-i-test.false))

@@ -1,20 +1,13 @@
 -- `has_begun` meets its contract: one word, the other, or neither.
-use lib.ListN.{drop}
-use mathlib.Core.List.{[]}
+use Rattle.std.proofs.Common.{sym, ◌∙◌, drop}
 use Rattle.lists.specs.Bytes.{bytes}
-use Rattle.readback.specs.Reader.{expect}
-use Rattle.script_decls.specs.Sorts.{reached-none, reached-to}
-use Rattle.script_header.specs.Steps.{begun_first, begun-second, begun-none}
+use Rattle.script_header.specs.Steps.{begun_first, begun-second}
 use Rattle.script_header.proofs.has_begun.Goals as goal
 
-pub returns-in-To : goal.returns-in-To
+pub returns-then-is_some : goal.returns-then-is_some
 unfolding bytes
-returns-in-To c = begun_first (drop c.args.at c.args.s.now) [] (drop c.in-To.e c.args.s.now) (reached-to c.args.s.now (expect (bytes "(assert ") (drop c.args.at c.args.s.now)) c.literal.ensures c.in-To.is).1
+returns-then-is_some c = begun_first c.args.s.now (drop c.args.at c.args.s.now) c.literal.result c.literal.ensures (sym c.is_some.ensures ∙ c.if-is_some.true)
 
-pub returns-in-To-literal : goal.returns-in-To-literal
+pub returns : goal.returns
 unfolding bytes
-returns-in-To-literal c = begun-second (drop c.args.at c.args.s.now) [] (drop c.in-To-literal.f c.args.s.now) (reached-none c.args.s.now (expect (bytes "(assert ") (drop c.args.at c.args.s.now)) c.literal.ensures c.in-No.is) (reached-to c.args.s.now (expect (bytes "(check-sat)\n") (drop c.args.at c.args.s.now)) c.literal-in-No.ensures c.in-To-literal.is).1
-
-pub returns-in-No-literal : goal.returns-in-No-literal
-unfolding bytes
-returns-in-No-literal c = begun-none (drop c.args.at c.args.s.now) (reached-none c.args.s.now (expect (bytes "(assert ") (drop c.args.at c.args.s.now)) c.literal.ensures c.in-No.is) (reached-none c.args.s.now (expect (bytes "(check-sat)\n") (drop c.args.at c.args.s.now)) c.literal-in-No.ensures c.in-No-literal.is)
+returns c = c.is_some-2.ensures ∙ begun-second c.args.s.now (drop c.args.at c.args.s.now) c.literal.result c.literal-2.result c.literal.ensures (sym c.is_some.ensures ∙ c.if-is_some.false) c.literal-2.ensures

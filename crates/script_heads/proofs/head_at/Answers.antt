@@ -22,4 +22,4 @@ pub returns-then-c-eq40 : goal.returns-then-c-eq40
 returns-then-c-eq40 c = c.open_head.ensures
 
 pub returns : goal.returns
-returns c = λ D κ. other-head c.args.s.now c.args.at (λ q. c.if-c-eq35.false (c.byte_at-c.ensures ∙ q)) (λ q. c.if-c-eq124.false (c.byte_at-c.ensures ∙ q)) (λ q. c.if-c-eq40.false (c.byte_at-c.ensures ∙ q)) D
+returns c = λ D κ. other-head c.args.script.now.text.now c.args.at (λ q. c.if-c-eq35.false (c.byte_at-c.ensures ∙ q)) (λ q. c.if-c-eq124.false (c.byte_at-c.ensures ∙ q)) (λ q. c.if-c-eq40.false (c.byte_at-c.ensures ∙ q)) D

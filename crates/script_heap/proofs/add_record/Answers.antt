@@ -3,6 +3,7 @@ use mathlib.Core.Path.{sym, refl, ◌∙◌}
 use mathlib.Core.Logic.{inl, inr}
 use native.Mathlib.Omega.{arith}
 use borrow.Author.Tests.{not-true, not-false}
+use Rattle.std.proofs.Common.{◌+◌}
 use Rattle.lists.specs.Tests.{true→T}
 use Rattle.script_heap.proofs.add_record.Goals as goal
 
@@ -16,4 +17,4 @@ pub write_record-requires : goal.write_record-requires
 write_record-requires c = (omega arith, true→T (sym c.fits.ensures ∙ not-false c.fits.result c.if-not-fits.false-raw))
 
 pub returns : goal.returns
-returns c = (refl, c.if-k-ge-MAX_NODES.false, true→T (sym c.fits.ensures ∙ not-false c.fits.result c.if-not-fits.false-raw), refl, c.write_record.ensures)
+returns c = (refl, c.if-k-ge-MAX_NODES.false, true→T (sym c.fits.ensures ∙ not-false c.fits.result c.if-not-fits.false-raw), λ long. let e = c.write_record.ensures long in λ i. record c.args.heap.now { count = c.args.heap.now.count + 1; records = e i })

@@ -1,20 +1,22 @@
 -- `add_select` meets its contract: too many side entries, or its pairs are side entries and its record is added.
-use Prim.Native.Nat.{◌*◌}
-use native.Mathlib.Omega.{arith}
+use Rattle.std.proofs.Common.{◌*◌, arith}
 use Rattle.script_heap.specs.Sides.{side-room, size_low, select-over, told-select}
 use Rattle.script_heap.proofs.add_select.Goals as goal
 
 pub overflow_sub-side : goal.overflow_sub-side
-overflow_sub-side c = omega (arith, side-room c.requires.0.1.1)
+overflow_sub-side c = omega (arith, side-room c.requires.holds.1.1)
 
 pub returns-then-stores-side : goal.returns-then-stores-side
-returns-then-stores-side c = λ bits s script refs xs h w e l. select-over h script w c.args.base xs (size_low c.args.base (2 * c.args.stores) xs w e l) e c.args.stores l c.args.array c.if-stores-side.true
+returns-then-stores-side c = λ s script refs xs h w e l. select-over h script w c.args.base xs (size_low c.args.base (2 * c.args.stores) xs w e l) e c.args.stores l c.args.array c.if-stores-side.true
 
 pub copy_pairs-requires : goal.copy_pairs-requires
-copy_pairs-requires c = (omega (arith, side-room c.requires.0.1.1), omega arith)
+copy_pairs-requires c = record {
+  side_room = omega (arith, side-room c.requires.holds.1.1, c.requires.holds.1.1.side_long);
+  operands = omega (arith, c.requires.holds.1.1.stack_long);
+}
 
 pub overflow_add-heap : goal.overflow_add-heap
-overflow_add-heap c = omega (arith, side-room c.requires.0.1.1)
+overflow_add-heap c = omega (arith, side-room c.requires.holds.1.1)
 
 pub returns : goal.returns
-returns c = λ bits s script refs xs h w e l. told-select h script w c.args.base xs (size_low c.args.base (2 * c.args.stores) xs w e l) e c.args.stores l c.args.array c.operand-index.result _ _ _ c.add_record.result c.if-stores-side.false c.operand-index.ensures.1 c.copy_pairs.ensures c.add_record.ensures
+returns c = λ s script refs xs h w e l. told-select h script w c.args.base xs (size_low c.args.base (2 * c.args.stores) xs w e l) e c.args.stores l c.args.array c.operand-index.result _ _ c.add_record.result c.if-stores-side.false c.operand-index.ensures.half c.copy_pairs.ensures c.add_record.ensures

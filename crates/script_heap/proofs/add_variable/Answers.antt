@@ -1,7 +1,5 @@
 -- `add_variable` meets its contract: its record is added, with no bits and no side entries.
-use mathlib.Core.Path.{refl}
-use mathlib.Core.List.{[]}
-use native.Mathlib.Omega.{arith}
+use Rattle.std.proofs.Common.{refl, [], arith}
 use Rattle.readback.specs.Rebuild.{a_variable, side_in, record_of}
 use Rattle.heap_laws.specs.Within.{within-parts}
 use Rattle.heap_laws.specs.Adding.{plain-variable}
@@ -10,4 +8,4 @@ use Rattle.script_heap.proofs.add_variable.Goals as goal
 
 pub returns : goal.returns
 unfolding side_in record_of
-returns c = λ bits s h. told-record h (a_variable c.args.width) (plain-variable c.args.width) [] _ refl (omega (arith, h.side_count, (within-parts s h.inside).side)) _ _ _ _ c.add_record.result (same_heap _) refl c.add_record.ensures
+returns c = λ s h. told-record h (a_variable c.args.width) (plain-variable c.args.width) [] _ refl (omega (arith, h.side_count, (within-parts s h.inside).side)) _ _ _ c.add_record.result (same_heap _) refl c.add_record.ensures

@@ -8,7 +8,7 @@ use Rattle.heap_laws.specs.Chains.{Sought}
 use Rattle.script_heap.proofs.find_bits.Given as goal
 
 abbrev pub invariant-loop-c : goal.invariant-loop-c
-invariant-loop-c l = (nodes : List ℕ) (s : List Item) → Held l.heap nodes l.bits s → Sought s (take l.w (drop l.at l.bits)) l.c
+invariant-loop-c l = (s : List Item) → Held l.heap s → Sought s (take l.w (drop l.at l.heap.bits)) l.c
 
 abbrev pub decreases-loop-c : goal.decreases-loop-c
 decreases-loop-c l = l.c

@@ -1,32 +1,31 @@
 -- `is_at` meets its contract: another length, or a comparison of two parts of the bits.
-use native.Mathlib.Omega.{arith}
-use Rattle.heap_laws.specs.Candidates.{node-small, start_small, length-is, length-apart}
-use Rattle.script_heap.specs.Constants.{part-compared}
+use Rattle.std.proofs.Common.{◌∙◌, take, drop, arith}
+use Rattle.lists.specs.Tests.{same}
+use Rattle.heap_laws.specs.Heap.{constant_at}
+use Rattle.heap_laws.specs.Candidates.{node-small, start_small, length-is, length-apart, part_at}
+use Rattle.script_heap.specs.Constants.{part-compared, compared-by}
 use Rattle.script_heap.proofs.is_at.Goals as goal
 
-pub overflow_add-k : goal.overflow_add-k
-overflow_add-k c = omega (arith, node-small c.requires.0.3 c.args.k c.requires.0.2 c.requires.0.4)
-
 pub offset_bounds-heap-k : goal.offset_bounds-heap-k
-offset_bounds-heap-k c = omega (arith, node-small c.requires.0.3 c.args.k c.requires.0.2 c.requires.0.4)
+offset_bounds-heap-k c = omega (arith, node-small c.requires.constant.2 c.args.k c.requires.constant.1 c.requires.constant.3)
 
 pub bounds-heap-k : goal.bounds-heap-k
-bounds-heap-k c = omega (arith, node-small c.requires.0.3 c.args.k c.requires.0.2 c.requires.0.4)
+bounds-heap-k c = node-small c.requires.constant.2 c.args.k c.requires.constant.1 c.requires.constant.3
 
-pub returns-then-heap-k : goal.returns-then-heap-k
-returns-then-heap-k c = λ nodes s ds h e. length-apart h c.args.k ds e c.args.at c.args.w c.requires.1 c.if-heap-k.true
+pub returns-then-x-w : goal.returns-then-x-w
+returns-then-x-w c = λ s ds h e. length-apart h c.args.k ds e c.args.at c.args.w c.requires.inside c.if-x-w.true
 
-pub overflow_add-k-2 : goal.overflow_add-k-2
-overflow_add-k-2 c = omega (arith, node-small c.requires.0.3 c.args.k c.requires.0.2 c.requires.0.4)
+pub overflow_add-start : goal.overflow_add-start
+overflow_add-start c =
+    omega (arith, start_small c.requires.constant.2 c.args.k c.requires.constant.1 c.requires.constant.3, length-is c.requires.constant.2 c.args.k c.requires.constant.1 c.requires.constant.3, c.if-x-w.false)
 
-pub offset_bounds-heap-k-2 : goal.offset_bounds-heap-k-2
-offset_bounds-heap-k-2 c = omega (arith, node-small c.requires.0.3 c.args.k c.requires.0.2 c.requires.0.4)
-
-pub bounds-heap-k-2 : goal.bounds-heap-k-2
-bounds-heap-k-2 c = omega (arith, node-small c.requires.0.3 c.args.k c.requires.0.2 c.requires.0.4)
-
-pub same_bits-requires : goal.same_bits-requires
-same_bits-requires c = (omega (arith, c.requires.0.3.bits-long, start_small c.requires.0.3 c.args.k c.requires.0.2 c.requires.0.4, length-is c.requires.0.3 c.args.k c.requires.0.2 c.requires.0.4, c.if-heap-k.false), omega (arith, c.requires.0.3.bits-long, c.requires.1))
+pub slice_bounds-same_bytes-end : goal.slice_bounds-same_bytes-end
+slice_bounds-same_bytes-end c =
+    omega (arith, start_small c.requires.constant.2 c.args.k c.requires.constant.1 c.requires.constant.3, length-is c.requires.constant.2 c.args.k c.requires.constant.1 c.requires.constant.3, c.if-x-w.false)
 
 pub returns : goal.returns
-returns c = λ nodes s ds h e. part-compared h c.args.k ds e c.args.at c.args.w c.if-heap-k.false c.same_bits.result c.same_bits.ensures
+returns c =
+    λ s ds h e. part-compared h c.args.k ds e c.args.at c.args.w c.if-x-w.false c.same_bytes.result
+    (compared-by (take c.args.w (drop (constant_at c.args.heap.now.constants c.args.k).start c.args.heap.now.bits)) (take c.args.w (drop c.args.at c.args.heap.now.bits)) c.same_bytes.result
+    (c.same_bytes.ensures
+    ∙ (λ i. same (part_at c.args.heap.now.bits (constant_at c.args.heap.now.constants c.args.k).start c.args.w i) (part_at c.args.heap.now.bits c.args.at c.args.w i))))

@@ -1,13 +1,13 @@
 -- `number_in` meets its contract: at each turn i bits are stored, and v is left of the number.
-use native.Mathlib.Omega.{arith}
+use Rattle.std.proofs.Common.{arith}
 use Rattle.heap_laws.specs.Candidates.{halving-none, halving-more, halving-all}
 use Rattle.script_heap.proofs.number_in.Goals as goal
 
 pub loop-i-init : goal.loop-i-init
-loop-i-init c = (omega arith, λ long. halving-none c.args.bits.now c.args.at c.args.w c.args.value)
+loop-i-init c = λ long. halving-none c.args.bits.now c.args.at c.args.w c.args.value
 
 pub loop-i-preserved : goal.loop-i-preserved
-loop-i-preserved c = (omega arith, λ long. halving-more (omega (arith, long, c.requires)) c.loop-i-test.true (c.loop-i.invariant.1 long))
+loop-i-preserved c = λ long. halving-more (omega (arith, long, c.requires)) (omega arith) (c.loop-i.invariant long)
 
 pub returns : goal.returns
-returns c = λ long. halving-all c.loop-i-test.false (c.loop-i.invariant.1 long)
+returns c = λ long. halving-all (omega arith) (c.loop-i.invariant long)

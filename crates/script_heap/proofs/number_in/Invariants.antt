@@ -1,13 +1,8 @@
 -- `number_in` meets its contract: at each turn i bits are stored, and v is left of the number.
-use Prim.Native.Nat.{◌-◌, ◌≤◌}
-use mathlib.Core.Path.{◌≡◌}
-use lib.ListN.{length}
+use Rattle.std.proofs.Common.{◌≡◌, length}
 use Rattle.heap_laws.specs.Heap.{bits_size}
 use Rattle.heap_laws.specs.Candidates.{Halving}
 use Rattle.script_heap.proofs.number_in.Given as goal
 
 abbrev pub invariant-loop-i : goal.invariant-loop-i
-invariant-loop-i l = (l.i ≤ l.w) × (length l.initial.bits ≡ bits_size → Halving l.initial.bits l.bits l.at l.w l.value l.i l.v)
-
-abbrev pub decreases-loop-i : goal.decreases-loop-i
-decreases-loop-i l = l.w - l.i
+invariant-loop-i l = length l.initial.bits ≡ bits_size → Halving l.initial.bits l.bits l.at l.w l.value l.i l.v

@@ -1,9 +1,9 @@
 -- `push_constant` meets its contract: twice the place and one more stands for the constant.
-use mathlib.Core.Path.{subst}
+use Rattle.std.proofs.Common.{subst}
 use Rattle.readback.specs.Rebuild.{Ref}
 use Rattle.heap_laws.specs.Stacks.{ref-constant}
 use Rattle.script_heap.specs.Told.{Pushed}
 use Rattle.script_heap.proofs.push_constant.Goals as goal
 
-pub returns : goal.returns
-returns c = (c.push.ensures.0, λ nodes bits t refs h w. subst (λ (x : Ref). Pushed c.args.s.now c.push.new.heap refs x c.push.result) (ref-constant c.args.s.now c.args.p) (c.push.ensures.1 nodes bits t c.args.s.now refs h w))
+pub returns-clause-pushed : goal.returns-clause-pushed
+returns-clause-pushed c = λ t refs h w. subst (λ (x : Ref). Pushed c.args.s.now c.push.new.heap refs x c.push.result) (ref-constant c.args.s.now c.args.p) (c.push.ensures.pushed t c.args.s.now refs h w)

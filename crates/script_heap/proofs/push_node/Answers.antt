@@ -1,9 +1,9 @@
 -- `push_node` meets its contract: twice its number stands for the node.
-use mathlib.Core.Path.{subst}
+use Rattle.std.proofs.Common.{subst}
 use Rattle.readback.specs.Rebuild.{Ref}
 use Rattle.heap_laws.specs.Stacks.{ref-node}
 use Rattle.script_heap.specs.Told.{Pushed}
 use Rattle.script_heap.proofs.push_node.Goals as goal
 
-pub returns : goal.returns
-returns c = (c.push.ensures.0, λ nodes bits s script refs h w. subst (λ (x : Ref). Pushed script c.push.new.heap refs x c.push.result) (ref-node script c.args.i) (c.push.ensures.1 nodes bits s script refs h w))
+pub returns-clause-pushed : goal.returns-clause-pushed
+returns-clause-pushed c = λ s script refs h w. subst (λ (x : Ref). Pushed script c.push.new.heap refs x c.push.result) (ref-node script c.args.i) (c.push.ensures.pushed s script refs h w)

@@ -1,25 +1,37 @@
 -- `settle` meets its contract: the constant is found, or it is new and is entered, as far as there is room.
-use native.Mathlib.Omega.{arith}
+use Rattle.std.proofs.Common.{◌∙◌, ap, refl, arith, Some}
+use Rattle.heap_laws.specs.Heap.{hash_of}
+use Rattle.heap_laws.specs.Entering.{hash-small}
+use Rattle.heap_laws.specs.Candidates.{part_at}
 use Rattle.script_heap.specs.Constants.{bit-room, settle-found, settle-over, settle-enter}
 use Rattle.script_heap.proofs.settle.Goals as goal
 
-pub hash_at-j-requires : goal.hash_at-j-requires
-hash_at-j-requires c = omega (arith, bit-room c.requires.0.1, c.requires.1)
+pub slice_bounds-hash_at-end : goal.slice_bounds-hash_at-end
+slice_bounds-hash_at-end c = omega (arith, bit-room c.requires.holds.1, c.requires.few)
 
-pub find_bits-c-requires : goal.find_bits-c-requires
-find_bits-c-requires c = ((c.args.nodes.now, c.requires.0), omega (arith, bit-room c.requires.0.1, c.requires.1), c.hash_at-j.ensures.0 c.requires.0.1.bits-long)
+pub find_bits-requires : goal.find_bits-requires
+find_bits-requires c = record {
+  holds = c.requires.holds;
+  inside = omega (arith, bit-room c.requires.holds.1, c.requires.few);
+  hash = c.hash_at-j.ensures ∙ ap hash_of (part_at c.args.heap.now.bits c.args.heap.now.bit_count c.args.w);
+}
 
-pub returns-then-c-gt0 : goal.returns-then-c-gt0
-returns-then-c-gt0 c = λ s h. settle-found h c.args.w c.requires.1 c.find_bits-c.result (c.find_bits-c.ensures c.args.nodes.now s h) c.if-c-gt0.true
+pub returns-in-Some : goal.returns-in-Some
+returns-in-Some c = λ s h. settle-found h c.args.w c.requires.few (Some c.in-Some.k) c.in-Some.k (c.in-Some.ensures s h) refl
 
 pub overflow_sub-at : goal.overflow_sub-at
-overflow_sub-at c = omega (arith, bit-room c.requires.0.1, c.requires.1)
+overflow_sub-at c = bit-room c.requires.holds.1
 
 pub returns-then-w-at : goal.returns-then-w-at
-returns-then-w-at c = λ s h. settle-over h c.args.w c.requires.1 c.find_bits-c.result (c.find_bits-c.ensures c.args.nodes.now s h) c.if-c-gt0.false c.if-w-at.true
+returns-then-w-at c = λ s h. settle-over h c.args.w c.requires.few c.find_bits.result (c.find_bits.ensures s h) c.in_default.is c.if-w-at.true
 
 pub enter_constant-requires : goal.enter_constant-requires
-enter_constant-requires c = (c.hash_at-j.ensures.1, omega (arith, bit-room c.requires.0.1, c.if-w-at.false))
+enter_constant-requires c = record {
+  small = omega (arith, c.hash_at-j.ensures, hash-small);
+  room = omega (arith, bit-room c.requires.holds.1, c.if-w-at.false);
+}
 
 pub returns : goal.returns
-returns c = λ s h. settle-enter h c.args.w c.requires.1 c.find_bits-c.result (c.find_bits-c.ensures c.args.nodes.now s h) c.if-c-gt0.false c.hash_at-j.result c.enter_constant.new.heap c.enter_constant.new.nodes c.enter_constant.result c.if-w-at.false (c.hash_at-j.ensures.0 h.bits-long) c.enter_constant.ensures
+returns c =
+    λ s h. settle-enter h c.args.w c.requires.few c.find_bits.result (c.find_bits.ensures s h) c.in_default.is c.hash_at-j.result c.enter_constant.new.heap c.enter_constant.result c.if-w-at.false
+    (c.hash_at-j.ensures ∙ ap hash_of (part_at c.args.heap.now.bits c.args.heap.now.bit_count c.args.w)) c.enter_constant.ensures

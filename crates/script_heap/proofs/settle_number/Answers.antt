@@ -1,5 +1,5 @@
 -- `settle_number` meets its contract: too many bits, or they are stored behind those in use and settled.
-use native.Mathlib.Omega.{arith}
+use Rattle.std.proofs.Common.{arith}
 use Rattle.readback.specs.Rebuild.{low_bits}
 use Rattle.rebuilt.specs.Constants.{length-low-bits}
 use Rattle.heap_laws.specs.Settling.{over-wide}
@@ -13,7 +13,10 @@ pub number_in-requires : goal.number_in-requires
 number_in-requires c = omega (arith, bit-room c.requires.1, c.if-w-gt-MAX_BITS.false)
 
 pub settle-requires : goal.settle-requires
-settle-requires c = ((c.requires.0, held-filled c.requires.1 (low_bits c.args.width c.args.value) c.args.width c.if-w-gt-MAX_BITS.false (length-low-bits c.args.width c.args.value) c.number_in.ensures), c.if-w-gt-MAX_BITS.false)
+settle-requires c = record {
+  holds = (c.requires.0, held-filled c.requires.1 _ (low_bits c.args.width c.args.value) c.args.width c.if-w-gt-MAX_BITS.false (length-low-bits c.args.width c.args.value) c.number_in.ensures);
+  few = c.if-w-gt-MAX_BITS.false;
+}
 
 pub returns : goal.returns
-returns c = λ s h. told-filled h (low_bits c.args.width c.args.value) c.args.width c.if-w-gt-MAX_BITS.false (length-low-bits c.args.width c.args.value) c.number_in.ensures c.settle.new.heap c.settle.new.nodes c.settle.result (c.settle.ensures s (held-filled h (low_bits c.args.width c.args.value) c.args.width c.if-w-gt-MAX_BITS.false (length-low-bits c.args.width c.args.value) c.number_in.ensures))
+returns c = λ s h. told-filled h _ (low_bits c.args.width c.args.value) c.args.width c.if-w-gt-MAX_BITS.false (length-low-bits c.args.width c.args.value) c.number_in.ensures c.settle.new.heap c.settle.result (c.settle.ensures s (held-filled h _ (low_bits c.args.width c.args.value) c.args.width c.if-w-gt-MAX_BITS.false (length-low-bits c.args.width c.args.value) c.number_in.ensures))

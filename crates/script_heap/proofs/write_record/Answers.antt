@@ -17,4 +17,4 @@ pub write_word-requires-4 : goal.write_word-requires-4
 write_word-requires-4 c = (omega arith, fits-d (node_of c.args.n) c.requires.1)
 
 pub returns : goal.returns
-returns c = λ long. record-stored c.args.nodes.now c.args.at (node_of c.args.n) long c.requires.0 c.write_word.ensures c.write_word-2.ensures c.write_word-3.ensures c.write_word-4.ensures
+returns c = λ long. record-stored c.args.records.now c.args.at (node_of c.args.n) long c.requires.0 c.write_word.ensures c.write_word-2.ensures c.write_word-3.ensures c.write_word-4.ensures

@@ -1,32 +1,19 @@
 -- `hash_from` meets its contract: at each turn the hash so far goes on over the bytes that are left.
-use Prim.Native.Nat.{ℕ, ◌+◌, ◌*◌, ◌%◌}
-use mathlib.Core.Path.{refl, ap, sym, ◌∙◌}
-use native.Mathlib.Omega.{arith}
+use Rattle.std.proofs.Common.{ℕ, ◌+◌, ◌*◌, ◌%◌, ap, sym, ◌∙◌, arith, drop}
 use Rattle.script_tokens.specs.Reached.{between}
 use Rattle.script_names.specs.Entries.{hash_from}
-use Rattle.script_names.specs.Laws.{hash-more, hash-end}
+use Rattle.script_names.specs.Laws.{hash-more, hash-end, between-length}
 use Rattle.script_names.proofs.hash_from.Goals as goal
 
-pub loop-i-init : goal.loop-i-init
-loop-i-init c = (omega arith, c.requires.1, c.requires.0, refl)
-
-pub overflow_mul-h : goal.overflow_mul-h
-overflow_mul-h c = omega (arith, c.loop-i.invariant.2)
-
-pub bounds-s-i : goal.bounds-s-i
-bounds-s-i c = omega (arith, c.loop-i-test.true, c.requires.2)
-
-pub overflow_add-h : goal.overflow_add-h
-overflow_add-h c = omega (arith, c.loop-i.invariant.2, c.wide.ensures, c.shared_slice_known-1.given c.loop-i.i)
-
-pub overflow_add-i : goal.overflow_add-i
-overflow_add-i c = omega (arith, c.loop-i-test.true)
-
-pub loop-i-smaller : goal.loop-i-smaller
-loop-i-smaller c = omega (arith, c.loop-i-test.true)
-
-pub loop-i-preserved : goal.loop-i-preserved
-loop-i-preserved c = (omega (arith, c.loop-i.invariant.0), omega (arith, c.loop-i-test.true), omega arith, c.loop-i.invariant.3 ∙ hash-more c.args.s.now c.loop-i.h c.loop-i.i c.args.e c.loop-i-test.true c.requires.2 ∙ ap (λ (x : ℕ). hash_from ((c.loop-i.h * 31 + x) % 4096) (between c.args.s.now (c.loop-i.i + 1) c.args.e)) (sym c.wide.ensures))
+pub loop-c-preserved : goal.loop-c-preserved
+loop-c-preserved c =
+    let n = between-length c.args.s.now c.args.from c.args.e c.requires.1 c.requires.2 in (
+      omega arith,
+      c.loop-c.invariant.1 ∙ hash-more (between c.args.s.now c.args.from c.args.e) c.loop-c.h c.loop-c.c-index (omega (arith, n, c.loop-c-test.true))
+          ∙ ap (λ (x : ℕ). hash_from ((c.loop-c.h * 31 + x) % 4096) (drop (c.loop-c.c-index + 1) (between c.args.s.now c.args.from c.args.e))) (sym c.from.ensures),
+    )
 
 pub returns : goal.returns
-returns c = (sym (c.loop-i.invariant.3 ∙ ap (λ (x : ℕ). hash_from c.loop-i.h (between c.args.s.now c.loop-i.i x)) (omega (arith, c.loop-i.invariant.1, c.loop-i-test.false)) ∙ hash-end c.args.s.now c.loop-i.h c.loop-i.i), c.loop-i.invariant.2)
+returns c =
+    let n = between-length c.args.s.now c.args.from c.args.e c.requires.1 c.requires.2 in
+    (sym (c.loop-c.invariant.1 ∙ hash-end (between c.args.s.now c.args.from c.args.e) c.loop-c.h c.loop-c.c-index (omega (arith, n, c.loop-c-test.false))), c.loop-c.invariant.0)

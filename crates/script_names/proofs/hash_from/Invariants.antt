@@ -1,12 +1,8 @@
--- `hash_from` meets its contract: at each turn the hash so far goes on over the bytes that are left.
-use Prim.Native.Nat.{◌-◌, ◌≤◌, ◌<◌}
-use mathlib.Core.Path.{◌≡◌}
+-- At each turn the hash so far goes on over the bytes that are left.
+use Rattle.std.proofs.Common.{◌≡◌, ◌<◌, drop}
 use Rattle.script_tokens.specs.Reached.{between}
 use Rattle.script_names.specs.Entries.{hash_from}
 use Rattle.script_names.proofs.hash_from.Given as goal
 
-abbrev pub invariant-loop-i : goal.invariant-loop-i
-invariant-loop-i l = (l.from ≤ l.i) × (l.i ≤ l.e) × (l.h < 4096) × (hash_from l.start (between l.s l.from l.e) ≡ hash_from l.h (between l.s l.i l.e))
-
-abbrev pub decreases-loop-i : goal.decreases-loop-i
-decreases-loop-i l = l.e - l.i
+abbrev pub invariant-loop-c : goal.invariant-loop-c
+invariant-loop-c l = (l.h < 4096) × (hash_from l.fn.start (between l.fn.s l.fn.from l.fn.e) ≡ hash_from l.h (drop l.c-index (between l.fn.s l.fn.from l.fn.e)))

@@ -1,41 +1,19 @@
 -- `scanned` meets its contract: at each turn the place is that of the next name, and no line before it has the name.
-use Prim.Native.Nat.{◌-◌}
-use mathlib.Core.Path.{◌≡◌, sym, ◌∙◌}
-use mathlib.Core.Bool.{false}
-use native.Mathlib.Omega.{arith}
-use lib.ListN.{drop}
+use Rattle.std.proofs.Common.{◌≡◌, ◌-◌, false, sym, ◌∙◌, arith, drop}
 use Rattle.lists.specs.Tests.{same}
 use Rattle.script_tokens.specs.Reached.{between}
 use Rattle.script_names.specs.Entries.{entry_from, name_at}
 use Rattle.script_names.specs.Laws.{name-same, all_more, entry-start, entry_next}
 use Rattle.script_names.proofs.scanned.Goals as goal
 
-pub after_bar-p-requires : goal.after_bar-p-requires
-after_bar-p-requires c = c.requires.0
-
 pub loop-k-init : goal.loop-k-init
-loop-k-init c = (omega arith, c.after_bar-p.ensures.0, entry-start _ _ c.after_bar-p.ensures.1, λ j l. absurd (omega arith))
-
-pub name_is-requires : goal.name_is-requires
-name_is-requires c = (omega (arith, c.requires.1.low), c.requires.1.high, c.loop-k.invariant.1)
+loop-k-init c = (c.after_bar-p.ensures.0, entry-start _ _ c.after_bar-p.ensures.1, λ j l. absurd (omega arith))
 
 pub returns-then-name_is : goal.returns-then-name_is
-returns-then-name_is c = (c.loop-k-test.true, c.loop-k.invariant.1, c.loop-k.invariant.2, sym (name-same c.args.s.now c.args.a c.args.f c.loop-k.p (entry_from c.loop-k.k (drop c.args.first c.args.s.now)) c.requires.1 c.loop-k.invariant.2 (c.requires.2 c.loop-k.k c.loop-k-test.true)) ∙ sym c.name_is.ensures ∙ c.if-name_is.true)
-
-pub after_bar-requires : goal.after_bar-requires
-after_bar-requires c = c.loop-k.invariant.1
-
-pub after_bar-p-requires-in-loop-k : goal.after_bar-p-requires-in-loop-k
-after_bar-p-requires-in-loop-k c = c.after_bar.ensures.0
-
-pub overflow_add-k : goal.overflow_add-k
-overflow_add-k c = omega (arith, c.loop-k-test.true)
-
-pub loop-k-smaller : goal.loop-k-smaller
-loop-k-smaller c = omega (arith, c.loop-k-test.true)
+returns-then-name_is c = (c.loop-k-test.true, c.loop-k.invariant.0, c.loop-k.invariant.1, sym (name-same c.args.s.now c.args.a c.args.f c.loop-k.p (entry_from c.loop-k.k (drop c.args.first c.args.s.now)) c.requires.1 c.loop-k.invariant.1 (c.requires.2 c.loop-k.k c.loop-k-test.true)) ∙ sym c.name_is.ensures ∙ c.if-name_is.true)
 
 pub loop-k-preserved : goal.loop-k-preserved
-loop-k-preserved c = (omega (arith, c.loop-k-test.true), c.after_bar-p-in-loop-k.ensures.0, entry_next c.loop-k.k _ _ _ _ c.loop-k.invariant.2 c.after_bar.ensures.1 c.after_bar-p-in-loop-k.ensures.1, all_more (λ j. same (between c.args.s.now c.args.a (c.args.f - 1)) (name_at (drop c.args.first c.args.s.now) j) ≡ false) c.loop-k.k c.loop-k.invariant.3 (sym (name-same c.args.s.now c.args.a c.args.f c.loop-k.p (entry_from c.loop-k.k (drop c.args.first c.args.s.now)) c.requires.1 c.loop-k.invariant.2 (c.requires.2 c.loop-k.k c.loop-k-test.true)) ∙ sym c.name_is.ensures ∙ c.if-name_is.false))
+loop-k-preserved c = (c.after_bar-p-in-loop-k.ensures.0, entry_next c.loop-k.k _ _ _ _ c.loop-k.invariant.1 c.after_bar.ensures.1 c.after_bar-p-in-loop-k.ensures.1, all_more (λ j. same (between c.args.s.now c.args.a (c.args.f - 1)) (name_at (drop c.args.first c.args.s.now) j) ≡ false) c.loop-k.k c.loop-k.invariant.2 (sym (name-same c.args.s.now c.args.a c.args.f c.loop-k.p (entry_from c.loop-k.k (drop c.args.first c.args.s.now)) c.requires.1 c.loop-k.invariant.1 (c.requires.2 c.loop-k.k c.loop-k-test.true)) ∙ sym c.name_is.ensures ∙ c.if-name_is.false))
 
 pub returns : goal.returns
-returns c = λ j l. c.loop-k.invariant.3 j (omega (arith, l, c.loop-k-test.false))
+returns c = λ j l. c.loop-k.invariant.2 j (omega (arith, l, c.loop-k-test.false))

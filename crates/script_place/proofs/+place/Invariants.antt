@@ -5,10 +5,10 @@ use Rattle.script_place.specs.Turning.{Turning}
 use Rattle.script_place.proofs.+place.Given as goal
 
 abbrev pub decreases-place : goal.decreases-place
-decreases-place l = length l.s.now - l.at
+decreases-place l = length l.script.now.text.now - l.at
 
 abbrev pub invariant-loop-w : goal.invariant-loop-w
-invariant-loop-w l = Turning l.s l.t l.h l.initial.heap l.initial.nodes l.initial.bits l.at l.levels l.x l.heap l.nodes l.bits l.base l.w l.e l.v
+invariant-loop-w l = Turning l.script.text.now l.script.table.now l.script.header l.initial.heap l.at l.levels l.x l.heap l.base l.w l.e l.v
 
 abbrev pub decreases-loop-w : goal.decreases-loop-w
-decreases-loop-w l = length l.s - l.e
+decreases-loop-w l = length l.script.text.now - l.e

@@ -1,5 +1,5 @@
 -- `fits` meets its contract: at each turn the numbers before the place were within.
-use native.Mathlib.Omega.{arith}
+use Rattle.std.proofs.Common.{arith}
 use Rattle.script_rebuild.specs.Deciding.{compared-start, compared-next, compared-no, compared-all}
 use Rattle.script_rebuild.proofs.fits.Goals as goal
 
@@ -8,12 +8,6 @@ loop-i-init c = compared-start _ _ c.requires.0 c.requires.1
 
 pub returns-then-need-i : goal.returns-then-need-i
 returns-then-need-i c = compared-no c.loop-i.invariant c.loop-i-test.true c.if-need-i.true
-
-pub overflow_add-i : goal.overflow_add-i
-overflow_add-i c = omega (arith, c.loop-i-test.true)
-
-pub loop-i-smaller : goal.loop-i-smaller
-loop-i-smaller c = omega (arith, c.loop-i-test.true)
 
 pub loop-i-preserved : goal.loop-i-preserved
 loop-i-preserved c = compared-next c.loop-i.invariant c.loop-i-test.true c.if-need-i.false

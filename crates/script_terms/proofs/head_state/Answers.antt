@@ -2,7 +2,7 @@
 use mathlib.Core.Path.{ap, sym}
 use native.Mathlib.Omega.{arith}
 use Rattle.script_terms.specs.Turns.{head_end}
-use Rattle.script_terms.specs.OpenLaws.{nothing-open, constant-going, variable-going, nullary-going, operator-going, call-going, select-going, head-none, head-constant, head-variable, head-nullary, head-operator, head-call, head-select}
+use Rattle.script_terms.specs.OpenLaws.{constant-going, variable-going, nullary-going, operator-going, call-going, select-going, head-constant, head-variable, head-nullary, head-operator, head-call, head-select}
 use Rattle.script_terms.proofs.head_state.Goals as goal
 
 pub overflow_add-result : goal.overflow_add-result
@@ -10,9 +10,6 @@ overflow_add-result c = omega (arith, (head-constant c.requires.0 c.requires.1 c
 
 pub overflow_sub-result : goal.overflow_sub-result
 overflow_sub-result c = omega (arith, (head-constant c.requires.0 c.requires.1 c.args.at c.requires.2 c.in-Constant.is).low)
-
-pub returns-in-No : goal.returns-in-No
-returns-in-No c = ((λ s D h. nothing-open (head-none s D c.args.at h c.in-No.is)), tt)
 
 pub returns-in-Constant : goal.returns-in-Constant
 returns-in-Constant c = ((λ s D h. constant-going (head-constant s D c.args.at h c.in-Constant.is)), sym (ap head_end c.in-Constant.is))

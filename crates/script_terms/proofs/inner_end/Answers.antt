@@ -1,12 +1,12 @@
--- `inner_end` meets its contract: what must follow an operand, by the code.
+-- `inner_end` meets its contract: a comparison or a connective has a second operand.
 use Rattle.script_terms.specs.Lengths.{before-comparison, before-connective, before-any}
 use Rattle.script_terms.proofs.inner_end.Goals as goal
 
-pub returns-then-c-eq-COMPARISON : goal.returns-then-c-eq-COMPARISON
-returns-then-c-eq-COMPARISON c = before-comparison c.if-c-eq-COMPARISON.true c.lowered.ensures
+pub returns-in-Comparison : goal.returns-in-Comparison
+returns-in-Comparison c = before-comparison c.in-Comparison.is c.lowered.ensures
 
-pub returns-then-c-eq-CONNECTIVE : goal.returns-then-c-eq-CONNECTIVE
-returns-then-c-eq-CONNECTIVE c = before-connective c.if-c-eq-CONNECTIVE.true c.lowered-then-c-eq-CONNECTIVE.ensures
+pub returns-in-Connective : goal.returns-in-Connective
+returns-in-Connective c = before-connective c.in-Connective.is c.lowered-in-Connective.ensures
 
-pub returns : goal.returns
-returns c = before-any c.args.c c.lowered-2.ensures
+pub returns-in_default : goal.returns-in_default
+returns-in_default c = before-any c.args.c c.lowered-in_default.ensures

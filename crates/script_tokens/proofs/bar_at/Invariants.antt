@@ -1,12 +1,7 @@
--- `bar_at` meets its contract: at each turn nothing so far ended the stretch.
-use Prim.Native.Nat.{◌-◌, ◌≤◌}
-use lib.ListN.{length}
+-- At each turn nothing so far ended the stretch.
 use Rattle.script_tokens.specs.Reached.{ends_name}
-use Rattle.script_tokens.specs.Stretches.{Runs}
+use Rattle.script_tokens.specs.Stretches.{Within}
 use Rattle.script_tokens.proofs.bar_at.Given as goal
 
 abbrev pub invariant-loop-e : goal.invariant-loop-e
-invariant-loop-e l = (l.at ≤ l.e) × (l.e ≤ length l.s) × Runs ends_name l.s l.at l.e
-
-abbrev pub decreases-loop-e : goal.decreases-loop-e
-decreases-loop-e l = length l.s - l.e
+invariant-loop-e l = Within ends_name l.s l.at l.e

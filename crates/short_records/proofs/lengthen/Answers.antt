@@ -7,23 +7,23 @@ use Rattle.short_records.proofs.lengthen.Goals as goal
 
 pub overflow_mul-size : goal.overflow_mul-size
 overflow_mul-size c =
-    omega (arith, (told-whole c.count_records.ensures c.in-Whole.is).2)
+    omega (arith, (told-whole c.count_records.ensures c.in-Ok.is).2)
 
 pub returns-then-size-out : goal.returns-then-size-out
 unfolding lengthen_answer
 returns-then-size-out c =
-    no_room _ _ _ (told-whole c.count_records.ensures c.in-Whole.is).0 (omega (arith, (told-whole c.count_records.ensures c.in-Whole.is).1, c.if-size-out.true)) c.clear_bytes-then-size-out.ensures
+    no_room _ _ _ (told-whole c.count_records.ensures c.in-Ok.is).0 (omega (arith, (told-whole c.count_records.ensures c.in-Ok.is).1, c.if-size-out.true)) c.clear-then-size-out.ensures
 
 pub write_long-requires : goal.write_long-requires
 write_long-requires c =
-    ((told-whole c.count_records.ensures c.in-Whole.is).0, omega (arith, (told-whole c.count_records.ensures c.in-Whole.is).1, c.if-size-out.false))
+    ((told-whole c.count_records.ensures c.in-Ok.is).0, omega (arith, (told-whole c.count_records.ensures c.in-Ok.is).1, c.if-size-out.false))
 
-pub returns-in-Refused : goal.returns-in-Refused
+pub returns-in-Err : goal.returns-in-Err
 unfolding lengthen_answer
-returns-in-Refused c =
-    refused _ _ _ c.in-Refused.e (told-refused c.count_records.ensures c.in-Refused.is) c.clear_bytes.ensures
+returns-in-Err c =
+    refused _ _ _ c.in-Err.e (told-refused c.count_records.ensures c.in-Err.is) c.clear.ensures
 
 pub returns-else-size-out : goal.returns-else-size-out
 unfolding lengthen_answer
 returns-else-size-out c =
-    done _ _ _ (told-whole c.count_records.ensures c.in-Whole.is).0 (sym (told-whole c.count_records.ensures c.in-Whole.is).1) c.if-size-out.false c.write_long.ensures
+    done _ _ _ (told-whole c.count_records.ensures c.in-Ok.is).0 (sym (told-whole c.count_records.ensures c.in-Ok.is).1) c.if-size-out.false c.write_long.ensures

@@ -9,17 +9,17 @@ use Rattle.short_records.proofs.shorten.Goals as goal
 pub returns-then-old-gt-MAX_NODE_BYTES : goal.returns-then-old-gt-MAX_NODE_BYTES
 unfolding shorten_answer
 returns-then-old-gt-MAX_NODE_BYTES c =
-    refused _ _ _ Limit (over-limit c.args.old.now c.if-old-gt-MAX_NODE_BYTES.true) c.clear_bytes.ensures
+    refused _ _ _ Limit (over-limit c.args.old.now c.if-old-gt-MAX_NODE_BYTES.true) c.clear.ensures
 
 pub returns-then-not-encoded : goal.returns-then-not-encoded
 unfolding shorten_answer
 returns-then-not-encoded c =
-    refused _ _ _ Encoding (ill-encoded c.args.old.now c.if-old-gt-MAX_NODE_BYTES.false (sym c.encoded.ensures ∙ c.if-not-encoded.true)) c.clear_bytes-then-not-encoded.ensures
+    refused _ _ _ Encoding (ill-encoded c.args.old.now c.if-old-gt-MAX_NODE_BYTES.false (sym c.encoded.ensures ∙ c.if-not-encoded.true)) c.clear-then-not-encoded.ensures
 
 pub returns-then-n-out : goal.returns-then-n-out
 unfolding shorten_answer
 returns-then-n-out c =
-    no_room _ _ _ (passed c.args.old.now c.if-old-gt-MAX_NODE_BYTES.false (sym c.encoded.ensures ∙ c.if-not-encoded.false)) (omega (arith, c.short_length-n.ensures, c.if-n-out.true)) c.clear_bytes-then-n-out.ensures
+    no_room _ _ _ (passed c.args.old.now c.if-old-gt-MAX_NODE_BYTES.false (sym c.encoded.ensures ∙ c.if-not-encoded.false)) (omega (arith, c.short_length-n.ensures, c.if-n-out.true)) c.clear-then-n-out.ensures
 
 pub returns : goal.returns
 unfolding shorten_answer

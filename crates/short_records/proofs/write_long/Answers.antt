@@ -1,26 +1,27 @@
 -- `short_records::write_long` meets its contract. Assumes nothing.
 use native.Mathlib.Omega.{arith}
+use borrow.Author.Rules.{rules}
 use Rattle.short_records.proofs.Lengthening.{filling-none, filling-more, filling-all, inside, fits, small, record-fits, zeros-fit}
 use Rattle.short_records.proofs.write_long.Goals as goal
 
 pub loop-from-init : goal.loop-from-init
 loop-from-init c = filling-none _ _ _
 
-pub copy-requires : goal.copy-requires
-copy-requires c =
+pub slice_bounds-copy_from_slice-end : goal.slice_bounds-copy_from_slice-end
+slice_bounds-copy_from_slice-end c =
     record-fits c.loop-from.invariant (omega arith) c.requires.0 c.requires.1 _ c.short_size-size.ensures.0
 
 pub overflow_add-at : goal.overflow_add-at
 overflow_add-at c =
     omega (arith, fits c.loop-from.invariant (omega arith) c.requires.0 c.requires.1 _ c.short_size-size.ensures.0, small c.loop-from.invariant (omega arith) c.requires.0 c.requires.1 _ c.short_size-size.ensures.0)
 
-pub overflow_sub-size : goal.overflow_sub-size
-overflow_sub-size c =
-    omega (arith, small c.loop-from.invariant (omega arith) c.requires.0 c.requires.1 _ c.short_size-size.ensures.0)
+pub slice_bounds-copy_from_slice-end-in-loop-from : goal.slice_bounds-copy_from_slice-end-in-loop-from
+slice_bounds-copy_from_slice-end-in-loop-from c =
+    omega (arith, inside c.loop-from.invariant (omega arith) c.requires.0 c.requires.1 _ c.short_size-size.ensures.0)
 
-pub copy-requires-in-loop-from : goal.copy-requires-in-loop-from
-copy-requires-in-loop-from c =
-    zeros-fit c.loop-from.invariant (omega arith) c.requires.0 c.requires.1 _ c.short_size-size.ensures.0 c.copy.ensures
+pub slice_bounds-fill-end : goal.slice_bounds-fill-end
+slice_bounds-fill-end c =
+    zeros-fit c.loop-from.invariant (omega arith) c.requires.0 c.requires.1 _ c.short_size-size.ensures.0 c.copy_from_slice.ensures.after
 
 pub overflow_add-from : goal.overflow_add-from
 overflow_add-from c =
@@ -36,7 +37,7 @@ loop-from-smaller c =
 
 pub loop-from-preserved : goal.loop-from-preserved
 loop-from-preserved c =
-    filling-more c.loop-from.invariant (omega arith) c.requires.0 c.requires.1 _ c.short_size-size.ensures.0 c.copy.ensures c.copy-in-loop-from.ensures
+    filling-more c.loop-from.invariant (omega arith) c.requires.0 c.requires.1 _ c.short_size-size.ensures.0 c.copy_from_slice.ensures.after (c.fill.ensures.after (λ y e. search rules))
 
 pub returns : goal.returns
 returns c =

@@ -1,29 +1,30 @@
--- `sliver_kernel::args_wf` meets its contract. The loop keeps: the answer is what the groups that are left give. Assumes nothing.
-use native.Mathlib.Omega.{arith}
-use mathlib.Core.Path.{refl, sym, ◌∙◌}
-use Rattle.sliver_kernel.proofs.Turns.{turn-next, turn-fails, turn-ends, turn-fits, args-turns}
+-- `sliver_kernel::args_wf` meets its contract: the answer is what the arguments that are left give. Assumes nothing.
+use Rattle.std.proofs.Common.{◌≡◌, ◌+◌, ◌-◌, suc, sym, ◌∙◌, arith, refl}
+use Rattle.echo_spec.specs.Widths.{args_wf}
+use Rattle.sliver_kernel.proofs.Turns.{args-short, args-one}
 use Rattle.sliver_kernel.proofs.args_wf.Goals as goal
 
-pub loop-left-init : goal.loop-left-init
-loop-left-init c = record { rest = refl }
+pub returns-in_default : goal.returns-in_default
+returns-in_default c =
+    let e : c.args.n - c.loop-argument._argument ≡ suc (c.args.n - (c.loop-argument._argument + 1)) = omega arith in
+    sym (c.loop-argument.invariant ∙ args-short c.args.ws.now e c.loop-argument.rest.now c.in_default.len_below)
 
-pub returns-then-not-arg_wf : goal.returns-then-not-arg_wf
-returns-then-not-arg_wf c =
-    sym (turn-fails (args-turns _) c.loop-left.invariant c.loop-left-test.true
-    (sym c.arg_wf.ensures ∙ c.if-not-arg_wf.true))
+pub returns-then-not-earlier : goal.returns-then-not-earlier
+returns-then-not-earlier c =
+    let e : c.args.n - c.loop-argument._argument ≡ suc (c.args.n - (c.loop-argument._argument + 1)) = omega arith in
+    sym (c.loop-argument.invariant
+    ∙ args-one c.args.ws.now e c.loop-argument.rest.now c.in-len1-up.len_at_least
+    ∙ rw (← c.earlier.ensures, c.if-not-earlier.true) refl)
 
-pub overflow_add-at : goal.overflow_add-at
-overflow_add-at c =
-    omega (
-      arith,
-      turn-fits (args-turns _) c.loop-left.invariant
-          (sym c.arg_wf.ensures ∙ c.if-not-arg_wf.false),
-    )
-
-pub loop-left-preserved : goal.loop-left-preserved
-loop-left-preserved c =
-    turn-next (args-turns _) c.loop-left.invariant c.loop-left-test.true
-    (sym c.arg_wf.ensures ∙ c.if-not-arg_wf.false)
+pub loop-argument-preserved : goal.loop-argument-preserved
+loop-argument-preserved c =
+    let e : c.args.n - c.loop-argument._argument ≡ suc (c.args.n - (c.loop-argument._argument + 1)) = omega arith in
+    c.loop-argument.invariant
+    ∙ args-one c.args.ws.now e c.loop-argument.rest.now c.in-len1-up.len_at_least
+    ∙ rw (← c.earlier.ensures, c.if-not-earlier.false) refl
 
 pub returns : goal.returns
-returns c = sym (turn-ends (args-turns _) c.loop-left.invariant c.loop-left-test.false)
+unfolding args_wf
+returns c =
+    let e : c.args.n - c.loop-argument._argument ≡ 0 = omega arith in
+    sym (c.loop-argument.invariant ∙ rw e refl)

@@ -1,29 +1,37 @@
--- `sliver_kernel::chain_wf` meets its contract. The loop keeps: the answer is what the groups that are left give. Assumes nothing.
-use native.Mathlib.Omega.{arith}
-use mathlib.Core.Path.{refl, sym, ◌∙◌}
-use Rattle.sliver_kernel.proofs.Turns.{turn-next, turn-fails, turn-ends, turn-fits, chain-turns}
+-- `sliver_kernel::chain_wf` meets its contract: the answer is what the pairs that are left give. Assumes nothing.
+use Rattle.std.proofs.Common.{◌≡◌, ◌+◌, ◌-◌, suc, sym, ◌∙◌, arith, refl}
+use Rattle.echo_spec.specs.Widths.{chain_wf}
+use Rattle.sliver_kernel.proofs.Turns.{chain-short, chain-pair}
 use Rattle.sliver_kernel.proofs.chain_wf.Goals as goal
 
-pub loop-left-init : goal.loop-left-init
-loop-left-init c = record { rest = refl }
+pub returns-in_default : goal.returns-in_default
+returns-in_default c =
+    let e : c.args.n - c.loop-pair._pair ≡ suc (c.args.n - (c.loop-pair._pair + 1)) = omega arith in
+    sym (c.loop-pair.invariant ∙ chain-short c.args.index c.args.value c.args.ws.now e c.loop-pair.rest.now c.in_default.len_below)
 
-pub returns-then-not-pair_wf : goal.returns-then-not-pair_wf
-returns-then-not-pair_wf c =
-    sym (turn-fails (chain-turns _ _ _) c.loop-left.invariant c.loop-left-test.true
-    (sym c.pair_wf.ensures ∙ c.if-not-pair_wf.true))
+pub returns-then-not-earlier_of : goal.returns-then-not-earlier_of
+returns-then-not-earlier_of c =
+    let e : c.args.n - c.loop-pair._pair ≡ suc (c.args.n - (c.loop-pair._pair + 1)) = omega arith in
+    sym (c.loop-pair.invariant
+    ∙ chain-pair c.args.index c.args.value c.args.ws.now e c.loop-pair.rest.now c.in-len2-up.len_at_least
+    ∙ rw (← c.earlier_of.ensures, c.if-not-earlier_of.true) refl)
 
-pub overflow_add-at : goal.overflow_add-at
-overflow_add-at c =
-    omega (
-      arith,
-      turn-fits (chain-turns _ _ _) c.loop-left.invariant
-          (sym c.pair_wf.ensures ∙ c.if-not-pair_wf.false),
-    )
+pub returns-then-not-earlier_of-2 : goal.returns-then-not-earlier_of-2
+returns-then-not-earlier_of-2 c =
+    let e : c.args.n - c.loop-pair._pair ≡ suc (c.args.n - (c.loop-pair._pair + 1)) = omega arith in
+    sym (c.loop-pair.invariant
+    ∙ chain-pair c.args.index c.args.value c.args.ws.now e c.loop-pair.rest.now c.in-len2-up.len_at_least
+    ∙ rw (← c.earlier_of.ensures, c.if-not-earlier_of.false, ← c.earlier_of-in-loop-pair.ensures, c.if-not-earlier_of-2.true) refl)
 
-pub loop-left-preserved : goal.loop-left-preserved
-loop-left-preserved c =
-    turn-next (chain-turns _ _ _) c.loop-left.invariant c.loop-left-test.true
-    (sym c.pair_wf.ensures ∙ c.if-not-pair_wf.false)
+pub loop-pair-preserved : goal.loop-pair-preserved
+loop-pair-preserved c =
+    let e : c.args.n - c.loop-pair._pair ≡ suc (c.args.n - (c.loop-pair._pair + 1)) = omega arith in
+    c.loop-pair.invariant
+    ∙ chain-pair c.args.index c.args.value c.args.ws.now e c.loop-pair.rest.now c.in-len2-up.len_at_least
+    ∙ rw (← c.earlier_of.ensures, c.if-not-earlier_of.false, ← c.earlier_of-in-loop-pair.ensures, c.if-not-earlier_of-2.false) refl
 
 pub returns : goal.returns
-returns c = sym (turn-ends (chain-turns _ _ _) c.loop-left.invariant c.loop-left-test.false)
+unfolding chain_wf
+returns c =
+    let e : c.args.n - c.loop-pair._pair ≡ 0 = omega arith in
+    sym (c.loop-pair.invariant ∙ rw e refl)

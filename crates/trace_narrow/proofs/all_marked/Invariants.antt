@@ -1,12 +1,8 @@
--- `trace_narrow::all_marked` meets its contract. The loop keeps: the roots from k on decide. Assumes nothing.
-use Prim.Native.Nat.{◌≤◌, ◌-◌}
-use lib.ListN.{length}
+-- `trace_narrow::all_marked` meets its contract: the whole list passes where what is left of it does. Assumes nothing.
+use Rattle.std.proofs.Common.{◌≡◌, drop}
+use Rattle.lists.specs.Tests.{every}
 use Rattle.trace_narrow.specs.Marks.{marking}
-use Rattle.blast_kernel.specs.Every.{Left}
 use Rattle.trace_narrow.proofs.all_marked.Given as goal
 
-abbrev pub invariant-loop-k : goal.invariant-loop-k
-invariant-loop-k l = (l.k ≤ length l.roots) × Left (marking l.marks) l.roots l.k
-
-abbrev pub decreases-loop-k : goal.decreases-loop-k
-decreases-loop-k l = length l.roots - l.k
+abbrev pub invariant-loop-i : goal.invariant-loop-i
+invariant-loop-i l = every (marking l.marks) l.nodes ≡ every (marking l.marks) (drop l.i-index l.nodes)

@@ -1,15 +1,13 @@
-use Prim.Native.Nat.{ℕ}
-use native.Mathlib.Omega.{arith}
-use lib.ListN.{length-replicate}
-use Rattle.lent.specs.Clearing.{replicate-zeros}
-use Rattle.trace_narrow.specs.Marks.{passed-by}
+-- `trace_narrow::roots_narrow` meets its contract. The loop keeps: the first i nodes are marked, and no other. Assumes nothing.
+use Rattle.std.proofs.Common.{arith}
+use Rattle.trace_narrow.specs.Marks.{marks-start, marks-next, marks-whole, passed-by}
 use Rattle.trace_narrow.proofs.roots_narrow.Goals as goal
 
-pub narrow-requires : goal.narrow-requires
-narrow-requires c = record {
-  fact_1 = omega (arith, length-replicate {A = ℕ} 2048 0, c.requires);
-  fact_2 = replicate-zeros 2048;
-}
+pub loop-i-init : goal.loop-i-init
+loop-i-init c = marks-start c.args.nodes.now c.args.ws.now
+
+pub loop-i-preserved : goal.loop-i-preserved
+loop-i-preserved c = marks-next c.args.nodes.now c.args.ws.now c.loop-i.i c.test.result c.loop-i.marks (omega arith) c.test.ensures c.loop-i.invariant
 
 pub returns : goal.returns
-returns c = passed-by c.narrow.ensures c.all_marked.ensures
+returns c = passed-by (marks-whole c.args.nodes.now c.args.ws.now c.loop-i.i c.loop-i.marks (omega arith) c.loop-i.invariant) c.all_marked.ensures

@@ -1,7 +1,7 @@
 -- `trace_rows::mask` meets its contract. The loop keeps: m is the mask of the roots from k on. Assumes nothing.
 use native.Mathlib.Omega.{arith}
 use Prim.Native.Nat.{◌-◌}
-use Rattle.lent.specs.Lent.{slot}
+use Rattle.lent.specs.Arrays.{slot}
 use Rattle.trace_rows.specs.Masks.{mask_start, mask_fits, mask_next, mask-whole, root-bit}
 use Rattle.trace_rows.proofs.mask.Goals as goal
 

@@ -1,7 +1,7 @@
 -- `trace_rows::mask` meets its contract. The loop keeps: m is the mask of the roots from k on. Assumes nothing.
 use Prim.Native.Nat.{◌≤◌}
 use lib.ListN.{length, drop}
-use Rattle.lent.specs.Lent.{slot}
+use Rattle.lent.specs.Arrays.{slot}
 use Rattle.trace_rows.specs.Masks.{Masked}
 use Rattle.trace_rows.proofs.mask.Given as goal
 

@@ -2,7 +2,7 @@
 use native.Mathlib.Omega.{arith}
 use mathlib.Core.Path.{◌≡◌, subst}
 use Prim.Native.Nat.{ℕ}
-use Rattle.lent.specs.Lent.{slot}
+use Rattle.lent.specs.Arrays.{slot}
 use Rattle.trace_rows.specs.Rows.{Done, rows_start, rows_next, row_is, row-end}
 use Rattle.trace_rows.proofs.rows.Goals as goal
 

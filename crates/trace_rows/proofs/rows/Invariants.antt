@@ -1,6 +1,6 @@
 -- `trace_rows::rows` meets its contract. The loop keeps: the first j places have the rows' masks and counts. Assumes nothing.
 use Prim.Native.Nat.{◌≤◌, ◌-◌}
-use Rattle.lent.specs.Lent.{slot}
+use Rattle.lent.specs.Arrays.{slot}
 use Rattle.trace_rows.specs.Rows.{Done}
 use Rattle.trace_rows.proofs.rows.Given as goal
 

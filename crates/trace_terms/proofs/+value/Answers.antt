@@ -2,7 +2,7 @@
 use mathlib.Core.Path.{refl, sym, ◌∙◌}
 use native.Mathlib.Omega.{arith}
 use Rattle.echo_spec.specs.Input.{shape}
-use Rattle.lent.specs.Lent.{slot}
+use Rattle.lent.specs.Arrays.{slot}
 use Rattle.lent.specs.Records.{node_of}
 use Rattle.blast_kernel.specs.Codes.{in-arm, none_of}
 use Rattle.trace_terms.specs.Places.{record-inside, known}

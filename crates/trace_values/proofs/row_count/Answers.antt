@@ -1,8 +1,6 @@
-use Rattle.trace_values.specs.RowTests.{rows_none, rows-some}
+use Rattle.std.proofs.Common.{◌∙◌}
+use Rattle.trace_values.specs.RowTests.{rows-by}
 use Rattle.trace_values.proofs.row_count.Goals as goal
 
-pub returns-then-v-eq0 : goal.returns-then-v-eq0
-returns-then-v-eq0 c = rows_none c.args.v c.args.len c.if-v-eq0.true
-
 pub returns : goal.returns
-returns c = rows-some c.args.v c.args.len c.if-v-eq0.false
+returns c = c.unwrap_or.ensures ∙ rows-by c.args.v c.args.len c.checked_div.result c.checked_div.ensures

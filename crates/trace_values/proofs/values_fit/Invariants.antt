@@ -1,12 +1,7 @@
--- `trace_values::values_fit` meets its contract. The loop keeps: the first k values fit, and c is the column of the next. Assumes nothing.
-use Prim.Native.Nat.{◌-◌, ◌%◌, ◌≤◌}
-use mathlib.Core.Path.{◌≡◌}
-use lib.ListN.{length}
+-- `trace_values::values_fit` meets its contract. The loop keeps: the values so far fit, and c is the column of the next. Assumes nothing.
+use Rattle.std.proofs.Common.{◌≡◌, ◌%◌, length}
 use Rattle.trace_values.specs.RowTests.{FitTo}
 use Rattle.trace_values.proofs.values_fit.Given as goal
 
-abbrev pub invariant-loop-k : goal.invariant-loop-k
-invariant-loop-k l = (l.k ≤ length l.values) × (l.c ≡ l.k % length l.widths) × FitTo l.widths l.values l.k
-
-abbrev pub decreases-loop-k : goal.decreases-loop-k
-decreases-loop-k l = length l.values - l.k
+abbrev pub invariant-loop-x : goal.invariant-loop-x
+invariant-loop-x l = (l.c ≡ l.x-index % length l.widths) × FitTo l.widths l.values l.x-index

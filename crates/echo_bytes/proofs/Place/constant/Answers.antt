@@ -10,4 +10,4 @@ digits-requires c =
 
 pub returns : goal.returns
 unfolding bytes
-returns c = written_then _ _ _ c.word-self.ensures c.digits.ensures
+returns c = written_then _ _ _ c.word.ensures c.digits.ensures

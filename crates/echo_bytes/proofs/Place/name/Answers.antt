@@ -7,5 +7,5 @@ use Rattle.echo_bytes.proofs.Place.name.Goals as goal
 pub returns : goal.returns
 unfolding bytes quoted
 returns c =
-    written_then _ _ _ c.byte-self.ensures
-    (written_then _ _ _ c.word-self.ensures c.byte.ensures)
+    written_then _ _ _ c.byte.ensures
+    (written_then _ _ _ c.word.ensures c.byte-2.ensures)

@@ -18,4 +18,4 @@ returns-then-n-lt-PIECE c = c.piece.ensures ∙ ap (written _) (decimal-padded _
 pub returns : goal.returns
 returns c =
     let n = c.args.n in
-    written_then _ (decimal (n / 100000000)) (padded 8 (n % 100000000)) c.numeral-self.ensures c.piece-2.ensures ∙ ap (written _) (sym (decimal-split 8 n c.if-n-lt-PIECE.false))
+    written_then _ (decimal (n / 100000000)) (padded 8 (n % 100000000)) c.numeral.ensures c.piece-2.ensures ∙ ap (written _) (sym (decimal-split 8 n c.if-n-lt-PIECE.false))

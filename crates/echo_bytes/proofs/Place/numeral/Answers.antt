@@ -14,5 +14,5 @@ returns-then-n-lt-PIECE c = c.piece.ensures ∙ ap (written _) (decimal-padded _
 pub returns : goal.returns
 returns c =
     let n = c.args.n in
-    written_then _ (decimal (n / 100000000)) (padded 8 (n % 100000000)) (c.piece-self.ensures ∙ ap (written _) (decimal-padded _ _ c.digit_count-2.ensures)) c.piece-2.ensures
+    written_then _ (decimal (n / 100000000)) (padded 8 (n % 100000000)) (c.piece-2.ensures ∙ ap (written _) (decimal-padded _ _ c.digit_count-2.ensures)) c.piece-3.ensures
     ∙ ap (written _) (sym (decimal-split 8 n c.if-n-lt-PIECE.false))

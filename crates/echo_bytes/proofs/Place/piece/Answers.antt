@@ -1,6 +1,7 @@
 -- `echo_bytes::Place::piece` meets its contract: at the loop's test, the first j digits are stored, and `left` has the others. Assumes nothing.
+use mathlib.Core.Path.{refl}
 use native.Mathlib.Omega.{arith}
-use Rattle.echo_bytes.proofs.Copying.{copied_none, copied_more, copied_all, written-paste}
+use Rattle.echo_bytes.proofs.Copying.{copied_none, copied_more, copied_all, written-moved}
 use Rattle.echo_bytes.proofs.Numerals.{length-padded, product-fits, behind-all, behind-digit, behind-next}
 use Rattle.echo_bytes.proofs.Place.piece.Goals as goal
 
@@ -19,9 +20,6 @@ overflow_add-out c = omega (arith, c.loop-j.invariant.1.digit)
 pub overflow_add-out-in-loop-j : goal.overflow_add-out-in-loop-j
 overflow_add-out-in-loop-j c = omega (arith, c.fitting-k.ensures, c.loop-j-test.true)
 
-pub bounds-out-at : goal.bounds-out-at
-bounds-out-at c = omega (arith, c.fitting-k.ensures, c.loop-j-test.true, c.loop-j.invariant.0.long)
-
 pub loop-j-preserved : goal.loop-j-preserved
 loop-j-preserved c =
     let args = c.args in
@@ -34,5 +32,5 @@ loop-j-preserved c =
 pub returns : goal.returns
 returns c =
     let args = c.args in
-    written-paste _ _ _ _ _ _ (rw (length-padded args.len args.n) c.fitting-k.ensures) (rw (length-padded args.len args.n) c.more.ensures)
-    (copied_all c.loop-j.invariant.0 (omega arith))
+    written-moved _ _ _ _ _ _ (rw (length-padded args.len args.n) c.fitting-k.ensures) (rw (length-padded args.len args.n) refl)
+    (copied_all c.loop-j.invariant.0 (omega arith)) c.moved.ensures

@@ -9,4 +9,4 @@ digits-requires c = bits-digits c.args.bits.now c.requires
 
 pub returns : goal.returns
 unfolding bytes
-returns c = written_then _ _ _ c.led-self.ensures c.digits.ensures
+returns c = written_then _ _ _ c.led.ensures c.digits.ensures

@@ -1,0 +1,17 @@
+-- `mark` meets its contract: at each turn the mark so far goes on over the bytes that are left.
+use Prim.Native.Nat.{ℕ, ◌+◌, ◌*◌, ◌%◌}
+use mathlib.Core.Path.{ap, sym, ◌∙◌}
+use native.Mathlib.Omega.{arith}
+use lib.ListN.{drop}
+use Rattle.release_names.specs.Marks.{mark_from, mark-drop, mark-drop-end}
+use Rattle.release_names.proofs.mark.Goals as goal
+
+pub loop-b-preserved : goal.loop-b-preserved
+loop-b-preserved c = (
+  omega arith,
+  c.loop-b.invariant.1 ∙ mark-drop c.args.name.now c.loop-b.h c.loop-b.b-index (omega arith)
+      ∙ ap (λ (x : ℕ). mark_from ((c.loop-b.h * 16777619 + x) % 134217728) (drop (c.loop-b.b-index + 1) c.args.name.now)) (sym c.from.ensures),
+)
+
+pub returns : goal.returns
+returns c = (sym (c.loop-b.invariant.1 ∙ mark-drop-end c.args.name.now c.loop-b.h c.loop-b.b-index (omega arith)), c.loop-b.invariant.0)

@@ -1,8 +1,0 @@
--- `start_of` ends: the outputs that are left fall. Assumes nothing.
-use Rattle.replay_reads.proofs.start_of.Goals as goal
-
-pub loop-i-init : goal.loop-i-init
-loop-i-init c = tt
-
-pub loop-i-preserved : goal.loop-i-preserved
-loop-i-preserved c = tt
