@@ -1,5 +1,7 @@
 -- The shapes of the code as the definitions have them.
-use Rattle.std.specs.Prelude.{◌≡◌, refl, false}
+use Rattle.std.specs.Prelude.{ℕ, zero, suc, ◌≤◌, ◌≡◌, refl, false}
+use Rattle.std.proofs.Common.{zero-le, sym}
+use Rattle.std.proofs.Math.Arith.{lt_of_le-ne}
 use Rattle.echo_spec.specs.Shapes as shapes
 use Rattle.blast_kernel.specs.declared.Shape.{Shape}
 use Rattle.blast_kernel.specs.declared.Shape.TheVariants.{
@@ -74,3 +76,12 @@ no_bool Unary a b c = refl
 no_bool Select a b c = refl
 no_bool Call a b c = refl
 no_bool Unknown a b c = refl
+
+-- x is none of the numbers below n, as the last arm of a match is told
+abbrev pub NoneOf : ℕ → ℕ → Type 0
+NoneOf zero x = Unit {0}
+NoneOf (suc n) x = NoneOf n x × (x ≡ n → ⊥)
+
+pub none_of : (n x : ℕ) → NoneOf n x → n ≤ x
+none_of zero x t = zero-le
+none_of (suc n) x t = let h : n ≤ x = none_of n x t.0 in lt_of_le-ne h (λ e. t.1 (sym e))

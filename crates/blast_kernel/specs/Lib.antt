@@ -1,4 +1,3 @@
-pub mod Codes
 pub mod Records
 pub mod Every
 pub mod Kinds

@@ -13,9 +13,6 @@ ghost use Rattle.blast_kernel.specs.Kinds.{shape_in};
 use lent::{Node, node_at, node_count};
 use refusals::{MAX_BITS, MAX_NODE_BYTES, MAX_SIDE, RECORD};
 
-// For the crates that are not yet written over: the shapes by their codes.
-pub mod codes;
-
 // How many kinds there are: 0 to 38.
 pub const KINDS: u8 = 39;
 

@@ -1,6 +1,6 @@
--- Array widths chosen per array (document 02, L5): where a width is refused, and what the arrays of a script are declared with.
+-- Array widths chosen per array: where a width is refused, and what the arrays of a script are declared with.
 use Rattle.std.specs.Prelude.{ℕ, ◌≤◌, ◌<◌, ◌≡◌, List, [], ◌∷◌, not, ◌↔◌, T, length, get_or}
-use Rattle.reading.specs.Trees.{Array, Declarations}
+use Rattle.reading.specs.Trees.{Array}
 use Rattle.echo_spec.specs.Input.{Problem, ArrayWidths, array_widths, pass_within, within_limits, encoded, dag_of, aname_table}
 use Rattle.echo_spec.specs.Widths.{array_widths_ok}
 use Rattle.echo_spec.specs.Tables.{one_length, columns_ok}

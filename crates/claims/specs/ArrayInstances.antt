@@ -1,5 +1,5 @@
 -- The claims on array widths at problems: each speaks of something. The problems have the arrays m and k, with a store into each.
-use Rattle.std.specs.Prelude.{ℕ, ◌≤◌, ◌<◌, ◌≡◌, refl, not, T, length, get_or, replicate, Ok, Err}
+use Rattle.std.specs.Prelude.{ℕ, ◌≡◌, refl, not, T, length, get_or, Ok, Err}
 use Rattle.std.proofs.Common.{sym, arith}
 use Rattle.std.proofs.Math.Path.{ap}
 use mathlib.Core.List.{List, [], ◌∷◌, ◌++◌}
@@ -15,7 +15,7 @@ use Rattle.smtlib.specs.Sorts.{WellSorted}
 use Rattle.smtlib.specs.Grammar.{Script}
 use Rattle.sliver_kernel.specs.declared.WidthError.TheVariants.{Malformed, ArrayWidth}
 use Rattle.theorems.specs.Answered.{printed}
-use Rattle.claims.specs.Claims.{Accepts, WidthContract, well-sorted, one-reading, widths-written, widths-uneven}
+use Rattle.claims.specs.Claims.{Accepts, WidthContract, well-sorted, one-reading, widths-uneven}
 use Rattle.claims.specs.ArrayClaims.{array-widths-refused, pass-widths-refused, declared-widths, other-arrays}
 
 -- ---------------------------------------------------------------- the printer

@@ -1,16 +1,14 @@
 -- What the project promises of the printer's answers. A reader who believes the definitions (crate `echo_spec`: what is
 -- printed and what is refused; crate `smtlib`: what bytes mean by the standard) can stop at this page.
 --
--- Contents of this crate: here, the printer and the width pass; `ArrayClaims`, widths of arrays by the table (L5); `SizeClaims`, room for a
--- script, known beforehand (document 02, L1); `HiddenClaims`, scripts with addresses hidden (L10); `ReadClaims`, scripts read back (L6).
--- Beside each stand instances (`Instances`, `ArrayInstances`, `SizeInstances`, `HiddenInstances`, `ReadInstances`), which show that its
--- claims are not empty.
-use Rattle.std.specs.Prelude.{ℕ, suc, ◌-◌, ◌≤◌, ◌<◌, ◌≡◌, refl, List, [], ◌∷◌, ◌++◌, map, ◌↔◌, T, false, length, get_or, take, drop, replicate, Result, Ok, Err}
+-- The printer and the width pass stand here; `Lib` says where each other subject stands. The files of instances show that the claims are not
+-- empty.
+use Rattle.std.specs.Prelude.{ℕ, suc, ◌-◌, ◌≤◌, ◌<◌, ◌≡◌, List, [], ◌∷◌, ◌++◌, map, ◌↔◌, T, false, length, get_or, take, drop, replicate, Result, Ok, Err}
 use Rattle.std.proofs.Common.{sym, ap, ◌∙◌}
 use Rattle.std.proofs.Math.Seq.{take-append_seam}
 use Rattle.lists.specs.Bytes.{bytes}
 use Rattle.lists.specs.Tests.{among, in_list, in_right}
-use Rattle.reading.specs.Trees.{Name, Reading, Declarations, Trees}
+use Rattle.reading.specs.Trees.{Name, Reading}
 use Rattle.smtlib.specs.Lexicon.{Token, Lex}
 use Rattle.smtlib.specs.Grammar.{Script, script_tokens}
 use Rattle.smtlib.proofs.LexUnique.{lex-unique}
@@ -29,11 +27,9 @@ use Rattle.sliver_kernel.proofs.ext_wf.Reads as ext-wf-code
 use Rattle.sliver_kernel.specs.Outcomes as widths
 use Rattle.refusals.specs.declared.EchoError.{EchoError}
 use Rattle.refusals.specs.Numbers.{error_number, error-number}
-use Rattle.echo_kernel.specs.declared.Echo.{Echo}
-use Rattle.echo_kernel.specs.declared.Echo.TheVariants.{Printed, Refused}
 use Rattle.echo_kernel.specs.Answered.{answered}
 use Rattle.echo_kernel.proofs.echo_ext.Reads as echo-ext-code
-use Rattle.lent.specs.Lent.{problem_of}
+use Rattle.lent.specs.Lent.{problem_at}
 use Rattle.theorems.specs.Scripts.{script_of}
 use Rattle.theorems.specs.SymbolTables as SymbolTables
 use Rattle.theorems.specs.Answered.{
@@ -137,23 +133,16 @@ equal-scripts p p' lent lent' a a' =
 -- ---------------------------------------------------------------- the code of the printer
 
 -- The contract of `echo_ext`: its answer and the buffer afterwards, by the problem and the buffer that were lent. It asks nothing of the caller.
-abbrev pub EchoContract : Echo → Problem → List ℕ → List ℕ → Type 0
+abbrev pub EchoContract : Result ℕ EchoError → Problem → List ℕ → List ℕ → Type 0
 EchoContract r p lent out = answered r out ≡ echo_ext_answer p lent
 
 -- It is what the function is proved to ensure: x are its arguments as they are passed, y as they are when it returns.
 pub echo-contract : (κs : _) (x : _) (r : _) (y : _) → echo-ext-code.Post κs x r y
-    → EchoContract r
-    (problem_of x.0.now x.1.0.now x.1.1.0.now x.1.1.1.0.now x.1.1.1.1.0.now x.1.1.1.1.1.0.now
-    x.1.1.1.1.1.1.0.now x.1.1.1.1.1.1.1.0.now x.1.1.1.1.1.1.1.1.0.now x.1.1.1.1.1.1.1.1.1.0.now
-    x.1.1.1.1.1.1.1.1.1.1.0.now x.1.1.1.1.1.1.1.1.1.1.1.0.now x.1.1.1.1.1.1.1.1.1.1.1.1.0.now
-    x.1.1.1.1.1.1.1.1.1.1.1.1.1.0.now x.1.1.1.1.1.1.1.1.1.1.1.1.1.1.0.now
-    x.1.1.1.1.1.1.1.1.1.1.1.1.1.1.1.0.now x.1.1.1.1.1.1.1.1.1.1.1.1.1.1.1.1.0.now
-    x.1.1.1.1.1.1.1.1.1.1.1.1.1.1.1.1.1.0.now)
-    x.1.1.1.1.1.1.1.1.1.1.1.1.1.1.1.1.1.1.0.now y.1.1.1.1.1.1.1.1.1.1.1.1.1.1.1.1.1.1.0.now
+    → EchoContract r (problem_at x.0.now) x.1.0.now y.1.0.now
 echo-contract κs x r y h = h
 
--- What it answers by `Printed` is the script: its length, its bytes at the front of the buffer, and the rest of the buffer as it was.
-pub printer-prints : (p : Problem) (lent out : List ℕ) (n : ℕ) → EchoContract (Printed n) p lent out
+-- What it answers by `Ok` is the script: its length, its bytes at the front of the buffer, and the rest of the buffer as it was.
+pub printer-prints : (p : Problem) (lent out : List ℕ) (n : ℕ) → EchoContract (Ok n) p lent out
     → Accepts p lent × (n ≡ length (printed p)) × (out ≡ printed p ++ drop (length (printed p)) lent)
 printer-prints p lent out n c =
     let a : Accepts p lent = sym (ap (λ (x : Answer). x.number) c) in
@@ -161,27 +150,27 @@ printer-prints p lent out n c =
     (a, ap (λ (x : Answer). x.count) e, ap (λ (x : Answer). x.output) e)
 
 -- What it refuses has the definitions' number, and the buffer is zeroed.
-pub printer-refuses : (p : Problem) (lent out : List ℕ) (e : EchoError) → EchoContract (Refused e) p lent out
+pub printer-refuses : (p : Problem) (lent out : List ℕ) (e : EchoError) → EchoContract (Err e) p lent out
     → ((echo_ext_answer p lent).number ≡ error_number e) × (out ≡ replicate (length lent) 0)
 printer-refuses p lent out e c =
     let n : (echo_ext_answer p lent).number ≡ error_number e = sym (ap (λ (x : Answer). x.number) c) in
     (n, ap (λ (x : Answer). x.output) (c ∙ refusal-zeroes p lent (error_number e - 1) (n ∙ error-number e)))
 
 -- The bytes that it printed are the script of the problem that was lent.
-pub printed-bytes : (p : Problem) (lent out : List ℕ) (n : ℕ) → EchoContract (Printed n) p lent out → take n out ≡ printed p
+pub printed-bytes : (p : Problem) (lent out : List ℕ) (n : ℕ) → EchoContract (Ok n) p lent out → take n out ≡ printed p
 printed-bytes p lent out n c = let h = printer-prints p lent out n c in rw (h.1, h.2) (take-append_seam (printed p) (drop (length (printed p)) lent))
 
 -- They hold the tokens of one script alone, and it is well sorted and declares its symbols first.
-pub bytes-well-sorted : (p : Problem) (lent out : List ℕ) (n : ℕ) → EchoContract (Printed n) p lent out
+pub bytes-well-sorted : (p : Problem) (lent out : List ℕ) (n : ℕ) → EchoContract (Ok n) p lent out
     → (s : Script) × Lex (take n out) (script_tokens s) × WellSorted s × ((s' : Script) → Lex (take n out) (script_tokens s') → s' ≡ s)
 bytes-well-sorted p lent out n c = rw (printed-bytes p lent out n c) (well-sorted p lent (printer-prints p lent out n c).0)
 
 -- They have one reading: the problem's.
-pub bytes_read : (p : Problem) (lent out : List ℕ) (n : ℕ) → EchoContract (Printed n) p lent out → (r : Reading) → Reads (take n out) r ↔ (r ≡ reading p)
+pub bytes_read : (p : Problem) (lent out : List ℕ) (n : ℕ) → EchoContract (Ok n) p lent out → (r : Reading) → Reads (take n out) r ↔ (r ≡ reading p)
 bytes_read p lent out n c r = rw (printed-bytes p lent out n c) (one-reading p lent (printer-prints p lent out n c).0 r)
 
 -- Of two calls that print, the bytes are equal exactly when the problems' declarations and trees are.
-pub bytes-equal : (p p' : Problem) (lent lent' out out' : List ℕ) (n n' : ℕ) → EchoContract (Printed n) p lent out → EchoContract (Printed n') p' lent' out'
+pub bytes-equal : (p p' : Problem) (lent lent' out out' : List ℕ) (n n' : ℕ) → EchoContract (Ok n) p lent out → EchoContract (Ok n') p' lent' out'
     → (take n out ≡ take n' out') ↔ (((reading p).declarations ≡ (reading p').declarations) × ((reading p).assertions ≡ (reading p').assertions))
 bytes-equal p p' lent lent' out out' n n' c c' =
     rw (printed-bytes p lent out n c, printed-bytes p' lent' out' n' c')

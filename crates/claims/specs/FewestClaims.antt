@@ -1,18 +1,22 @@
--- The fewest roots that still refuse (document 02, L14): what is promised of `fewest_roots`. Its definitions are those of crate `fewest`.
-use Rattle.std.specs.Prelude.{ℕ, suc, ◌≤◌, ◌<◌, ◌≡◌, refl, List, [], ◌∷◌, Bool, true, false, ◌≢◌, eqb, length}
+-- The fewest roots that still refuse: what is promised of `fewest_roots`. Its definitions are those of crate `fewest`.
+use Rattle.std.specs.Prelude.{ℕ, ◌≤◌, ◌<◌, ◌≡◌, refl, List, [], ◌∷◌, false, ◌≢◌, length, Option, Some, None}
 use Rattle.std.proofs.Common.{sym, ap, ◌∙◌, inl, arith}
 use borrow.Author.Tests.{eqb-true, eqb-false}
 use Rattle.lists.specs.Build.{find}
 use Rattle.echo_spec.specs.Input.{Problem}
 use Rattle.echo_spec.specs.Examples.{var, all_meet}
 use Rattle.echo_spec.specs.Answers.{endless_refusal}
-use Rattle.lent.specs.Lent.{problem_of}
+use Rattle.lent.specs.Lent.{problem_at}
 use Rattle.fewest.specs.Fewest.{with_roots, roots_at, same_number, rising, by_length, listed, fewest, FewestAnswer, fewest_roots_answer}
 use Rattle.fewest.specs.FewestExamples.{with_nodes, x}
 use Rattle.fewest.specs.Least.{RisingFrom, Earlier, least-passes, least-short, least-rises, none-shorter, none-earlier}
 use Rattle.fewest.proofs.Always.{fewest-least}
 use Rattle.fewest_roots.specs.declared.Fewest.{Fewest}
-use Rattle.fewest_roots.specs.declared.Fewest.TheVariants.{NoRoot, OneRoot, TwoRoots}
+use Rattle.fewest_roots.specs.declared.FewestRoots.{FewestRoots}
+use Rattle.fewest_roots.specs.declared.FewestRoots.TheVariants.{Empty, One, Two}
+use Rattle.refusals.specs.declared.EchoError.{EchoError}
+use Rattle.refusals.specs.declared.EchoError.TheVariants.{Malformed, Name, Shared}
+use Rattle.refusals.specs.Numbers.{error_number, error-number}
 use Rattle.fewest_roots.specs.Answered as told
 use Rattle.fewest_roots.proofs.fewest_roots.Reads as fewest-roots-code
 
@@ -66,14 +70,12 @@ FewestContract r p = told.answered r ≡ fewest_roots_answer p
 
 -- It is what the function is proved to ensure: x are its arguments as they are passed, y as they are when it returns.
 pub fewest-contract : (κs : _) (x : _) (r : _) (y : _) → fewest-roots-code.Post κs x r y
-    → FewestContract r
-    (problem_of x.0.now x.1.0.now x.1.1.0.now x.1.1.1.0.now x.1.1.1.1.0.now x.1.1.1.1.1.0.now
-    x.1.1.1.1.1.1.0.now x.1.1.1.1.1.1.1.0.now x.1.1.1.1.1.1.1.1.0.now x.1.1.1.1.1.1.1.1.1.0.now
-    x.1.1.1.1.1.1.1.1.1.1.0.now x.1.1.1.1.1.1.1.1.1.1.1.0.now x.1.1.1.1.1.1.1.1.1.1.1.1.0.now
-    x.1.1.1.1.1.1.1.1.1.1.1.1.1.0.now x.1.1.1.1.1.1.1.1.1.1.1.1.1.1.0.now
-    x.1.1.1.1.1.1.1.1.1.1.1.1.1.1.1.0.now x.1.1.1.1.1.1.1.1.1.1.1.1.1.1.1.1.0.now
-    x.1.1.1.1.1.1.1.1.1.1.1.1.1.1.1.1.1.0.now)
+    → FewestContract r (problem_at x.0.now)
 fewest-contract κs x r y h = h
+
+-- a refusal, or none, and the roots at the positions
+abbrev pub answer : Option EchoError → FewestRoots → Fewest
+answer e roots = record { refusal = e; roots = roots }
 
 -- What a call tells: the roots at its positions, in order and alone, are refused with the number that it tells.
 pub told-refused : (p : Problem) (r : Fewest) → FewestContract r p → 1 ≤ told.number r → told.number r ≤ 7
@@ -84,8 +86,9 @@ told-refused p r c low high =
     ap (λ (ks : List ℕ). endless_refusal (with_roots p (roots_at p ks))) q ∙ fewest-refuses p (omega arith) (omega arith) ∙ sym e
 
 -- So with two roots.
-pub two-told : (p : Problem) (n j k : ℕ) → FewestContract (TwoRoots n j k) p → 1 ≤ n → n ≤ 7 → endless_refusal (with_roots p (roots_at p (j ∷ k ∷ []))) ≡ n
-two-told p n j k c low high = told-refused p (TwoRoots n j k) c low high
+pub two-told : (p : Problem) (e : EchoError) (j k : ℕ) → FewestContract (answer (Some e) (Two j k)) p → error_number e ≤ 7
+    → endless_refusal (with_roots p (roots_at p (j ∷ k ∷ []))) ≡ error_number e
+two-told p e j k c high = told-refused p (answer (Some e) (Two j k)) c (let n = error-number e in omega (arith, n)) high
 
 -- ---------------------------------------------------------------- instances
 
@@ -98,25 +101,25 @@ computed = Unit {0}
 twice : Problem
 twice = with_nodes x (1 ∷ 3 ∷ 3 ∷ 3 ∷ [])
 
-two-called : FewestContract (TwoRoots 6 1 2) twice
+two-called : FewestContract (answer (Some Shared) (Two 1 2)) twice
 unfolding computed twice
 two-called = refl
 
-one-called : FewestContract (OneRoot 1 1) (with_nodes x (1 ∷ 9 ∷ 3 ∷ []))
+one-called : FewestContract (answer (Some Malformed) (One 1)) (with_nodes x (1 ∷ 9 ∷ 3 ∷ []))
 unfolding computed
 one-called = refl
 
-none-called : FewestContract (NoRoot 2) (with_nodes (var "bvadd" 0 8 ∷ []) (1 ∷ 1 ∷ []))
+none-called : FewestContract (answer (Some Name) Empty) (with_nodes (var "bvadd" 0 8 ∷ []) (1 ∷ 1 ∷ []))
 unfolding computed
 none-called = refl
 
-accepted-called : FewestContract (NoRoot 0) (with_nodes x (1 ∷ 3 ∷ []))
+accepted-called : FewestContract (answer None Empty) (with_nodes x (1 ∷ 3 ∷ []))
 unfolding computed
 accepted-called = refl
 
 -- the two are refused alike; with neither alone nor with none is it 6; with an earlier pair it is not
 two-alike : endless_refusal (with_roots twice (roots_at twice (1 ∷ 2 ∷ []))) ≡ 6
-two-alike = two-told twice 6 1 2 two-called (omega arith) (omega arith)
+two-alike = two-told twice Shared 1 2 two-called (omega arith)
 
 one-not : endless_refusal (with_roots twice (roots_at twice (1 ∷ []))) ≢ endless_refusal twice
 unfolding computed twice

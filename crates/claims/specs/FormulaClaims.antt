@@ -1,6 +1,6 @@
--- Terms as formulas in the map file (document 02, L13): what is promised of `echo_formulas`. The grammar of formulas is in `Tokens` and `Phrases`
+-- Terms as formulas in the map file: what is promised of `echo_formulas`. The grammar of formulas is in `Tokens` and `Phrases`
 -- of `formulas`, the text in `Notation` of `formula_text`, the answer in `Answers` of `formula_answers`.
-use Rattle.std.specs.Prelude.{ℕ, suc, ◌-◌, ◌≤◌, ◌<◌, ◌≡◌, List, [], ◌∷◌, ◌++◌, false, ◌↔◌, ◌≢◌, length, take, drop, replicate}
+use Rattle.std.specs.Prelude.{ℕ, suc, ◌-◌, ◌≤◌, ◌<◌, ◌≡◌, List, [], ◌∷◌, ◌++◌, false, ◌↔◌, ◌≢◌, length, take, drop, replicate, Result, Ok, Err}
 use Rattle.std.proofs.Common.{sym, ap, ◌∙◌}
 use Rattle.std.proofs.Math.Path.{subst}
 use Rattle.std.proofs.Math.Dec.{T}
@@ -13,9 +13,7 @@ use Rattle.echo_spec.proofs.Accepted.{endless-number}
 use Rattle.echo_spec.specs.Answers.{Answer, reading, endless_refusal, echo_ext_answer}
 use Rattle.refusals.specs.declared.EchoError.{EchoError}
 use Rattle.refusals.specs.Numbers.{error_number, error-number}
-use Rattle.lent.specs.Lent.{problem_of}
-use Rattle.echo_kernel.specs.declared.Echo.{Echo}
-use Rattle.echo_kernel.specs.declared.Echo.TheVariants.{Printed, Refused}
+use Rattle.lent.specs.Lent.{problem_at}
 use Rattle.echo_kernel.specs.Answered.{answered}
 use Rattle.echo_formulas.proofs.echo_formulas.Reads as echo-formulas-code
 use Rattle.theorems.specs.Answered.{Whole, endless-whole, printed, text-acceptance, text-refused, text-accepted, text-room, text-told, text-listed}
@@ -98,33 +96,27 @@ equal-lines-equal-trees p p' lent lent' a a' = equal-lines p p' ((formulas-accep
 -- ---------------------------------------------------------------- the code
 
 -- The contract of `echo_formulas`: its answer and the whole output by the problem that was lent. It asks nothing of the caller.
-abbrev pub FormulasContract : Echo → Problem → List ℕ → List ℕ → Type 0
+abbrev pub FormulasContract : Result ℕ EchoError → Problem → List ℕ → List ℕ → Type 0
 FormulasContract r p lent out = answered r out ≡ echo_formulas_answer p lent
 
 -- It is what the function is proved to ensure: x are its arguments as they are passed, y as they are when it returns.
 pub formulas-contract : (κs : _) (x : _) (r : _) (y : _) → echo-formulas-code.Post κs x r y
-    → FormulasContract r
-    (problem_of x.0.now x.1.0.now x.1.1.0.now x.1.1.1.0.now x.1.1.1.1.0.now x.1.1.1.1.1.0.now
-    x.1.1.1.1.1.1.0.now x.1.1.1.1.1.1.1.0.now x.1.1.1.1.1.1.1.1.0.now x.1.1.1.1.1.1.1.1.1.0.now
-    x.1.1.1.1.1.1.1.1.1.1.0.now x.1.1.1.1.1.1.1.1.1.1.1.0.now x.1.1.1.1.1.1.1.1.1.1.1.1.0.now
-    x.1.1.1.1.1.1.1.1.1.1.1.1.1.0.now x.1.1.1.1.1.1.1.1.1.1.1.1.1.1.0.now
-    x.1.1.1.1.1.1.1.1.1.1.1.1.1.1.1.0.now x.1.1.1.1.1.1.1.1.1.1.1.1.1.1.1.1.0.now
-    x.1.1.1.1.1.1.1.1.1.1.1.1.1.1.1.1.1.0.now) x.1.1.1.1.1.1.1.1.1.1.1.1.1.1.1.1.1.1.0.now y.1.1.1.1.1.1.1.1.1.1.1.1.1.1.1.1.1.1.0.now
+    → FormulasContract r (problem_at x.0.now) x.1.0.now y.1.0.now
 formulas-contract κs x r y h = h
 
 -- What it prints is the lines.
-pub formulas-print : (p : Problem) (lent out : List ℕ) (n : ℕ) → FormulasContract (Printed n) p lent out → FormulasAccepts p lent × (take n out ≡ map_lines p)
+pub formulas-print : (p : Problem) (lent out : List ℕ) (n : ℕ) → FormulasContract (Ok n) p lent out → FormulasAccepts p lent × (take n out ≡ map_lines p)
 formulas-print p lent out n c =
     let a : FormulasAccepts p lent = sym (ap (λ (x : Answer). x.number) c) in
     let e = c ∙ formulas-acceptance p lent a in
     (a, rw (ap (λ (x : Answer). x.count) e, ap (λ (x : Answer). x.output) e) (take-append_seam (map_lines p) (drop (length (map_lines p)) lent)))
 
 -- The bytes of a call that prints read as the assertions.
-pub formulas-bytes-read : (p : Problem) (lent out : List ℕ) (n : ℕ) → FormulasContract (Printed n) p lent out → (ts : Trees)
+pub formulas-bytes-read : (p : Problem) (lent out : List ℕ) (n : ℕ) → FormulasContract (Ok n) p lent out → (ts : Trees)
     → ReadsLines (declarations_in p) (take n out) ts ↔ (ts ≡ (reading p).assertions)
 formulas-bytes-read p lent out n c ts = let h = formulas-print p lent out n c in rw h.1 (formulas-one-reading p lent h.0 ts)
 
-pub formulas-refuse : (p : Problem) (lent out : List ℕ) (e : EchoError) → FormulasContract (Refused e) p lent out
+pub formulas-refuse : (p : Problem) (lent out : List ℕ) (e : EchoError) → FormulasContract (Err e) p lent out
     → ((echo_formulas_answer p lent).number ≡ error_number e) × (out ≡ replicate (length lent) 0)
 formulas-refuse p lent out e c =
     let n : (echo_formulas_answer p lent).number ≡ error_number e = sym (ap (λ (x : Answer). x.number) c) in

@@ -1,5 +1,5 @@
 -- The claims on `echo_formulas` at problems: each speaks of something.
-use Rattle.std.specs.Prelude.{ℕ, ◌≤◌, ◌≡◌, refl, List, [], ◌∷◌, ◌++◌, ◌≢◌, false, take, replicate}
+use Rattle.std.specs.Prelude.{ℕ, ◌≤◌, ◌≡◌, refl, List, [], ◌∷◌, ◌≢◌, false, take, replicate, Err}
 use Rattle.std.proofs.Common.{◌∙◌, inl, arith}
 use Rattle.lists.specs.Bytes.{bytes}
 use Rattle.reading.specs.Kinds.{Const, Add, Mul, Eq, Not}
@@ -9,10 +9,8 @@ use Rattle.echo_spec.specs.Answers.{reading}
 use Rattle.echo_spec.specs.Examples.{node, lent, sum}
 use Rattle.lets.specs.LetExamples.{over}
 use Rattle.refusals.specs.declared.EchoError.TheVariants.{Room}
-use Rattle.echo_kernel.specs.declared.Echo.TheVariants.{Refused}
 use Rattle.echo_kernel.specs.Answered.{answered}
 use Rattle.formulas.specs.Phrases.{Reads, ReadsLines}
-use Rattle.formula_text.specs.Notation.{formula}
 use Rattle.formula_answers.specs.Answers.{echo_formulas_answer}
 use Rattle.formula_answers.specs.AnswerExamples.{formulas_meet}
 use Rattle.formula_theorems.specs.LeftOut.{parentheses, ends_inside}
@@ -101,7 +99,7 @@ product-room : (echo_formulas_answer product (lent 31)).number ≡ 10
 unfolding formulas_meet product
 product-room = (formulas-room-only product (lent 31)).1 (((formulas-accepts-exactly product (lent 60)).0 product-accepted).0, omega arith)
 
-product-refused : (out : List ℕ) → answered (Refused Room) out ≡ echo_formulas_answer product (lent 31) → out ≡ replicate 31 0
+product-refused : (out : List ℕ) → answered (Err Room) out ≡ echo_formulas_answer product (lent 31) → out ≡ replicate 31 0
 unfolding formulas_meet product
 product-refused out c = (formulas-refuse product (lent 31) out Room c).1
 

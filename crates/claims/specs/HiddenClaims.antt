@@ -1,8 +1,8 @@
--- Scripts with addresses hidden (document 02, L10): what is promised of `echo_hidden`. Its definitions are those of crate `hidden`.
+-- Scripts with addresses hidden: what is promised of `echo_hidden`. Its definitions are those of crate `hidden`.
 --
 -- Nothing is promised about equal problems: two problems with the same hidden script may differ in the value of any constant. A hidden
 -- script still shows names, widths, the amounts of rotations and the shape of every term.
-use Rattle.std.specs.Prelude.{ℕ, suc, ◌-◌, ◌≡◌, List, [], ◌∷◌, ◌++◌, ◌↔◌, T, length, take, drop, replicate}
+use Rattle.std.specs.Prelude.{ℕ, suc, ◌-◌, ◌≡◌, List, [], ◌∷◌, ◌++◌, ◌↔◌, T, length, take, drop, replicate, Result, Ok, Err}
 use Rattle.std.proofs.Common.{sym, ap, ◌∙◌}
 use Rattle.std.proofs.Math.Seq.{take-append_seam}
 use Rattle.lists.specs.Tests.{among}
@@ -18,12 +18,10 @@ use Rattle.hidden.specs.Alike.{with_bits, Alike}
 use Rattle.hidden.proofs.Alike.{same_answer, same-in-both}
 use Rattle.refusals.specs.declared.EchoError.{EchoError}
 use Rattle.refusals.specs.Numbers.{error_number, error-number}
-use Rattle.echo_kernel.specs.declared.Echo.{Echo}
-use Rattle.echo_kernel.specs.declared.Echo.TheVariants.{Printed, Refused}
 use Rattle.echo_kernel.specs.Answered.{answered}
 use Rattle.echo_hidden.specs.Answering.{hidden-length, hidden-refusal}
 use Rattle.echo_hidden.proofs.echo_hidden.Reads as echo-hidden-code
-use Rattle.lent.specs.Lent.{problem_of}
+use Rattle.lent.specs.Lent.{problem_at}
 use Rattle.theorems.specs.Scripts.{script_of}
 use Rattle.theorems.specs.Answered.{printed, text-number, text-acceptance, text-refused, accepted-whole}
 use Rattle.claims.specs.Claims.{Accepts, listed-number}
@@ -94,23 +92,16 @@ hidden-alike-buffers p bits h lent lent' e =
 
 -- The contract of `echo_hidden`: its answer and the buffer afterwards, by the problem and the buffer that were lent. It asks nothing of
 -- the caller.
-abbrev pub HiddenContract : Echo → Problem → List ℕ → List ℕ → Type 0
+abbrev pub HiddenContract : Result ℕ EchoError → Problem → List ℕ → List ℕ → Type 0
 HiddenContract r p lent out = answered r out ≡ echo_hidden_answer p lent
 
 -- It is what the function is proved to ensure: x are its arguments as they are passed, y as they are when it returns.
 pub hidden-contract : (κs : _) (x : _) (r : _) (y : _) → echo-hidden-code.Post κs x r y
-    → HiddenContract r
-    (problem_of x.0.now x.1.0.now x.1.1.0.now x.1.1.1.0.now x.1.1.1.1.0.now x.1.1.1.1.1.0.now
-    x.1.1.1.1.1.1.0.now x.1.1.1.1.1.1.1.0.now x.1.1.1.1.1.1.1.1.0.now x.1.1.1.1.1.1.1.1.1.0.now
-    x.1.1.1.1.1.1.1.1.1.1.0.now x.1.1.1.1.1.1.1.1.1.1.1.0.now x.1.1.1.1.1.1.1.1.1.1.1.1.0.now
-    x.1.1.1.1.1.1.1.1.1.1.1.1.1.0.now x.1.1.1.1.1.1.1.1.1.1.1.1.1.1.0.now
-    x.1.1.1.1.1.1.1.1.1.1.1.1.1.1.1.0.now x.1.1.1.1.1.1.1.1.1.1.1.1.1.1.1.1.0.now
-    x.1.1.1.1.1.1.1.1.1.1.1.1.1.1.1.1.1.0.now)
-    x.1.1.1.1.1.1.1.1.1.1.1.1.1.1.1.1.1.1.0.now y.1.1.1.1.1.1.1.1.1.1.1.1.1.1.1.1.1.1.0.now
+    → HiddenContract r (problem_at x.0.now) x.1.0.now y.1.0.now
 hidden-contract κs x r y h = h
 
--- What it answers by `Printed` is the hidden script of a problem that the printer accepts with this buffer.
-pub hidden-prints : (p : Problem) (lent out : List ℕ) (n : ℕ) → HiddenContract (Printed n) p lent out
+-- What it answers by `Ok` is the hidden script of a problem that the printer accepts with this buffer.
+pub hidden-prints : (p : Problem) (lent out : List ℕ) (n : ℕ) → HiddenContract (Ok n) p lent out
     → Accepts p lent × (n ≡ length (hidden_printed p)) × (out ≡ hidden_printed p ++ drop (length (hidden_printed p)) lent)
 hidden-prints p lent out n c =
     let a : Accepts p lent = sym (same-refusals p lent) ∙ sym (ap (λ (x : Answer). x.number) c) in
@@ -118,20 +109,20 @@ hidden-prints p lent out n c =
     (a, ap (λ (x : Answer). x.count) e, ap (λ (x : Answer). x.output) e)
 
 -- What it refuses the printer refuses with the same number, and the buffer is zeroed.
-pub hidden-refuses : (p : Problem) (lent out : List ℕ) (e : EchoError) → HiddenContract (Refused e) p lent out
+pub hidden-refuses : (p : Problem) (lent out : List ℕ) (e : EchoError) → HiddenContract (Err e) p lent out
     → ((echo_ext_answer p lent).number ≡ error_number e) × (out ≡ replicate (length lent) 0)
 hidden-refuses p lent out e c =
     let n : (echo_hidden_answer p lent).number ≡ error_number e = sym (ap (λ (x : Answer). x.number) c) in
     (sym (same-refusals p lent) ∙ n, ap (λ (x : Answer). x.output) (c ∙ hidden-refusal-zeroes p lent (error_number e - 1) (n ∙ error-number e)))
 
 -- The bytes that it wrote have one reading: the problem's with zeros.
-pub hidden-bytes-read : (p : Problem) (lent out : List ℕ) (n : ℕ) → HiddenContract (Printed n) p lent out → (r : Reading) → Reads (take n out) r ↔ (r ≡ reading_hidden p)
+pub hidden-bytes-read : (p : Problem) (lent out : List ℕ) (n : ℕ) → HiddenContract (Ok n) p lent out → (r : Reading) → Reads (take n out) r ↔ (r ≡ reading_hidden p)
 hidden-bytes-read p lent out n c r =
     let h = hidden-prints p lent out n c in
     let e : take n out ≡ hidden_printed p = rw (h.1, h.2) (take-append_seam (hidden_printed p) (drop (length (hidden_printed p)) lent)) in
     rw e (hidden-one-reading p lent h.0 r)
 
 -- Two calls on problems alike in all but bits answer the same, and leave the same bytes where the buffers held the same before.
-pub hidden-calls-agree : (p : Problem) (bits : List ℕ) → Alike p bits → (lent out out' : List ℕ) (r r' : Echo)
+pub hidden-calls-agree : (p : Problem) (bits : List ℕ) → Alike p bits → (lent out out' : List ℕ) (r r' : Result ℕ EchoError)
     → HiddenContract r (with_bits p bits) lent out → HiddenContract r' p lent out' → answered r out ≡ answered r' out'
 hidden-calls-agree p bits h lent out out' r r' c c' = c ∙ hidden-alike p bits h lent ∙ sym c'

@@ -1,6 +1,6 @@
 -- The claims on `echo_hidden` at a problem: x rotated by 11, of width 8, and an address added, is x. The bits of the address may be others,
 -- and the hidden script is the same; those of the amount may not.
-use Rattle.std.specs.Prelude.{ℕ, zero, suc, ◌+◌, ◌<◌, ◌≡◌, refl, List, [], ◌∷◌, ◌++◌, length, get_or, drop}
+use Rattle.std.specs.Prelude.{ℕ, zero, suc, ◌+◌, ◌<◌, ◌≡◌, refl, List, [], ◌∷◌, ◌++◌, length, get_or, drop, Ok, Err}
 use Rattle.std.proofs.Common.{subst, arith}
 use Rattle.lists.specs.Bytes.{bytes}
 use Rattle.reading.specs.Kinds.{Var, Const, Add, Eq, Rotl}
@@ -10,7 +10,6 @@ use Rattle.echo_spec.specs.Examples.{node, problem, var, lent, eleven, five, all
 use Rattle.hidden.specs.Hidden.{zeros, hidden, hidden_reading, hidden_script, echo_hidden_answer}
 use Rattle.hidden.specs.Alike.{with_bits, Alike}
 use Rattle.refusals.specs.declared.EchoError.TheVariants.{Room}
-use Rattle.echo_kernel.specs.declared.Echo.TheVariants.{Printed, Refused}
 use Rattle.theorems.specs.Answered.{printed}
 use Rattle.claims.specs.Claims.{Accepts}
 use Rattle.claims.specs.HiddenClaims.{hidden_printed, as_long, hidden-alike, HiddenContract, hidden-prints, hidden-refuses}
@@ -102,14 +101,14 @@ other-amount = refl
 after : ℕ → List ℕ
 after room = (echo_hidden_answer (example eleven five) (lent room)).output
 
-hidden-call : HiddenContract (Printed 123) (example eleven five) (lent 130) (after 130)
+hidden-call : HiddenContract (Ok 123) (example eleven five) (lent 130) (after 130)
 unfolding all_meet example zeros hidden hidden_reading hidden_script echo_hidden_answer after
 hidden-call = refl
 
 its-bytes : after 130 ≡ hidden_printed (example eleven five) ++ drop (length (hidden_printed (example eleven five))) (lent 130)
 its-bytes = (hidden-prints (example eleven five) (lent 130) (after 130) 123 hidden-call).2
 
-refused-call : HiddenContract (Refused Room) (example eleven five) (lent 3) (after 3)
+refused-call : HiddenContract (Err Room) (example eleven five) (lent 3) (after 3)
 unfolding all_meet example zeros hidden hidden_reading hidden_script echo_hidden_answer after
 refused-call = refl
 

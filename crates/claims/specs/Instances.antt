@@ -12,10 +12,9 @@ use Rattle.smtlib.specs.Readings.{Reads}
 use Rattle.echo_spec.specs.Input.{Problem, nodes_of, no_node}
 use Rattle.echo_spec.specs.Widths.{node_wf, ext_wf_of}
 use Rattle.echo_spec.specs.Names.{byte_ok}
-use Rattle.echo_spec.specs.Answers.{reading, ext_wf_answer, echo_ext_answer}
+use Rattle.echo_spec.specs.Answers.{reading, echo_ext_answer}
 use Rattle.echo_spec.specs.Examples.{no_arrays, node, problem, var, fun, lent, eleven, all_meet}
 use Rattle.refusals.specs.declared.EchoError.TheVariants.{Room}
-use Rattle.echo_kernel.specs.declared.Echo.TheVariants.{Printed, Refused}
 use Rattle.sliver_kernel.specs.declared.WidthError.TheVariants.{Malformed}
 use Rattle.theorems.specs.Scripts.{script_of}
 use Rattle.theorems.specs.Answered.{Whole, printed, BeforeNames}
@@ -249,15 +248,15 @@ delete-refused = other-bytes-refused deleting (lent 300) (109 ∷ 127 ∷ []) 12
 after : Problem → ℕ → List ℕ
 after p room = (echo_ext_answer p (lent room)).output
 
-called : EchoContract (Printed 299) (example eleven) (lent 300) (after (example eleven) 300)
+called : EchoContract (Ok 299) (example eleven) (lent 300) (after (example eleven) 300)
 unfolding all_meet example after
 called = refl
 
-called-three : EchoContract (Printed 299) (example three) (lent 400) (after (example three) 400)
+called-three : EchoContract (Ok 299) (example three) (lent 400) (after (example three) 400)
 unfolding all_meet example three after
 called-three = refl
 
-refused-call : EchoContract (Refused Room) (example eleven) (lent 298) (after (example eleven) 298)
+refused-call : EchoContract (Err Room) (example eleven) (lent 298) (after (example eleven) 298)
 unfolding all_meet example after
 refused-call = refl
 
@@ -278,11 +277,11 @@ equal-bytes =
     (bytes-equal (example eleven) (example three) (lent 300) (lent 400) (after (example eleven) 300) (after (example three) 400) 299 299 called called-three).1 equal
 
 -- and of what a call writes for names in other alphabets
-foreign-called : EchoContract (Printed 277) foreign (lent 300) (after foreign 300)
+foreign-called : EchoContract (Ok 277) foreign (lent 300) (after foreign 300)
 unfolding all_meet named checksum region size foreign after
 foreign-called = refl
 
-elsewhere-called : EchoContract (Printed 277) elsewhere (lent 300) (after elsewhere 300)
+elsewhere-called : EchoContract (Ok 277) elsewhere (lent 300) (after elsewhere 300)
 unfolding all_meet named checksum other_region size elsewhere after
 elsewhere-called = refl
 

@@ -1,6 +1,6 @@
--- What the project promises of scripts end to end (request L7): a file that joins scripts is read back as these scripts and no others. What a
+-- What the project promises of scripts end to end: a file that joins scripts is read back as these scripts and no others. What a
 -- script is by its lines, and how a file is cut, is defined in the crate `script_lines`.
-use Rattle.std.specs.Prelude.{ℕ, ◌≡◌, refl, List, [], ◌∷◌, ◌++◌, ◌↔◌, length, take}
+use Rattle.std.specs.Prelude.{ℕ, ◌≡◌, refl, List, [], ◌∷◌, ◌++◌, ◌↔◌, length, take, Ok}
 use Rattle.std.proofs.Common.{sym, ◌∙◌, append-nil}
 use Rattle.std.proofs.Math.Option.{none, some}
 use Rattle.echo_spec.specs.Input.{Problem}
@@ -14,7 +14,6 @@ use Rattle.script_lines.proofs.Cuts.{cut-joined, cut-whole, cut-exactly, joined-
 use Rattle.script_lines.specs.Scanning.{found_of}
 use Rattle.std.specs.Prelude.{Option as Found, Some, None}
 use Rattle.script_lines.proofs.next_script.Reads as next-code
-use Rattle.echo_kernel.specs.declared.Echo.TheVariants.{Printed}
 use Rattle.theorems.specs.Answered.{printed, accepted-whole}
 use Rattle.theorems.specs.LetPrinted.{let_printed}
 use Rattle.theorems.specs.LetAnswered.{let-accepted-exactly}
@@ -103,5 +102,5 @@ next-of-nothing r c = by_answer r (c ∙ next-nothing)
     by_answer None e = refl
 
 -- The bytes that a call of the printer left in its buffer are a script in the sense of this page.
-pub bytes-are-script : (p : Problem) (lent out : List ℕ) (n : ℕ) → EchoContract (Printed n) p lent out → PrintedScript (take n out)
+pub bytes-are-script : (p : Problem) (lent out : List ℕ) (n : ℕ) → EchoContract (Ok n) p lent out → PrintedScript (take n out)
 bytes-are-script p lent out n c = rw (printed-bytes p lent out n c) (plain p lent (printer-prints p lent out n c).0)

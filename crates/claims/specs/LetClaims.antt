@@ -1,5 +1,5 @@
--- Shared terms printed with `let` (document 02, L4): what is promised of `echo_let`. Its definitions are in `Lets` of `echo_spec`.
-use Rattle.std.specs.Prelude.{ℕ, suc, ◌-◌, ◌≤◌, ◌<◌, ◌≡◌, List, [], ◌∷◌, ◌++◌, not, ◌↔◌, T, length, take, drop, replicate}
+-- Shared terms printed with `let`: what is promised of `echo_let`. Its definitions are in `Lets` of `echo_spec`.
+use Rattle.std.specs.Prelude.{ℕ, suc, ◌-◌, ◌≤◌, ◌<◌, ◌≡◌, List, [], ◌∷◌, ◌++◌, not, ◌↔◌, T, length, take, drop, replicate, Result, Ok, Err}
 use Rattle.std.proofs.Common.{sym, ap, ◌∙◌}
 use Rattle.std.proofs.Math.Seq.{take-append_seam}
 use Rattle.lists.specs.Tests.{among, in_list}
@@ -16,9 +16,7 @@ use Rattle.echo_spec.specs.Answers.{Answer, reading, echo_ext_answer}
 use Rattle.lets.specs.Lets.{uses_in, shared, let_name, names_clear, echo_let_answer}
 use Rattle.refusals.specs.declared.EchoError.{EchoError}
 use Rattle.refusals.specs.Numbers.{error_number, error-number}
-use Rattle.lent.specs.Lent.{problem_of}
-use Rattle.echo_kernel.specs.declared.Echo.{Echo}
-use Rattle.echo_kernel.specs.declared.Echo.TheVariants.{Printed, Refused}
+use Rattle.lent.specs.Lent.{problem_at}
 use Rattle.echo_kernel.specs.Answered.{answered}
 use Rattle.echo_let.proofs.echo_let.Reads as echo-let-code
 use Rattle.theorems.specs.Answered.{printed, accepted-whole}
@@ -92,31 +90,25 @@ equal-across p p' lent lent' a a' e = let-plain-equal p p' ((let-accepts-exactly
 -- ---------------------------------------------------------------- the code
 
 -- The contract of `echo_let`: its answer and the whole output by the problem that was lent. It asks nothing of the caller.
-abbrev pub LetContract : Echo → Problem → List ℕ → List ℕ → Type 0
+abbrev pub LetContract : Result ℕ EchoError → Problem → List ℕ → List ℕ → Type 0
 LetContract r p lent out = answered r out ≡ echo_let_answer p lent
 
 -- It is what the function is proved to ensure: x are its arguments as they are passed, y as they are when it returns.
 pub let-contract : (κs : _) (x : _) (r : _) (y : _) → echo-let-code.Post κs x r y
-    → LetContract r
-    (problem_of x.0.now x.1.0.now x.1.1.0.now x.1.1.1.0.now x.1.1.1.1.0.now x.1.1.1.1.1.0.now
-    x.1.1.1.1.1.1.0.now x.1.1.1.1.1.1.1.0.now x.1.1.1.1.1.1.1.1.0.now x.1.1.1.1.1.1.1.1.1.0.now
-    x.1.1.1.1.1.1.1.1.1.1.0.now x.1.1.1.1.1.1.1.1.1.1.1.0.now x.1.1.1.1.1.1.1.1.1.1.1.1.0.now
-    x.1.1.1.1.1.1.1.1.1.1.1.1.1.0.now x.1.1.1.1.1.1.1.1.1.1.1.1.1.1.0.now
-    x.1.1.1.1.1.1.1.1.1.1.1.1.1.1.1.0.now x.1.1.1.1.1.1.1.1.1.1.1.1.1.1.1.1.0.now
-    x.1.1.1.1.1.1.1.1.1.1.1.1.1.1.1.1.1.0.now) x.1.1.1.1.1.1.1.1.1.1.1.1.1.1.1.1.1.1.0.now y.1.1.1.1.1.1.1.1.1.1.1.1.1.1.1.1.1.1.0.now
+    → LetContract r (problem_at x.0.now) x.1.0.now y.1.0.now
 let-contract κs x r y h = h
 
 -- What it prints is the script, and the bytes of a call that prints read as the problem.
-pub let-prints : (p : Problem) (lent out : List ℕ) (n : ℕ) → LetContract (Printed n) p lent out → LetAccepts p lent × (take n out ≡ let_printed p)
+pub let-prints : (p : Problem) (lent out : List ℕ) (n : ℕ) → LetContract (Ok n) p lent out → LetAccepts p lent × (take n out ≡ let_printed p)
 let-prints p lent out n c =
     let a : LetAccepts p lent = sym (ap (λ (x : Answer). x.number) c) in
     let e = c ∙ let-acceptance-prints p lent a in
     (a, rw (ap (λ (x : Answer). x.count) e, ap (λ (x : Answer). x.output) e) (take-append_seam (let_printed p) (drop (length (let_printed p)) lent)))
 
-pub let-bytes-read : (p : Problem) (lent out : List ℕ) (n : ℕ) → LetContract (Printed n) p lent out → (r : Reading) → Reads (take n out) r ↔ (r ≡ reading p)
+pub let-bytes-read : (p : Problem) (lent out : List ℕ) (n : ℕ) → LetContract (Ok n) p lent out → (r : Reading) → Reads (take n out) r ↔ (r ≡ reading p)
 let-bytes-read p lent out n c r = let h = let-prints p lent out n c in rw h.1 (let-one-reading p lent h.0 r)
 
-pub let-refuses : (p : Problem) (lent out : List ℕ) (e : EchoError) → LetContract (Refused e) p lent out
+pub let-refuses : (p : Problem) (lent out : List ℕ) (e : EchoError) → LetContract (Err e) p lent out
     → ((echo_let_answer p lent).number ≡ error_number e) × (out ≡ replicate (length lent) 0)
 let-refuses p lent out e c =
     let n : (echo_let_answer p lent).number ≡ error_number e = sym (ap (λ (x : Answer). x.number) c) in

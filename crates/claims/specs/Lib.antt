@@ -1,6 +1,6 @@
 -- What is promised, by subject: the printer and the width pass (`Claims`), array widths (`ArrayClaims`), sizes (`SizeClaims`), the hidden form
 -- (`HiddenClaims`), shared terms with `let` (`LetClaims`), files of scripts (`JoinedScripts`), shorter records (`RecordClaims`), the replay
--- of traces (`TraceClaims`), formulas (`FormulaClaims`), scripts read back (`ReadClaims`), the names of a release
+-- of traces (`TraceClaims`), the fewest roots (`FewestClaims`), formulas (`FormulaClaims`), scripts read back (`ReadClaims`), the names of a release
 -- (`ReleaseClaims`). The files of instances show that each claim speaks of something.
 pub mod WidthAnswers
 pub mod SizeAnswers

@@ -1,27 +1,27 @@
--- Scripts read back (document 02, L6): what is promised of reading a script into a problem. Its definitions are those of crate `readback`:
+-- Scripts read back: what is promised of reading a script into a problem. Its definitions are those of crate `readback`:
 -- `rebuild` is the placement, `limits_passed` is 9, `all_fit` is 10.
-use Rattle.std.specs.Prelude.{ℕ, suc, ◌≤◌, ◌≡◌, refl, List, [], ◌∷◌, ◌++◌, ◌↔◌, T, length, drop}
+use Rattle.std.specs.Prelude.{ℕ, suc, ◌≤◌, ◌≡◌, List, [], ◌∷◌, ◌++◌, ◌↔◌, T, length, drop}
 use Rattle.std.proofs.Common.{sym, ap, ◌∙◌, subst, arith}
 use Rattle.lists.specs.Tests.{among, every}
 use Rattle.reading.specs.Trees.{Reading}
 use Rattle.smtlib.specs.Readings.{Reads}
 use Rattle.echo_spec.specs.Input.{Problem, fits64, query_of}
-use Rattle.echo_spec.specs.Answers.{Answer, at_front, zeroed, reading, echo_ext_answer}
+use Rattle.echo_spec.specs.Answers.{at_front, zeroed, reading, echo_ext_answer}
 use Rattle.echo_spec.specs.EncodingLaws.{encoded-encodable}
 use Rattle.theorems.specs.Answered.{Whole, printed}
 use Rattle.readback.specs.Rebuild.{rebuild}
 use Rattle.readback.specs.Records.{inputs}
 use Rattle.readback.specs.ReadAnswers.{each_with, lists_of, all_fit, sizes_of, no_sizes, limits_passed, rebuilt_refusal, ReadAnswer, read_script_answer}
-use Rattle.lent.specs.Lent.{problem_of}
 use Rattle.std.specs.Prelude.{Result, Ok, Err}
 use Rattle.script_rebuild.specs.Decided.{error_number}
 use Rattle.script_rebuild.specs.declared.ReadError.{ReadError}
 use Rattle.script_rebuild.specs.declared.ReadError.TheVariants.{NoScript, Limit, Room}
 use Rattle.script_rebuild.specs.declared.Sizes.{Sizes as ReadSizes}
+use Rattle.script_fill.specs.Outputs.{problem_in}
 use Rattle.script_reader.specs.Outputs.{read_back}
 use Rattle.script_reader.proofs.read_script.Reads as read-script-code
-use Rattle.readback_theorems.specs.Printables.{Acceptable, ProblemScript}
-use Rattle.readback_theorems.specs.Answered.{ReadBack, read-listed, read-refused, read-accepted, read-thirteen, printed-read, refusal-none}
+use Rattle.readback_theorems.specs.Printables.{ProblemScript}
+use Rattle.readback_theorems.specs.Answered.{read-listed, read-refused, read-accepted, read-thirteen, printed-read, refusal-none}
 use Rattle.claims.specs.Claims.{Accepts, acceptance-prints, accepts-exactly, one-reading}
 
 -- The script is read into these lent outputs.
@@ -102,8 +102,8 @@ ReadContract q b lent o = read_back q o ≡ read_script_answer b lent
 
 -- It is what the function is proved to ensure: x are its arguments as they are passed, y as they are when it returns.
 pub read-contract : (κs : _) (x : _) (r : _) (y : _) → read-script-code.Post κs x r y
-    → ReadContract r x.0.now (problem_of x.1.0.now x.1.1.0.now x.1.1.1.0.now x.1.1.1.1.0.now x.1.1.1.1.1.0.now x.1.1.1.1.1.1.0.now x.1.1.1.1.1.1.1.0.now x.1.1.1.1.1.1.1.1.0.now x.1.1.1.1.1.1.1.1.1.0.now x.1.1.1.1.1.1.1.1.1.1.0.now x.1.1.1.1.1.1.1.1.1.1.1.0.now x.1.1.1.1.1.1.1.1.1.1.1.1.0.now x.1.1.1.1.1.1.1.1.1.1.1.1.1.0.now x.1.1.1.1.1.1.1.1.1.1.1.1.1.1.0.now x.1.1.1.1.1.1.1.1.1.1.1.1.1.1.1.0.now x.1.1.1.1.1.1.1.1.1.1.1.1.1.1.1.1.0.now x.1.1.1.1.1.1.1.1.1.1.1.1.1.1.1.1.1.0.now x.1.1.1.1.1.1.1.1.1.1.1.1.1.1.1.1.1.1.0.now) (problem_of y.1.0.now y.1.1.0.now y.1.1.1.0.now y.1.1.1.1.0.now y.1.1.1.1.1.0.now y.1.1.1.1.1.1.0.now y.1.1.1.1.1.1.1.0.now y.1.1.1.1.1.1.1.1.0.now y.1.1.1.1.1.1.1.1.1.0.now y.1.1.1.1.1.1.1.1.1.1.0.now y.1.1.1.1.1.1.1.1.1.1.1.0.now y.1.1.1.1.1.1.1.1.1.1.1.1.0.now y.1.1.1.1.1.1.1.1.1.1.1.1.1.0.now y.1.1.1.1.1.1.1.1.1.1.1.1.1.1.0.now y.1.1.1.1.1.1.1.1.1.1.1.1.1.1.1.0.now y.1.1.1.1.1.1.1.1.1.1.1.1.1.1.1.1.0.now y.1.1.1.1.1.1.1.1.1.1.1.1.1.1.1.1.1.0.now y.1.1.1.1.1.1.1.1.1.1.1.1.1.1.1.1.1.1.0.now)
-read-contract κs x r y h = h
+    → ReadContract r x.0.now (problem_in x.1.0.now) (problem_in y.1.0.now)
+read-contract κs x r y h = h.1
 
 -- A call that reads has read the script, and its outputs are those of the definition.
 pub call-reads : (z : ReadSizes) (b : List ℕ) (lent o : Problem) → ReadContract (Ok z) b lent o → ReadsInto b lent × (o ≡ (read_script_answer b lent).output)

@@ -1,5 +1,5 @@
 -- The claims on reading back at scripts: each speaks of something.
-use Rattle.std.specs.Prelude.{ℕ, ◌≤◌, ◌≡◌, refl, List, [], ◌∷◌, length, replicate}
+use Rattle.std.specs.Prelude.{ℕ, ◌≤◌, ◌≡◌, refl, List, length, replicate}
 use Rattle.std.proofs.Common.{ap, arith}
 use Rattle.lists.specs.Bytes.{bytes}
 use Rattle.echo_spec.specs.Input.{Problem, nodes_within, column_within, arena_within, within_limits}
@@ -11,7 +11,7 @@ use Rattle.readback_theorems.specs.Printables.{ProblemScript}
 use Rattle.readback_theorems.specs.Answered.{read-accepted}
 use Rattle.claims.specs.ReadClaims.{ReadsInto, no-script, same-script}
 
--- document 01's M2
+-- x + 5 is x
 m2 : List ℕ
 m2 = bytes "(set-logic QF_BV)\n(declare-const |x| (_ BitVec 8))\n(assert (= (bvadd |x| #b00000101) |x|))\n(check-sat)\n"
 

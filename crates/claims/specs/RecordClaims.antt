@@ -1,4 +1,4 @@
--- Shorter records and back (document 02, L11): what is promised of `shorten` and `lengthen`. A reader who believes the definitions
+-- Shorter records and back: what is promised of `shorten` and `lengthen`. A reader who believes the definitions
 -- (`short_records/specs/Short.antt`: the new form and what is refused) can stop at this page.
 use Rattle.std.specs.Prelude.{ℕ, suc, ◌+◌, ◌*◌, ◌≤◌, ◌≡◌, refl, List, [], ◌∷◌, ◌++◌, ◌↔◌, T, length, take, drop, replicate}
 use Rattle.std.proofs.Common.{sym, ap, ◌∙◌}
@@ -7,7 +7,7 @@ use Rattle.lists.specs.Tests.{among}
 use Rattle.echo_spec.specs.Input.{nodes_of}
 use Rattle.echo_spec.specs.Answers.{Answer}
 use Rattle.theorems.specs.Answered.{text-acceptance, text-refused, text-accepted, text-listed}
-use Rattle.std.specs.Prelude.{Result, Ok, Err}
+use Rattle.std.specs.Prelude.{Result, Ok}
 use Rattle.refusals.specs.declared.EchoError.{EchoError}
 use Rattle.short_records.specs.Short.{shortened, old_refusal, shorten_answer, lengthened, new_refusal, lengthen_answer}
 use Rattle.short_records.specs.Outcomes.{answered}

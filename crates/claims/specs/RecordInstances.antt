@@ -1,5 +1,5 @@
 -- The claims on shorter records at bytes: each speaks of something.
-use Rattle.std.specs.Prelude.{ℕ, ◌+◌, ◌*◌, ◌≤◌, ◌≡◌, refl, List, [], ◌∷◌, ◌++◌, T, ltb, length, take, replicate}
+use Rattle.std.specs.Prelude.{ℕ, ◌+◌, ◌*◌, ◌≤◌, ◌≡◌, refl, List, ◌++◌, T, ltb, length, take, replicate}
 use Rattle.std.proofs.Common.{subst, lit≤}
 use Rattle.lists.specs.Tests.{same, same_refl, by-test}
 use Rattle.echo_spec.specs.Input.{nodes_of}

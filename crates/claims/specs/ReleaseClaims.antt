@@ -1,4 +1,4 @@
--- One meaning for a name in a release (document 02, L12): what is promised of `check_release`. A file is cut into scripts as in `JoinedScripts`, a
+-- One meaning for a name in a release: what is promised of `check_release`. A file is cut into scripts as in `JoinedScripts`, a
 -- script is read as in `ReadClaims`; what a name means and which scripts disagree is defined in the crate `releases`.
 use Rattle.std.specs.Prelude.{⊤, Result, Ok, Err, ℕ, zero, suc, ◌≤◌, ◌<◌, ◌≡◌, refl, List, [], ◌∷◌, ◌↔◌, T, eqb, length}
 use Rattle.std.proofs.Common.{ap, sym, ◌∙◌, subst, arith, eqb→eq}

@@ -1,12 +1,12 @@
 -- The answer of `echo_size` taken apart.
-use Rattle.std.specs.Prelude.{ℕ, zero, suc, ◌≤◌, ◌≡◌, refl, List, [], ◌∷◌, T, leb, length}
-use Rattle.std.proofs.Common.{sym, ◌∙◌, arith}
+use Rattle.std.specs.Prelude.{ℕ, zero, suc, ◌≡◌, refl, List, [], ◌∷◌, T, leb, length}
+use Rattle.std.proofs.Common.{sym, ◌∙◌}
 use Rattle.std.proofs.Math.Path.{ap}
 use Rattle.lists.specs.Tests.{among}
 use Rattle.echo_spec.specs.Refusals.{unless, ◌or_else◌}
 use Rattle.echo_spec.specs.Input.{Problem, Query, query_of}
 use Rattle.echo_spec.specs.Answers.{script, endless_refusal, text_refusal, echo_ext_answer}
-use Rattle.sizes.specs.Size.{terms_entered, SizeAnswer, size_with, echo_size_answer}
+use Rattle.sizes.specs.Size.{terms_entered, size_with, echo_size_answer}
 use Rattle.echo_spec.specs.Accepted.{endless_number}
 use Rattle.echo_spec.proofs.Accepted.{endless-number}
 use Rattle.theorems.specs.Answered.{text-number}

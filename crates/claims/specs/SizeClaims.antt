@@ -1,5 +1,5 @@
--- Room for a script, known beforehand (document 02, L1): what is promised of `echo_size`. Its definitions are those of crate `sizes`.
-use Rattle.std.specs.Prelude.{ℕ, suc, ◌-◌, ◌^◌, ◌≤◌, ◌<◌, ◌≡◌, List, [], ◌∷◌, ◌↔◌, T, length}
+-- Room for a script, known beforehand: what is promised of `echo_size`. Its definitions are those of crate `sizes`.
+use Rattle.std.specs.Prelude.{ℕ, suc, ◌-◌, ◌^◌, ◌≤◌, ◌<◌, ◌≡◌, List, [], ◌∷◌, ◌↔◌, T, length, Result, Ok, Err}
 use Rattle.std.proofs.Common.{sym, ap, ◌∙◌, arith}
 use Rattle.lists.specs.Tests.{among, every}
 use Rattle.echo_spec.specs.Input.{Problem, nodes_of, fits64, query_of}
@@ -11,11 +11,9 @@ use Rattle.sizes.specs.Sums.{sum_over}
 use Rattle.sizes.specs.Count.{counts_below}
 use Rattle.sizes.proofs.Scripts.{operators-entered, terms-entered, terms-walked, script-length}
 use Rattle.echo_size.specs.declared.Size.{Size}
-use Rattle.echo_size.specs.declared.Size.TheVariants.{Script, Refused as NoScript}
 use Rattle.echo_size.specs.Sized as sized
 use Rattle.echo_size.proofs.echo_size.Reads as echo-size-code
-use Rattle.echo_kernel.specs.declared.Echo.TheVariants.{Printed}
-use Rattle.lent.specs.Lent.{problem_of}
+use Rattle.lent.specs.Lent.{problem_at}
 use Rattle.theorems.specs.Answered.{printed, endless-whole}
 use Rattle.claims.specs.SizeAnswers.{size_number, size-accepted, size_none, endless-refuses, endless-listed}
 use Rattle.claims.specs.Claims.{Accepts, EchoContract, acceptance-prints, accepts-exactly, room-only, printer-prints}
@@ -81,35 +79,29 @@ exact-in-64 p v f z =
 -- ---------------------------------------------------------------- the code
 
 -- The contract of `echo_size`: its answer by the problem that was lent. It asks nothing of the caller.
-abbrev pub SizeContract : Size → Problem → Type 0
+abbrev pub SizeContract : Result Size EchoError → Problem → Type 0
 SizeContract r p = sized.answered r ≡ echo_size_answer p
 
 -- It is what the function is proved to ensure: x are its arguments as they are passed, y as they are when it returns.
 pub size-contract : (κs : _) (x : _) (r : _) (y : _) → echo-size-code.Post κs x r y
-    → SizeContract r
-    (problem_of x.0.now x.1.0.now x.1.1.0.now x.1.1.1.0.now x.1.1.1.1.0.now x.1.1.1.1.1.0.now
-    x.1.1.1.1.1.1.0.now x.1.1.1.1.1.1.1.0.now x.1.1.1.1.1.1.1.1.0.now x.1.1.1.1.1.1.1.1.1.0.now
-    x.1.1.1.1.1.1.1.1.1.1.0.now x.1.1.1.1.1.1.1.1.1.1.1.0.now x.1.1.1.1.1.1.1.1.1.1.1.1.0.now
-    x.1.1.1.1.1.1.1.1.1.1.1.1.1.0.now x.1.1.1.1.1.1.1.1.1.1.1.1.1.1.0.now
-    x.1.1.1.1.1.1.1.1.1.1.1.1.1.1.1.0.now x.1.1.1.1.1.1.1.1.1.1.1.1.1.1.1.1.0.now
-    x.1.1.1.1.1.1.1.1.1.1.1.1.1.1.1.1.1.0.now)
+    → SizeContract r (problem_at x.0.now)
 size-contract κs x r y h = h
 
 -- What it tells is the length of the script and the terms of the roots' trees.
-pub size-told : (p : Problem) (n t : ℕ) → SizeContract (Script n t) p → (n ≡ length (printed p)) × (t ≡ terms_entered (query_of p))
-size-told p n t c =
+pub size-told : (p : Problem) (s : Size) → SizeContract (Ok s) p → (s.length ≡ length (printed p)) × (s.terms ≡ terms_entered (query_of p))
+size-told p s c =
     let e = c ∙ size-acceptance p (sym (ap (λ (x : SizeAnswer). x.number) c)) in
     (ap (λ (x : SizeAnswer). x.length) e, ap (λ (x : SizeAnswer). x.terms) e)
 
 -- A call of the printer that prints has printed as many bytes.
-pub size-printed : (p : Problem) (lent out : List ℕ) (m n t : ℕ) → EchoContract (Printed m) p lent out → SizeContract (Script n t) p → m ≡ n
-size-printed p lent out m n t c s = (printer-prints p lent out m c).1 ∙ sym (size-told p n t s).0
+pub size-printed : (p : Problem) (lent out : List ℕ) (n : ℕ) (s : Size) → EchoContract (Ok n) p lent out → SizeContract (Ok s) p → n ≡ s.length
+size-printed p lent out n s c d = (printer-prints p lent out n c).1 ∙ sym (size-told p s d).0
 
 -- As many bytes suffice for a call of the printer, and with fewer it answers 10.
-pub size-suffices : (p : Problem) (lent : List ℕ) (n t : ℕ) → SizeContract (Script n t) p
-    → (Accepts p lent ↔ (n ≤ length lent)) × (((echo_ext_answer p lent).number ≡ 10) ↔ (length lent < n))
-size-suffices p lent n t c = rw (ap (λ (x : SizeAnswer). x.length) c) (length-enough p lent (sym (ap (λ (x : SizeAnswer). x.number) c)))
+pub size-suffices : (p : Problem) (lent : List ℕ) (s : Size) → SizeContract (Ok s) p
+    → (Accepts p lent ↔ (s.length ≤ length lent)) × (((echo_ext_answer p lent).number ≡ 10) ↔ (length lent < s.length))
+size-suffices p lent s c = rw (ap (λ (x : SizeAnswer). x.length) c) (length-enough p lent (sym (ap (λ (x : SizeAnswer). x.number) c)))
 
 -- What it refuses the printer refuses with the same number, whatever the buffer.
-pub size-refuses : (p : Problem) (lent : List ℕ) (e : EchoError) → SizeContract (NoScript e) p → (echo_ext_answer p lent).number ≡ error_number e
+pub size-refuses : (p : Problem) (lent : List ℕ) (e : EchoError) → SizeContract (Err e) p → (echo_ext_answer p lent).number ≡ error_number e
 size-refuses p lent e c = refused-whatever p lent (error_number e - 1) (sym (ap (λ (x : SizeAnswer). x.number) c) ∙ error-number e) ∙ sym (error-number e)

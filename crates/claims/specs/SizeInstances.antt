@@ -1,6 +1,6 @@
 -- The claims on `echo_size` at problems: each speaks of something. The problem has a store, a call of a function without arguments, a
 -- rotation, and a variable that stands three times.
-use Rattle.std.specs.Prelude.{ℕ, ◌^◌, ◌≤◌, ◌<◌, ◌≡◌, refl, List, [], ◌∷◌, length}
+use Rattle.std.specs.Prelude.{ℕ, ◌^◌, ◌≤◌, ◌<◌, ◌≡◌, refl, List, [], ◌∷◌, length, Ok, Err}
 use Rattle.std.proofs.Common.{arith}
 use Rattle.std.proofs.lemmas.List.{length-replicate}
 use Rattle.lists.specs.Bytes.{bytes}
@@ -12,8 +12,7 @@ use Rattle.sizes.specs.Sums.{sum_over}
 use Rattle.sizes.specs.Count.{counts_below}
 use Rattle.sizes.specs.Size.{weigh, weigh_all, weigh_stores, terms_entered, operators_entered, size_with, echo_size_answer}
 use Rattle.refusals.specs.declared.EchoError.TheVariants.{Shared}
-use Rattle.echo_kernel.specs.declared.Echo.TheVariants.{Printed}
-use Rattle.echo_size.specs.declared.Size.TheVariants.{Script, Refused}
+use Rattle.echo_size.specs.declared.Size.{Size}
 use Rattle.theorems.specs.Answered.{printed}
 use Rattle.claims.specs.Claims.{Accepts, EchoContract}
 use Rattle.claims.specs.SizeClaims.{
@@ -46,13 +45,16 @@ its-script : printed (example (7 ∷ []))
 unfolding all_meet example
 its-script = refl
 
--- =, select, zero_extend, x, g, zero_extend, x, rotate_left, x
-called : SizeContract (Script 267 9) (example (7 ∷ []))
+-- the terms are =, select, zero_extend, x, g, zero_extend, x, rotate_left, x
+abbrev size : Size
+size = record { length = 267; terms = 9 }
+
+called : SizeContract (Ok size) (example (7 ∷ []))
 unfolding all_meet example weigh weigh_all weigh_stores terms_entered size_with echo_size_answer
 called = refl
 
 -- the root twice is 6
-refused-call : SizeContract (Refused Shared) (example (7 ∷ 7 ∷ []))
+refused-call : SizeContract (Err Shared) (example (7 ∷ 7 ∷ []))
 unfolding all_meet example weigh weigh_all weigh_stores terms_entered size_with echo_size_answer
 refused-call = refl
 
@@ -108,27 +110,27 @@ in-range = (exact-in-64 (example (7 ∷ [])) tt tt accepted).0
 -- ---------------------------------------------------------------- calls
 
 its-length : 267 ≡ length (printed (example (7 ∷ [])))
-its-length = (size-told (example (7 ∷ [])) 267 9 called).0
+its-length = (size-told (example (7 ∷ [])) size called).0
 
 its-terms : 9 ≡ terms_entered (query_of (example (7 ∷ [])))
-its-terms = (size-told (example (7 ∷ [])) 267 9 called).1
+its-terms = (size-told (example (7 ∷ [])) size called).1
 
 -- what a call of the printer leaves in the buffer
 after : ℕ → List ℕ
 after room = (echo_ext_answer (example (7 ∷ [])) (lent room)).output
 
-printed-call : EchoContract (Printed 267) (example (7 ∷ [])) (lent 270) (after 270)
+printed-call : EchoContract (Ok 267) (example (7 ∷ [])) (lent 270) (after 270)
 unfolding all_meet example after
 printed-call = refl
 
 as_many : ◌≡◌ {A = ℕ} 267 267
-as_many = size-printed (example (7 ∷ [])) (lent 270) (after 270) 267 267 9 printed-call called
+as_many = size-printed (example (7 ∷ [])) (lent 270) (after 270) 267 size printed-call called
 
 enough : Accepts (example (7 ∷ [])) (lent 267)
-enough = (size-suffices (example (7 ∷ [])) (lent 267) 267 9 called).0.1 (omega (arith, length-replicate {A = ℕ} 267 170))
+enough = (size-suffices (example (7 ∷ [])) (lent 267) size called).0.1 (omega (arith, length-replicate {A = ℕ} 267 170))
 
 one_less : (echo_ext_answer (example (7 ∷ [])) (lent 266)).number ≡ 10
-one_less = (size-suffices (example (7 ∷ [])) (lent 266) 267 9 called).1.1 (omega (arith, length-replicate {A = ℕ} 266 170))
+one_less = (size-suffices (example (7 ∷ [])) (lent 266) size called).1.1 (omega (arith, length-replicate {A = ℕ} 266 170))
 
 whatever-buffer : (echo_ext_answer (example (7 ∷ 7 ∷ [])) (lent 3)).number ≡ 6
 whatever-buffer = size-refuses (example (7 ∷ 7 ∷ [])) (lent 3) Shared refused-call

@@ -1,6 +1,6 @@
--- Replay of a probe trace (document 02, L9): what is promised of `replay_trace`. Its definitions are those of crate `traces`, the values of
+-- Replay of a probe trace: what is promised of `replay_trace`. Its definitions are those of crate `traces`, the values of
 -- trees are the standard's side, in `vectors`.
-use Rattle.std.specs.Prelude.{ℕ, zero, suc, ◌+◌, ◌*◌, ◌/◌, ◌%◌, ◌^◌, ◌≤◌, ◌<◌, ◌≡◌, List, [], ◌∷◌, Bool, true, false, ◌&&◌, cond, ◌↔◌, get_or, drop}
+use Rattle.std.specs.Prelude.{ℕ, zero, suc, ◌+◌, ◌*◌, ◌/◌, ◌%◌, ◌^◌, ◌≤◌, ◌<◌, ◌≡◌, List, [], ◌∷◌, Bool, true, false, ◌&&◌, cond, ◌↔◌, get_or, drop, Result}
 use Rattle.std.proofs.Math.Path.{refl, sym, ap, subst}
 use Rattle.std.proofs.Common.{◌∙◌, arith, le→leb}
 use Rattle.std.proofs.Math.Dec.{T, leb, leb→le}
@@ -16,7 +16,7 @@ use Rattle.vectors.specs.BitLaws.{bit-zero, bit-suc}
 use Rattle.vectors.specs.Values.{Value, mask, count, meaning, environment}
 use Rattle.meanings.specs.Symbols.{symbol_meaning}
 use Rattle.meanings.proofs.Symbols.{kind-means}
-use Rattle.echo_spec.specs.Refusals.{unless, ◌or_else◌}
+use Rattle.echo_spec.specs.Refusals.{unless}
 use Rattle.echo_spec.specs.Input.{Problem, dag_of, query_of}
 use Rattle.echo_spec.specs.Widths.{widths_of}
 use Rattle.echo_spec.specs.Trees.{trees_over, tree_of, reading_of}
@@ -24,10 +24,10 @@ use Rattle.echo_spec.specs.Answers.{reading, endless_refusal, at_front, zeroed}
 use Rattle.echo_spec.specs.Accepted.{unless-passed, or_else-passed, in-unless, in-or_else, endless_number}
 use Rattle.echo_spec.proofs.Accepted.{endless-number}
 use Rattle.traces.specs.Trace.{narrow_roots, values_fit, trace_refusal, rows_of, row_of, holding_all, holding, holding_in, TraceAnswer, trace_answer, replay_trace_answer}
-use Rattle.replay_trace.specs.declared.Trace.{Trace}
+use Rattle.replay_trace.specs.declared.TraceError.{TraceError}
 use Rattle.replay_trace.specs.Traced.{answered}
 use Rattle.replay_trace.proofs.replay_trace.Reads as replay-trace-code
-use Rattle.lent.specs.Lent.{problem_of}
+use Rattle.lent.specs.Lent.{problem_at}
 use Rattle.theorems.specs.Scripts.{script_of}
 use Rattle.theorems.specs.Answered.{printed, endless-whole, script-sorted, script-reads-only}
 
@@ -215,21 +215,10 @@ symbols-mean = kind-means
 -- ---------------------------------------------------------------- the code
 
 -- The contract of `replay_trace`: its answer and both outputs afterwards. It asks nothing of the caller.
-abbrev pub TraceContract : Trace → Problem → List ℕ → List ℕ → List ℕ → List ℕ → List ℕ → Type 0
+abbrev pub TraceContract : Result ℕ TraceError → Problem → List ℕ → List ℕ → List ℕ → List ℕ → List ℕ → Type 0
 TraceContract r p values masks counts masks' counts' = answered r masks' counts' ≡ replay_trace_answer p values masks counts
 
 -- It is what the function is proved to ensure: x are its arguments as they are passed, y as they are when it returns.
 pub trace-contract : (κs : _) (x : _) (r : _) (y : _) → replay-trace-code.Post κs x r y
-    → TraceContract r
-    (problem_of x.0.now x.1.0.now x.1.1.0.now x.1.1.1.0.now x.1.1.1.1.0.now x.1.1.1.1.1.0.now
-    x.1.1.1.1.1.1.0.now x.1.1.1.1.1.1.1.0.now x.1.1.1.1.1.1.1.1.0.now x.1.1.1.1.1.1.1.1.1.0.now
-    x.1.1.1.1.1.1.1.1.1.1.0.now x.1.1.1.1.1.1.1.1.1.1.1.0.now x.1.1.1.1.1.1.1.1.1.1.1.1.0.now
-    x.1.1.1.1.1.1.1.1.1.1.1.1.1.0.now x.1.1.1.1.1.1.1.1.1.1.1.1.1.1.0.now
-    x.1.1.1.1.1.1.1.1.1.1.1.1.1.1.1.0.now x.1.1.1.1.1.1.1.1.1.1.1.1.1.1.1.1.0.now
-    x.1.1.1.1.1.1.1.1.1.1.1.1.1.1.1.1.1.0.now)
-    x.1.1.1.1.1.1.1.1.1.1.1.1.1.1.1.1.1.1.0.now
-    x.1.1.1.1.1.1.1.1.1.1.1.1.1.1.1.1.1.1.1.0.now
-    x.1.1.1.1.1.1.1.1.1.1.1.1.1.1.1.1.1.1.1.1.0.now
-    y.1.1.1.1.1.1.1.1.1.1.1.1.1.1.1.1.1.1.1.0.now
-    y.1.1.1.1.1.1.1.1.1.1.1.1.1.1.1.1.1.1.1.1.0.now
+    → TraceContract r (problem_at x.0.now) x.1.0.now x.1.1.0.now x.1.1.1.0.now y.1.1.0.now y.1.1.1.0.now
 trace-contract κs x r y h = h

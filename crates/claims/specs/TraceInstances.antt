@@ -1,8 +1,7 @@
 -- The claims on `replay_trace` at a trace: each speaks of something. A board logs base, size and limit, of 16 bits each; the rules are
 -- base + size <= limit, size != 0 and base & 15 = 0.
-use Rattle.std.specs.Prelude.{ℕ, ◌≤◌, ◌<◌, ◌≡◌, refl, List, [], ◌∷◌, ◌++◌, Bool, false, not, T, get_or, replicate}
+use Rattle.std.specs.Prelude.{ℕ, ◌≤◌, ◌<◌, ◌≡◌, refl, List, [], ◌∷◌, ◌++◌, false, T, get_or, replicate, Ok, Err}
 use Rattle.std.proofs.Common.{arith}
-use Rattle.lists.specs.Bytes.{bytes}
 use Rattle.lists.specs.Tests.{every}
 use Rattle.reading.specs.Kinds.{Var, Const, Add, And, Eq, Ne, Ule}
 use Rattle.smtlib.specs.Readings.{Reads}
@@ -29,7 +28,7 @@ use Rattle.traces.specs.Trace.{
   trace_answer,
   replay_trace_answer,
 }
-use Rattle.replay_trace.specs.declared.Trace.TheVariants.{Rows, Values}
+use Rattle.replay_trace.specs.declared.TraceError.TheVariants.{Values}
 use Rattle.theorems.specs.Scripts.{script_of}
 use Rattle.theorems.specs.Answered.{printed}
 use Rattle.claims.specs.Claims.{Accepts, one-reading}
@@ -67,12 +66,12 @@ unfolding
 computed = Unit {0}
 
 -- all hold; size is 0; the sum wraps, and all hold; the first and the third are broken
-called : TraceContract (Rows 4) board log nines nines (7 ∷ 5 ∷ 7 ∷ 2 ∷ 9 ∷ []) (3 ∷ 2 ∷ 3 ∷ 1 ∷ 9 ∷ [])
+called : TraceContract (Ok 4) board log nines nines (7 ∷ 5 ∷ 7 ∷ 2 ∷ 9 ∷ []) (3 ∷ 2 ∷ 3 ∷ 1 ∷ 9 ∷ [])
 unfolding computed
 called = refl
 
 -- 65,536 in the last column
-refused-call : TraceContract Values board (1 ∷ 2 ∷ 65536 ∷ []) nines nines (replicate 5 0) (replicate 5 0)
+refused-call : TraceContract (Err Values) board (1 ∷ 2 ∷ 65536 ∷ []) nines nines (replicate 5 0) (replicate 5 0)
 unfolding computed
 refused-call = refl
 

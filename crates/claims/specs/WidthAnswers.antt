@@ -1,6 +1,6 @@
 -- The width pass's answer taken apart: its number, its count, and the node that it refuses.
 use Prim.Native.Nat.{ℕ, zero, suc, ◌+◌, ◌≤◌, ◌<◌}
-use Rattle.std.specs.Prelude.{◌≡◌, ◌&&◌, leb, eqb, get_or}
+use Rattle.std.specs.Prelude.{◌≡◌, leb, eqb, get_or}
 use Rattle.std.proofs.Math.Path.{refl, sym, ap}
 use Rattle.std.proofs.Common.{◌∙◌, subst}
 use mathlib.Core.List.{List, [], ◌∷◌, ◌++◌}

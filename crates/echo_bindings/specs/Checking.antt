@@ -1,77 +1,103 @@
--- What is asked of the bound nodes, by the tables that were filled.
-use Prim.Native.Nat.{ℕ, zero, suc, ◌+◌, ◌-◌, ◌*◌, ◌/◌, ◌≤◌, ◌<◌}
-use Rattle.std.specs.Prelude.{◌≡◌, List, [], ◌∷◌, Bool, true, cond, length, get_or, take, drop}
-use Rattle.std.proofs.Math.Path.{refl}
-use Rattle.std.proofs.Common.{sym, ap, ◌∙◌, drop_of_length-le, drop-cons}
-use native.Mathlib.Omega.{arith}
-use Rattle.std.proofs.Math.Numerals.{add-one}
+-- What is asked of the bound nodes, by the marks that were made.
+use Rattle.std.specs.Prelude.{ℕ, zero, suc, ◌+◌, ◌-◌, ◌≤◌, ◌<◌, ◌≡◌, refl, List, [], ◌∷◌, Bool, true, false, cond, length, get_or, take, drop, Result, Ok, Err}
+use Rattle.std.specs.Result.{is_ok}
+use Rattle.std.proofs.Common.{sym, ◌∙◌, arith, add-one, le-ltb, drop_of_length-le, drop-cons}
+use Rattle.std.proofs.Math.Decide.{dec_lt}
+use Rattle.std.proofs.Math.ListN.{get_or-eq_default}
+use Rattle.std.proofs.lemmas.List.{get_or-take, length-take}
 use Rattle.echo_spec.specs.Refusals.{◌or_else◌}
-use Rattle.echo_spec.specs.Input.{Dag, shape, no_node}
-use Rattle.echo_spec.specs.Walk.{walk_all, walk, walk_roots, formula}
+use Rattle.echo_spec.specs.Input.{Dag}
+use Rattle.echo_spec.specs.Walk.{walk_all, walk, walk_roots}
 use Rattle.lets.specs.Lets.{uses_in, shared, binds, assertion_refusal, let_roots}
-use Rattle.lent.specs.Arrays.{Slice, problem_at, dag_at}
-use Rattle.blast_kernel.specs.Codes.{code_of, code-small}
+use Rattle.refusals.specs.declared.EchoError.{EchoError}
+use Rattle.refusals.specs.Numbers.{refused}
+use Rattle.lent.specs.declared.Problem.{Problem as Lent}
+use Rattle.lent.specs.Lent.{problem_at, dag_at}
+use Rattle.echo_tables.specs.declared.Mark.{Mark}
+use Rattle.echo_tables.specs.Marks.{mark_at}
 use Rattle.echo_tables.specs.Refused.{refused_at}
-use Rattle.echo_tables.specs.Asked.{Refusable}
+use Rattle.echo_tables.specs.Filling.{Measured, Marked}
 use Rattle.echo_tables.specs.Uses.{stops, goes_on}
-use Rattle.echo_reach.specs.Remainders.{Same}
-use Rattle.echo_reach.specs.Marks.{flagged, Odd, odd-same, Exactly, Whole, few-nodes}
-use Rattle.echo_bindings.specs.LetRefused.{first_from, of_bound, root_is, none-bound}
+use Rattle.echo_sharing.specs.Flags.{Flags}
+use Rattle.echo_reach.specs.Marks.{Whole, few-nodes}
+use Rattle.echo_bindings.specs.LetRefused.{first_from, of_bound, root_is, roots-free, none-bound}
 
 -- all uses of the problem that is lent
-abbrev pub uses_at : List Slice → List Slice → List ℕ
-uses_at B N = uses_in (dag_at B N) (problem_at B N).roots
+abbrev pub uses_at : Lent → List ℕ
+uses_at p = uses_in (dag_at p) (problem_at p).roots
 
--- what was made ready: the numbers of the nodes, and the flags, odd for the shared ones
-pub record Sharing (B N : List Slice) (ws codes table : List ℕ) : Type 0 where
-  pub whole : Whole B N
-  pub refusable : Refusable B N ws codes
-  pub flags : Odd (shared (dag_at B N) (uses_at B N)) (length (dag_at B N).nodes) table
+-- what a table of flags says of each node
+abbrev pub flagged : List Bool → ℕ → Bool
+flagged t i = get_or t i false
 
--- by the tables: what a bound node is refused with, or 0
-abbrev pub table_refusal : List ℕ → List ℕ → ℕ → ℕ
-table_refusal codes flags i = cond (flagged flags i) (get_or codes i 0 / 16) 0
+-- these are the widths of the nodes, and these the flags of the shared ones
+pub record Sharing (p : Lent) (ws : List ℕ) (s : List Bool) : Type 0 where
+  pub whole : Whole p
+  pub measured : Measured p ws
+  pub flags : Flags (shared (dag_at p) (uses_at p)) s
+
+-- by its mark: what a bound node is refused with, or 0
+abbrev pub bound_refusal : List Mark → (ℕ → Bool) → ℕ → ℕ
+bound_refusal t bound i = cond (bound i) (refused (mark_at t i).told) 0
 
 -- ---------------------------------------------------------------- one after the other
 
-module _ (f : ℕ → ℕ) (n i : ℕ) {whole : ℕ} (e : first_from f i (n - i) ≡ whole) (l : i < n) where
-  first-opens : (f i or_else first_from f (i + 1) (n - (i + 1))) ≡ whole
+module _ (f : ℕ → ℕ) (n i : ℕ) {whole : ℕ} (e : first_from f i (n - i) ≡ whole) where
+  module _ (l : i < n) where
+    first-opens : (f i or_else first_from f (i + 1) (n - (i + 1))) ≡ whole
+    unfolding first_from
+    first-opens = let z : n - i ≡ suc (n - (i + 1)) = omega arith in rw add-one (rw (z, add-one) at e)
+
+    module _ {r : ℕ} (is : r ≡ f i) where
+      pub first_stops : 0 < r → r ≡ whole
+      first_stops = stops (f i) (first_from f (i + 1) (n - (i + 1))) first-opens is
+
+      pub first_passes : r ≤ 0 → first_from f (i + 1) (n - (i + 1)) ≡ whole
+      first_passes = goes_on (f i) (first_from f (i + 1) (n - (i + 1))) first-opens is
+
+  pub first_ends : n ≤ i → 0 ≡ whole
   unfolding first_from
-  first-opens = let z : n - i ≡ suc (n - (i + 1)) = omega arith in rw add-one (rw (z, add-one) at e)
+  first_ends l = let z : n - i ≡ 0 = omega arith in rw z at e
 
-  module _ {r : ℕ} (is : r ≡ f i) where
-    pub first_stops : 0 < r → r ≡ whole
-    first_stops = stops (f i) (first_from f (i + 1) (n - (i + 1))) first-opens is
+-- what is told of node i, by its mark m
+module _ (t : List Mark) (bound : ℕ → Bool) (i : ℕ) where
+  pub told-bound : bound i ≡ true → {m : Mark} → m ≡ mark_at t i → refused m.told ≡ bound_refusal t bound i
+  told-bound q e = rw (q, e) refl
 
-    pub first_passes : r ≤ 0 → first_from f (i + 1) (n - (i + 1)) ≡ whole
-    first_passes = goes_on (f i) (first_from f (i + 1) (n - (i + 1))) first-opens is
+  pub told-free : bound i ≡ false → 0 ≡ bound_refusal t bound i
+  told-free q = rw q refl
 
-pub first_ends : (f : ℕ → ℕ) (n i : ℕ) {whole : ℕ} → first_from f i (n - i) ≡ whole → n ≤ i → 0 ≡ whole
-unfolding first_from
-first_ends f n i e l = let z : n - i ≡ 0 = omega arith in rw z at e
-
-first-same : (f g : ℕ → ℕ) (a m : ℕ) → ((i : ℕ) → a ≤ i → i < a + m → f i ≡ g i) → first_from f a m ≡ first_from g a m
+first-same : (f g : ℕ → ℕ) (a m : ℕ) → ((i : ℕ) → i < a + m → f i ≡ g i) → first_from f a m ≡ first_from g a m
 unfolding first_from
 first-same f g a zero h = refl
-first-same f g a (suc m) h = λ k. h a (omega arith) (omega arith) k or_else first-same f g (suc a) m (λ i l u. h i (omega arith) (omega arith)) k
+first-same f g a (suc m) h = λ k. h a (omega arith) k or_else first-same f g (suc a) m (λ i l. h i (omega arith)) k
 
--- ---------------------------------------------------------------- the tables say it
+-- ---------------------------------------------------------------- the marks say it
 
--- whatever is marked
-pub sharing-over : {B N : List Slice} {ws codes a b : List ℕ} → Same 2 a b → Sharing B N ws codes a → Sharing B N ws codes b
-sharing-over s h = record { whole = h.whole; refusable = h.refusable; flags = odd-same s h.flags }
-
-module _ {B N : List Slice} {ws codes table : List ℕ} (h : Sharing B N ws codes table) where
+module _ {p : Lent} {ws : List ℕ} {s : List Bool} (h : Sharing p ws s) where
   abbrev d : Dag
-  d = dag_at B N
+  d = dag_at p
 
-  number_at : (i : ℕ) → i < length d.nodes → get_or codes i 0 / 16 ≡ refused_at d ws i
-  number_at i l = omega (arith, h.refusable.marked.at i l, code-small (shape (get_or d.nodes i no_node)))
+  pub few-widths : length ws ≤ 2048
+  few-widths = omega (arith, h.measured.counted, few-nodes h.whole)
 
-  -- `flags` has the bound nodes
-  pub by-tables : (p : ℕ → Bool) {flags : List ℕ} {n : ℕ} → Exactly p flags → n ≡ length d.nodes
-      → first_from (table_refusal codes flags) 0 n ≡ first_from (of_bound p (refused_at d ws)) 0 (length d.nodes)
-  by-tables p {flags} fl e = rw e (first-same (table_refusal codes flags) (of_bound p (refused_at d ws)) 0 (length d.nodes) (λ i l u. λ k. cond (fl.at i k) (number_at i (omega arith) k) 0))
+  -- the flags of the first nodes, as many as there are, say which are bound
+  pub flags-front : (root n : ℕ) {t u : List Bool} → n ≡ length ws → Flags (binds d (uses_at p) root) t → u ≡ take n t → flagged u ≡ binds d (uses_at p) root
+  unfolding binds shared
+  flags-front root n {t} {u} e f q = λ k j. by_place j (dec_lt j n) k
+    where
+      by_place : (j : ℕ) → Dec (j < n) → flagged u j ≡ binds d (uses_at p) root j
+      by_place j (yes l) = rw (q, get_or-take n t j false l) (f.at j)
+      by_place j (no l) =
+          let m : length d.nodes ≤ j = omega (arith, h.measured.counted) in
+          rw (q, get_or-eq_default (take n t) false {n = j} (omega (arith, length-take n t)), le-ltb j (length d.nodes) m) refl
+
+  -- by the marks, and the flags of the bound nodes
+  pub by-marks : {t : List Mark} → Marked d ws t → (bound : ℕ → Bool) {b : ℕ → Bool} {n : ℕ} → b ≡ bound → n ≡ length ws
+      → first_from (bound_refusal t b) 0 n ≡ first_from (of_bound bound (refused_at d ws)) 0 (length d.nodes)
+  by-marks {t} m bound {b} {n} e q =
+      let z : n ≡ length d.nodes = omega (arith, h.measured.counted) in
+      rw (z, e) (first-same (bound_refusal t bound) (of_bound bound (refused_at d ws)) 0 (length d.nodes) (λ i l. λ k. cond (bound i) ((m.at i (omega arith)).refused k) 0))
 
   one-root : (root : ℕ) → walk_roots d ws (root ∷ []) ≡ walk d ws root true
   unfolding walk_roots walk_all
@@ -81,42 +107,40 @@ module _ {B N : List Slice} {ws codes table : List ℕ} (h : Sharing B N ws code
       none-else zero = refl
       none-else (suc m) = refl
 
-  -- the assertion of root k, by its bound nodes and then the root
-  module _ (roots : List ℕ) (k : ℕ) (l : k < length roots) {r : ℕ} (is : r ≡ first_from (of_bound (binds d (uses_at B N) (get_or roots k 0)) (refused_at d ws)) 0 (length d.nodes)) where
-    abbrev root : ℕ
-    root = get_or roots k 0
-
-    pub assertion-stops : 0 < r → r ≡ assertion_refusal d ws (binds d (uses_at B N) root) root
-    assertion-stops = stops _ (walk d ws root true) (sym (root_is d ws (length (problem_at B N).bits) h.refusable.measured.widths h.refusable.measured.counted (uses_at B N) root)) is
-
-    pub assertion-ends : r ≤ 0 → {s : ℕ} → s ≡ walk_roots d ws (take (k + 1 - k) (drop k roots)) → s ≡ assertion_refusal d ws (binds d (uses_at B N) root) root
-    assertion-ends z q =
-        let m : k + 1 - k ≡ 1 = omega arith in
-        let f : take (k + 1 - k) (drop k roots) ≡ root ∷ [] = rw (m, drop-cons roots k 0 l) refl in
-        q ∙ ap (walk_roots d ws) f ∙ one-root root
-        ∙ goes_on _ (walk d ws root true) (sym (root_is d ws (length (problem_at B N).bits) h.refusable.measured.widths h.refusable.measured.counted (uses_at B N) root)) is z
-
-  -- root after root
-  module _ (roots : List ℕ) (k : ℕ) {whole : ℕ} (e : let_roots d ws (uses_at B N) (drop k roots) ≡ whole) where
-    roots-open : k < length roots → (assertion_refusal d ws (binds d (uses_at B N) (get_or roots k 0)) (get_or roots k 0) or_else let_roots d ws (uses_at B N) (drop (k + 1) roots)) ≡ whole
-    unfolding let_roots
-    roots-open l = rw (add-one k) (rw (drop-cons roots k 0 l) at e)
-
-    module _ (l : k < length roots) {r : ℕ} (is : r ≡ assertion_refusal d ws (binds d (uses_at B N) (get_or roots k 0)) (get_or roots k 0)) where
-      pub roots-stop : 0 < r → r ≡ whole
-      roots-stop = stops _ (let_roots d ws (uses_at B N) (drop (k + 1) roots)) (roots-open l) is
-
-      pub roots-pass : r ≤ 0 → let_roots d ws (uses_at B N) (drop (k + 1) roots) ≡ whole
-      roots-pass = goes_on _ (let_roots d ws (uses_at B N) (drop (k + 1) roots)) (roots-open l) is
-
-    pub roots-end : length roots ≤ k → 0 ≡ whole
-    unfolding let_roots
-    roots-end l = rw (drop_of_length-le roots l) at e
+  -- where every root's whole term passes
+  pub whole-pass : (roots : List ℕ) (o : Result (Unit {0}) EchoError) → is_ok o ≡ true → refused o ≡ walk_roots d ws roots → 0 ≡ let_roots d ws (uses_at p) roots
+  whole-pass roots (Ok x) q e = sym (roots-free d ws (length (problem_at p).bits) h.measured.widths h.measured.counted (uses_at p) roots (sym e))
+  whole-pass roots (Err x) q e = cc
 
   -- a root that is no node
-  pub past-nodes : (root : ℕ) {n : ℕ} → n ≡ length ws → n ≤ root → 0 ≡ first_from (of_bound (binds d (uses_at B N) root) (refused_at d ws)) 0 (length d.nodes)
-  past-nodes root e l =
-      sym (none-bound d ws (length (problem_at B N).bits) h.refusable.measured.widths h.refusable.measured.counted (uses_at B N) root (omega (arith, h.refusable.measured.counted)))
+  pub past-nodes : (root : ℕ) → length ws ≤ root → 0 ≡ first_from (of_bound (binds d (uses_at p) root) (refused_at d ws)) 0 (length d.nodes)
+  past-nodes root l = sym (none-bound d ws (length (problem_at p).bits) h.measured.widths h.measured.counted (uses_at p) root (omega (arith, h.measured.counted)))
 
-  pub few-widths : length ws ≤ 2048
-  few-widths = omega (arith, h.refusable.measured.counted, few-nodes h.whole)
+  -- a root's assertion, by its bound nodes and then the root
+  module _ (root : ℕ) {r : ℕ} (is : r ≡ first_from (of_bound (binds d (uses_at p) root) (refused_at d ws)) 0 (length d.nodes)) where
+    opens : (first_from (of_bound (binds d (uses_at p) root) (refused_at d ws)) 0 (length d.nodes) or_else walk d ws root true) ≡ assertion_refusal d ws (binds d (uses_at p) root) root
+    opens = sym (root_is d ws (length (problem_at p).bits) h.measured.widths h.measured.counted (uses_at p) root)
+
+    pub assertion-stops : 0 < r → r ≡ assertion_refusal d ws (binds d (uses_at p) root) root
+    assertion-stops = stops _ (walk d ws root true) opens is
+
+    pub assertion-ends : r ≤ 0 → {v : ℕ} → v ≡ walk_roots d ws (root ∷ []) → v ≡ assertion_refusal d ws (binds d (uses_at p) root) root
+    assertion-ends z q = q ∙ one-root root ∙ goes_on _ (walk d ws root true) opens is z
+
+-- root after root
+module _ (d : Dag) (ws us roots : List ℕ) (k : ℕ) {whole : ℕ} (e : let_roots d ws us (drop k roots) ≡ whole) where
+  module _ (l : k < length roots) where
+    roots-open : (assertion_refusal d ws (binds d us (get_or roots k 0)) (get_or roots k 0) or_else let_roots d ws us (drop (k + 1) roots)) ≡ whole
+    unfolding let_roots
+    roots-open = rw (add-one k) (rw (drop-cons roots k 0 l) at e)
+
+    module _ {r : ℕ} (is : r ≡ assertion_refusal d ws (binds d us (get_or roots k 0)) (get_or roots k 0)) where
+      pub roots-stop : 0 < r → r ≡ whole
+      roots-stop = stops _ (let_roots d ws us (drop (k + 1) roots)) roots-open is
+
+      pub roots-pass : r ≤ 0 → let_roots d ws us (drop (k + 1) roots) ≡ whole
+      roots-pass = goes_on _ (let_roots d ws us (drop (k + 1) roots)) roots-open is
+
+  pub roots-end : length roots ≤ k → 0 ≡ whole
+  unfolding let_roots
+  roots-end l = rw (drop_of_length-le roots l) at e

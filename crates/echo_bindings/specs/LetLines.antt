@@ -1,8 +1,8 @@
 -- The text of an assertion with `let` as it is written: what opens each binding, the root, what closes them.
 use Prim.Native.Nat.{ℕ, zero, suc, ◌+◌, ◌-◌, ◌^◌, ◌≤◌, ◌<◌}
-use Rattle.std.specs.Prelude.{◌≡◌, refl, Bool, cond, eqb, length}
+use Rattle.std.specs.Prelude.{◌≡◌, refl, Bool, cond, length}
 use Rattle.std.proofs.Math.Path.{sym, ap}
-use Rattle.std.proofs.Common.{◌∙◌, eq-eqb, ne_eqb}
+use Rattle.std.proofs.Common.{◌∙◌}
 use mathlib.Core.List.{List, [], ◌∷◌, ◌++◌, map, append_assoc, append-nil}
 use Rattle.std.proofs.Math.Bool.{true, false}
 use native.Mathlib.Omega.{arith}
@@ -11,8 +11,7 @@ use Rattle.lists.specs.Bytes.{bytes}
 use Rattle.echo_spec.specs.Input.{Dag}
 use Rattle.echo_spec.specs.Render.{quoted, term}
 use Rattle.lets.specs.Lets.{let_name, named_of, rising, binding_of, let_text}
-use Rattle.echo_bytes.specs.declared.Place.{Place}
-use Rattle.echo_bytes.specs.Page.{Page, page, written}
+use Rattle.echo_bytes.specs.Page.{Page, written}
 use Rattle.echo_bytes.specs.Laws.{written_then, written-nil, length-written}
 use Rattle.echo_walk.specs.Texts as texts
 
@@ -113,15 +112,20 @@ module _ {f : ℕ → List ℕ} {n : ℕ} {p q : Page} {i : ℕ} (h : SoFar f n 
     counted = omega arith;
   }
 
+  -- where the next piece is nothing
+  pub none_more : i < n → f i ≡ [] → SoFar f n p (i + 1) q
+  unfolding pieces_from
+  none_more l e = record {
+    text = h.text;
+    rest =
+        let z : n - i ≡ suc (n - (i + 1)) = omega arith in
+        h.rest ∙ ap (λ (m : ℕ). h.text ++ pieces_from f i m) z ∙ rw (e, add-one) refl;
+    stands = h.stands;
+    counted = omega arith;
+  }
+
   pub all-pieces : n ≤ i → q ≡ written p (pieces_from f 0 n)
   unfolding pieces_from
   all-pieces l =
       let z : n - i ≡ 0 = omega arith in
       h.stands ∙ ap (written p) (sym (h.rest ∙ ap (λ (m : ℕ). h.text ++ pieces_from f i m) z ∙ append-nil h.text))
-
--- by the flag of a node: nothing is written, or its piece
-pub unflagged : (b : ℕ) (t : List ℕ) → (b ≡ 3 → ⊥) → (p : Page) → p.place.need < 2 ^ 64 → p ≡ written p (cond (eqb b 3) t [])
-unflagged b t h p l = rw (ne_eqb b 3 h) (sym (written-nil p l))
-
-pub flagged-piece : (b : ℕ) (t : List ℕ) → b ≡ 3 → (p : Page) {q : Page} → q ≡ written p t → q ≡ written p (cond (eqb b 3) t [])
-flagged-piece b t h p e = rw (eq-eqb b 3 h) e

@@ -2,21 +2,20 @@
 -- of it, so that a use may ask it all again.
 use Prim.Native.Nat.{ℕ, zero, suc, ◌+◌, ◌≤◌, ◌<◌}
 use Rattle.std.proofs.Math.Path.{◌≡◌, refl, sym, ap, subst}
-use Rattle.std.proofs.Common.{◌∙◌, add-one, lt-ltb, le-ltb, ne_eqb}
-use mathlib.Core.List.{List, [], ◌∷◌, ◌++◌, map}
+use Rattle.std.proofs.Common.{◌∙◌, le-ltb, ne_eqb}
+use mathlib.Core.List.{List, [], ◌∷◌, map}
 use Rattle.std.proofs.Math.Bool.{Bool, true, false, cond}
-use Rattle.std.specs.Prelude.{◌&&◌, eqb, ltb, get_or}
+use Rattle.std.specs.Prelude.{eqb, ltb}
 use native.Mathlib.Omega.{arith}
 use Rattle.std.proofs.Math.Decide.{dec_lt}
 use Rattle.std.proofs.Math.Dec.{T, eqb→eq, ltb→lt}
 use Rattle.std.proofs.Math.ListN.{length}
-use Rattle.lists.specs.Tests.{among, T→true, true→T, no→false, and_0, and-1, or_elim}
+use Rattle.lists.specs.Tests.{among, true→T, and_0, and-1, or_elim}
 use Rattle.lists.specs.Build.{upto-below}
 use Rattle.echo_spec.specs.Refusals.{unless, ◌or_else◌}
-use Rattle.echo_spec.specs.Shapes.{is_bool}
-use Rattle.echo_spec.specs.Input.{Node, shape, no_node, Dag}
+use Rattle.echo_spec.specs.Input.{Dag}
 use Rattle.echo_spec.specs.Widths.{ext_wf_of}
-use Rattle.echo_spec.specs.Walk.{asked, Operand, operands_as, walk_all, sort_ok, step_of_walk, walks_below, walk, walk_roots, formula}
+use Rattle.echo_spec.specs.Walk.{asked, Operand, walk_all, sort_ok, step_of_walk, walks_below, walk, walk_roots}
 use Rattle.echo_spec.specs.Accepted.{or_else-passed}
 use Rattle.lets.specs.Lets as lets
 use Rattle.lets.specs.Lets.{shared, reached_below, reached, binds, rising, bool_at, used_as, let_step, let_walks_below, let_walk, own_sort, assertion_refusal, let_roots}

@@ -1,4 +1,4 @@
 pub mod LetRefused
 pub mod Checking
 pub mod LetLines
-pub mod Plans
+pub mod Naming

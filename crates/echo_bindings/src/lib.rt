@@ -1,119 +1,116 @@
-// One assertion with `let` (document 02, L4): what it is refused with, and its text.
+// One assertion with `let`: what it is refused with, and its text.
 //
-// The table of the nodes' numbers says what a node's whole term is refused with. A bound term is checked before any use of it, so that table
-// serves here too: the bound nodes in rising order, and then the root. While the text is written a bound node gets the plan to be named
-// once its binding is written, in the table itself; the next assertion takes the plans out first.
+// A node's mark tells what its whole term is refused with. A bound term is checked before any use of it, so that the marks serve here too:
+// the bound nodes in rising order, and then the root. While the text is written a bound node is named in its mark once its binding is
+// written; the next assertion takes the names out first.
 #![tactic(auto)]
 
-ghost use Rattle.std.specs.Prelude.{◌≡◌, cond, [], ◌∷◌, ◌++◌, ◌+◌, ◌/◌, ◌≤◌, ◌<◌, eqb, length, get_or};
+ghost use Rattle.std.specs.Prelude.{◌≡◌, cond, [], ◌∷◌, ◌++◌, ◌≤◌, map, length};
 ghost use Rattle.lists.specs.Bytes.{bytes as literal};
-ghost use Rattle.lets.specs.Lets.{binds, assertion_refusal, let_roots};
-ghost use Rattle.lent.specs.Arrays.{problem_at, dag_at};
-ghost use Rattle.echo_bytes.specs.Page.{page, start, written};
-ghost use Rattle.echo_tables.specs.Refused.{refused_at};
-ghost use Rattle.echo_reach.specs.Remainders.{Reduced, Same};
-ghost use Rattle.echo_reach.specs.Marks.{flagged};
-ghost use Rattle.echo_walk.specs.Texts.{plain, planned, text_in, named};
-ghost use Rattle.echo_bindings.specs.LetRefused.{first_from, of_bound};
-ghost use Rattle.echo_bindings.specs.Checking.{uses_at, Sharing, table_refusal};
+ghost use Rattle.refusals.specs.Numbers.{refused};
+ghost use Rattle.echo_bytes.specs.Page.{page, written};
+ghost use Rattle.echo_walk.specs.Texts.{named};
+ghost use Rattle.echo_bindings.specs.LetRefused.{first_from};
+ghost use Rattle.echo_bindings.specs.Checking.{flagged, bound_refusal, Sharing};
 ghost use Rattle.echo_bindings.specs.LetLines.{closes_from};
-ghost use Rattle.echo_bindings.specs.Plans.{Writable, Bound, BindingWritten, BindingsWritten, own_text, Assertable, assertion_text};
+ghost use Rattle.echo_bindings.specs.Naming.{unnamed, Walkable};
 
-use echo_bytes::Place;
-use echo_reach::BOUND;
-use echo_walk::SYMBOLS;
-use lent::{BYTES, NUMBERS, count};
-use refusals::MAX_NODES;
+use echo_bytes::{Place, start};
+use echo_lines::{close_line, open_assert};
+use echo_reach::bound_nodes;
+use echo_tables::{Mark, roots_told};
+use echo_walk::{Walk, push_named};
+use lent::Problem;
+use refusals::{EchoError, MAX_NODES};
 
 // ---------------------------------------------------------------- what an assertion is refused with
 
-// What a node's whole term is refused with, by its number in the table, if the node is bound.
-fn own_refusal(code: u64, flag: u8) -> u64
-    ensures { result ≡ cond (eqb flag 3) (code / 16) 0 }
+// The first refusal of the bound nodes, in rising order.
+fn first_told(marks: &[Mark; MAX_NODES], bound: &[bool]) -> Result<(), EchoError>
+    requires { length bound.now ≤ 2048 }
+    ensures { refused result ≡ first_from (bound_refusal marks.now (flagged bound.now)) 0 (length bound.now) }
 {
-    if flag == BOUND {
-        return code / 16;
-    }
-    0
-}
-
-// The first refusal among the bound nodes, in rising order.
-fn bound_refused(codes: &[u64; MAX_NODES], flags: &[u8; MAX_NODES], n: usize) -> u64
-    requires { n ≤ 2048 }
-    ensures { result ≡ first_from (table_refusal codes.now flags.now) 0 n }
-{
-    let mut i = 0;
-    while i < n {
-        let e = own_refusal(codes[i], flags[i]);
-        if e > 0 {
-            return e;
+    for (i, b) in bound.iter().enumerate() {
+        if *b {
+            marks[i].told?;
         }
-        i += 1;
     }
-    0
+    Ok(())
 }
 
-// The same for a root's assertion. A root that is no node reaches none.
-fn first_bound(
-    bytes: &[&[u8]; BYTES],
-    numbers: &[&[u64]; NUMBERS],
-    ws: &[u64],
-    codes: &[u64; MAX_NODES],
-    root: u64,
-    flags: &mut [u8; MAX_NODES],
-) -> u64
-    requires { Sharing bytes.now numbers.now ws.now codes.now flags.old }
-    ensures { (result ≡ first_from (of_bound (binds (dag_at bytes.now numbers.now) (uses_at bytes.now numbers.now) root) (refused_at (dag_at bytes.now numbers.now) ws.now)) 0 (length (dag_at bytes.now numbers.now).nodes)) × Same 2 flags.old flags.new }
-{
-    if root >= count(ws) {
-        return 0;
-    }
-    echo_reach::bound_nodes(bytes, numbers, root, flags);
-    bound_refused(codes, flags, ws.len())
+// The problem, each node's width, and which operators are shared.
+#[derive(Clone, Copy)]
+pub struct Sharing<'a> {
+    pub problem: &'a Problem<'a>,
+    pub widths: &'a [u64],
+    pub shared: &'a [bool; MAX_NODES],
+    ghost known: { Sharing problem.now widths.now shared.now },
 }
 
-// What the assertion of root k is refused with.
-fn assertion_refused(
-    bytes: &[&[u8]; BYTES],
-    numbers: &[&[u64]; NUMBERS],
-    ws: &[u64],
-    codes: &[u64; MAX_NODES],
-    roots: &[u64],
-    k: usize,
-    flags: &mut [u8; MAX_NODES],
-) -> u64
-    requires { Sharing bytes.now numbers.now ws.now codes.now flags.old × (k < length roots.now) }
-    ensures { (result ≡ assertion_refusal (dag_at bytes.now numbers.now) ws.now (binds (dag_at bytes.now numbers.now) (uses_at bytes.now numbers.now) (get_or roots.now k 0)) (get_or roots.now k 0)) × Same 2 flags.old flags.new }
-{
-    let e = first_bound(bytes, numbers, ws, codes, roots[k], flags);
-    if e > 0 {
-        return e;
-    }
-    echo_tables::roots_refused(bytes, numbers, ws, codes, &roots[k..k + 1])
-}
+impl<'a> Sharing<'a> {
+    ghost use Rattle.std.specs.Prelude.{◌≡◌};
+    ghost use Rattle.refusals.specs.Numbers.{refused};
+    ghost use Rattle.lets.specs.Lets.{binds, assertion_refusal, let_roots};
+    ghost use Rattle.lent.specs.Lent.{dag_at};
+    ghost use Rattle.echo_tables.specs.Refused.{refused_at};
+    ghost use Rattle.echo_tables.specs.Filling.{Marked};
+    ghost use Rattle.echo_bindings.specs.LetRefused.{first_from, of_bound};
+    ghost use Rattle.echo_bindings.specs.Checking.{uses_at};
 
-// The first refusal of the roots' assertions in order, or 0; the flags may then have any marks. Ruled out: the root's sort told before a bound
-// term's refusal; the bound terms of a later root checked before an earlier root.
-pub fn roots_refused(
-    bytes: &[&[u8]; BYTES],
-    numbers: &[&[u64]; NUMBERS],
-    ws: &[u64],
-    codes: &[u64; MAX_NODES],
-    roots: &[u64],
-    flags: &mut [u8; MAX_NODES],
-) -> u64
-    requires { Sharing bytes.now numbers.now ws.now codes.now flags.old }
-    ensures { result ≡ let_roots (dag_at bytes.now numbers.now) ws.now (uses_at bytes.now numbers.now) roots.now }
-{
-    let mut k = 0;
-    while k < roots.len() {
-        let e = assertion_refused(bytes, numbers, ws, codes, roots, k, flags);
-        if e > 0 {
-            return e;
+    // The first refusal of the nodes that are bound in a root's assertion. A root that is no node reaches none.
+    fn bound_told(
+        &self,
+        marks: &[Mark; MAX_NODES],
+        root: u64,
+        bound: &mut [bool; MAX_NODES],
+    ) -> Result<(), EchoError>
+        requires { Marked (dag_at self.now.problem.now) self.now.widths.now marks.now }
+        ensures { refused result ≡ first_from (of_bound (binds (dag_at self.now.problem.now) (uses_at self.now.problem.now) root) (refused_at (dag_at self.now.problem.now) self.now.widths.now)) 0 (length (dag_at self.now.problem.now).nodes) }
+    {
+        let n = self.widths.len();
+        if root >= n as u64 {
+            return Ok(());
         }
-        k += 1;
+        let shared = self.shared;
+        bound_nodes(self.problem, root, shared, bound);
+        let first = &bound[..n];
+        first_told(marks, first)
     }
-    0
+
+    // What the assertion of a root is refused with.
+    fn assertion_told(
+        &self,
+        marks: &[Mark; MAX_NODES],
+        root: u64,
+        bound: &mut [bool; MAX_NODES],
+    ) -> Result<(), EchoError>
+        requires { Marked (dag_at self.now.problem.now) self.now.widths.now marks.now }
+        ensures { refused result ≡ assertion_refusal (dag_at self.now.problem.now) self.now.widths.now (binds (dag_at self.now.problem.now) (uses_at self.now.problem.now) root) root }
+    {
+        self.bound_told(marks, root, bound)?;
+        roots_told(self.problem, self.widths, marks, &[root])
+    }
+
+    // The first refusal of the roots' assertions in order. Where every root's whole term passes, every assertion does, and none is gone through by
+    // itself. What is lent for the bound nodes may have those of another root. Ruled out: the root's sort told before a bound term's refusal; the
+    // bound terms of a later root checked before an earlier root.
+    pub fn roots_told(
+        &self,
+        marks: &[Mark; MAX_NODES],
+        roots: &[u64],
+        bound: &mut [bool; MAX_NODES],
+    ) -> Result<(), EchoError>
+        requires { Marked (dag_at self.now.problem.now) self.now.widths.now marks.now }
+        ensures { refused result ≡ let_roots (dag_at self.now.problem.now) self.now.widths.now (uses_at self.now.problem.now) roots.now }
+    {
+        if roots_told(self.problem, self.widths, marks, roots).is_ok() {
+            return Ok(());
+        }
+        for root in roots {
+            self.assertion_told(marks, *root, bound)?;
+        }
+        Ok(())
+    }
 }
 
 // ---------------------------------------------------------------- its text
@@ -122,168 +119,121 @@ pub fn roots_refused(
 fn open_binding(p: Place, i: u64, out: &mut [u8]) -> Place
     ensures { page result out.new ≡ written (page p out.old) (literal " (let ((" ++ named i) }
 {
-    let q = p.word(out, b" (let ((");
-    echo_walk::push_named(q, i, out)
+    push_named(p.word(out, b" (let (("), i, out)
 }
 
-// A blank, and node i by its plan and those below it.
-fn planned_term<'a>(
-    bytes: &[&[u8]; BYTES],
-    numbers: &[&[u64]; NUMBERS],
-    ws: &'a [u64],
-    entries: &'a [u64],
-    plans: &'a [u64],
-    symbols: &[u8; SYMBOLS],
-    p: Place,
-    i: u64,
-    out: &mut [u8],
-) -> Place
-    requires { Writable bytes.now numbers.now ws.now entries.now plans.now symbols.now i }
-    ensures { page result out.new ≡ written (page p out.old) (32 ∷ text_in (planned (λ j. get_or plans.now j 0 / 128) (plain (dag_at bytes.now numbers.now) ws.now (problem_at bytes.now numbers.now).bits)) i) }
+// A closing bracket for each bound node.
+fn close_bindings(bound: &[bool], p: Place, out: &mut [u8]) -> Place
+    ensures { page result out.new ≡ written (page p out.old) (closes_from (flagged bound.now) 0 (length bound.now)) }
 {
-    let tables = [ws, entries, plans];
-    echo_walk::echo_node(bytes, numbers, &tables, symbols, p, i, out)
-}
-
-// The binding of node i if it is bound, and then its plan to be named.
-fn bind<'a>(
-    bytes: &[&[u8]; BYTES],
-    numbers: &[&[u64]; NUMBERS],
-    ws: &'a [u64],
-    entries: &'a [u64],
-    flags: &[u8; MAX_NODES],
-    symbols: &[u8; SYMBOLS],
-    p: Place,
-    i: usize,
-    plans: &mut [u64],
-    out: &mut [u8],
-) -> Place
-    requires { Bound bytes.now numbers.now ws.now entries.now symbols.now flags.now i plans.old }
-    ensures { BindingWritten (own_text bytes.now numbers.now ws.now (flagged flags.now)) plans.old (flagged flags.now) i (page p out.old) (page result out.new) plans.new }
-{
-    if flags[i] != BOUND {
-        return p;
-    }
-    let q = open_binding(p, i as u64, out);
-    let r = planned_term(
-        bytes,
-        numbers,
-        ws,
-        entries,
-        &plans[..],
-        symbols,
-        q,
-        i as u64,
-        out,
-    );
-    let s = r.word(out, b"))");
-    plans[i] = plans[i] + 128;
-    s
-}
-
-// The bindings of the first n nodes.
-fn bindings<'a>(
-    bytes: &[&[u8]; BYTES],
-    numbers: &[&[u64]; NUMBERS],
-    ws: &'a [u64],
-    entries: &'a [u64],
-    flags: &[u8; MAX_NODES],
-    symbols: &[u8; SYMBOLS],
-    p: Place,
-    plans: &mut [u64],
-    out: &mut [u8],
-) -> Place
-    requires { Bound bytes.now numbers.now ws.now entries.now symbols.now flags.now 0 plans.old }
-    ensures { BindingsWritten (own_text bytes.now numbers.now ws.now (flagged flags.now)) plans.old (flagged flags.now) (length ws.now) (page p out.old) (page result out.new) plans.new }
-{
-    let n = ws.len();
     let mut q = p;
-    let mut i = 0;
-    while i < n {
-        let r = bind(
-            bytes, numbers, ws, entries, flags, symbols, q, i, plans, out,
-        );
-        q = Place {
-            at: r.at,
-            need: r.need,
-        };
-        i += 1;
+    for b in bound {
+        if *b {
+            q = q.byte(out, b')');
+        }
     }
     q
 }
 
-// A closing bracket if the node is bound.
-fn close_one(flag: u8, p: Place, out: &mut [u8]) -> Place
-    ensures { page result out.new ≡ written (page p out.old) (cond (eqb flag 3) (41 ∷ []) []) }
+// Takes the names out of the marks.
+fn unname(marks: &mut [Mark; MAX_NODES])
+    ensures { marks.new ≡ map unnamed marks.old }
 {
-    if flag != BOUND {
-        return p;
+    for m in marks.iter_mut() {
+        m.named = false;
     }
-    p.byte(out, 41)
 }
 
-// A closing bracket for each bound node of the first n.
-fn close_bindings(flags: &[u8; MAX_NODES], n: usize, p: Place, out: &mut [u8]) -> Place
-    requires { n ≤ 2048 }
-    ensures { page result out.new ≡ written (page p out.old) (closes_from (flagged flags.now) 0 n) }
-{
-    let mut q = p;
-    let mut i = 0;
-    while i < n {
-        let r = close_one(flags[i], q, out);
-        q = Place {
-            at: r.at,
-            need: r.need,
+// What assertions are written by: which operators are shared, and the entry of a variable's node.
+#[derive(Clone, Copy)]
+pub struct Assertions<'a> {
+    pub sharing: Sharing<'a>,
+    pub entries: &'a [Option<usize>],
+    ghost walkable: { Walkable sharing.problem.now sharing.widths.now entries.now },
+}
+
+impl<'a> Assertions<'a> {
+    ghost use Rattle.std.specs.Prelude.{◌≡◌, ◌∷◌, ◌++◌, map, length};
+    ghost use Rattle.lists.specs.Bytes.{bytes as literal};
+    ghost use Rattle.lent.specs.Lent.{dag_at};
+    ghost use Rattle.echo_bytes.specs.Page.{page, start, written};
+    ghost use Rattle.echo_bindings.specs.Checking.{flagged};
+    ghost use Rattle.echo_bindings.specs.LetLines.{open_text, opens_from};
+    ghost use Rattle.echo_bindings.specs.Naming.{unnamed, named_at, NamedTo, text_by, own_text, assertion_text, Told, Bindable, Writable, Assertable};
+
+    // A blank, and node i as a term by its mark and those below it.
+    fn term(&self, p: Place, i: u64, marks: &[Mark; MAX_NODES], out: &mut [u8]) -> Place
+        requires { Writable self.now.sharing.problem.now self.now.sharing.widths.now marks.now i }
+        ensures { page result out.new ≡ written (page p out.old) (32 ∷ text_by self.now.sharing.problem.now self.now.sharing.widths.now marks.now i) }
+    {
+        let walk = Walk {
+            problem: self.sharing.problem,
+            widths: self.sharing.widths,
+            entries: self.entries,
+            marks,
         };
-        i += 1;
+        walk.echo_node(p, i, out)
     }
-    q
-}
 
-// Takes the plans out of the nodes' numbers.
-fn unplan(plans: &mut [u64])
-    ensures { Reduced 128 plans.old plans.new }
-{
-    let mut i = 0;
-    while i < plans.len() {
-        plans[i] = plans[i] % 128;
-        i += 1;
+    // The binding of node i, which is then named.
+    fn bind(&self, p: Place, i: usize, marks: &mut [Mark; MAX_NODES], out: &mut [u8]) -> Place
+        requires { Writable self.now.sharing.problem.now self.now.sharing.widths.now marks.old i }
+        ensures text { page result out.new ≡ written (page p out.old) (open_text (text_by self.now.sharing.problem.now self.now.sharing.widths.now marks.old) i) }
+        ensures names { marks.new ≡ named_at marks.old i }
+    {
+        let opened = open_binding(p, i as u64, out);
+        let written = self.term(opened, i as u64, marks, out);
+        let closed = written.word(out, b"))");
+        marks[i].named = true;
+        closed
     }
-}
 
-// The assertion of a root at the start of what is lent: its bindings, the lowest node outermost, then the root, and the brackets. Ruled out:
-// the highest node outermost; a shared node bound that the root does not reach; the term of a bound node again where it is used; a number
-// of the table changed but for its plan; a flag changed but for its mark.
-pub fn echo_assertion<'a>(
-    bytes: &[&[u8]; BYTES],
-    numbers: &[&[u64]; NUMBERS],
-    ws: &'a [u64],
-    entries: &'a [u64; MAX_NODES],
-    symbols: &[u8; SYMBOLS],
-    root: u64,
-    flags: &mut [u8; MAX_NODES],
-    plans: &mut [u64; MAX_NODES],
-    out: &mut [u8],
-) -> Place
-    requires { Assertable bytes.now numbers.now ws.now entries.now plans.old symbols.now flags.old root }
-    ensures { (page result out.new ≡ written (page start out.old) (literal "(assert" ++ ((32 ∷ assertion_text bytes.now numbers.now ws.now root) ++ literal ")\n"))) × Same 128 plans.old plans.new × Same 2 flags.old flags.new }
-{
-    echo_reach::bound_nodes(bytes, numbers, root, flags);
-    unplan(plans);
-    let p = echo_bytes::start();
-    let q = echo_lines::open_assert(p, out);
-    let r = bindings(bytes, numbers, ws, entries, flags, symbols, q, plans, out);
-    let s = planned_term(
-        bytes,
-        numbers,
-        ws,
-        entries,
-        &plans[..],
-        symbols,
-        r,
-        root,
-        out,
-    );
-    let t = close_bindings(flags, ws.len(), s, out);
-    echo_lines::close_line(t, out)
+    // The bindings of the bound nodes, the lowest first.
+    fn bindings(
+        &self,
+        bound: &[bool],
+        p: Place,
+        marks: &mut [Mark; MAX_NODES],
+        out: &mut [u8],
+    ) -> Place
+        requires told { Told (dag_at self.now.sharing.problem.now) self.now.sharing.widths.now marks.old }
+        requires bindable { Bindable self.now.sharing.problem.now self.now.sharing.widths.now (flagged bound.now) }
+        requires names { NamedTo (flagged bound.now) 0 marks.old }
+        ensures text { page result out.new ≡ written (page p out.old) (opens_from (own_text self.now.sharing.problem.now self.now.sharing.widths.now (flagged bound.now)) (flagged bound.now) 0 (length bound.now)) }
+        ensures names { NamedTo (flagged bound.now) (length bound.now) marks.new }
+        ensures told { map unnamed marks.new ≡ map unnamed marks.old }
+    {
+        let mut q = p;
+        for (i, b) in bound.iter().enumerate() {
+            if *b {
+                q = self.bind(q, i, marks, out);
+            }
+        }
+        q
+    }
+
+    // The assertion of a root at the start of what is lent: its bindings, the lowest node outermost, then the root, and the brackets. The marks may
+    // have the names of another root's assertion, and what is lent for the bound nodes those of another root. Ruled out: the highest node outermost;
+    // a shared node bound that the root does not reach; the term of a bound node again where it is used; a mark changed but for its name.
+    pub fn echo_assertion(
+        &self,
+        root: u64,
+        marks: &mut [Mark; MAX_NODES],
+        bound: &mut [bool; MAX_NODES],
+        out: &mut [u8],
+    ) -> Place
+        requires { Assertable self.now.sharing.problem.now self.now.sharing.widths.now marks.old root }
+        ensures text { page result out.new ≡ written (page start out.old) (literal "(assert" ++ ((32 ∷ assertion_text self.now.sharing.problem.now self.now.sharing.widths.now root) ++ literal ")\n")) }
+        ensures told { map unnamed marks.new ≡ map unnamed marks.old }
+    {
+        let shared = self.sharing.shared;
+        bound_nodes(self.sharing.problem, root, shared, bound);
+        let first = &bound[..self.sharing.widths.len()];
+        unname(marks);
+        let opened = open_assert(start(), out);
+        let bindings = self.bindings(first, opened, marks, out);
+        let body = self.term(bindings, root, marks, out);
+        let closed = close_bindings(first, body, out);
+        close_line(closed, out)
+    }
 }

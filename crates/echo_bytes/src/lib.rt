@@ -13,7 +13,7 @@ ghost use Rattle.echo_bytes.specs.Page.{page, start, saturated, written};
 ghost use Rattle.echo_bytes.specs.Numerals.{padded, DigitCount, Share};
 
 // Where the next byte goes, and how long all pieces so far are, whether they fitted or not.
-// Kept: it travels by value beside the buffer, a form that document 01 names.
+// Kept: it travels by value beside the buffer, two numbers that are handed over in registers (docs/DECISIONS.md).
 #[derive(Clone, Copy)]
 pub struct Place {
     pub at: usize,
@@ -25,23 +25,6 @@ pub fn start() -> Place
     ensures { result ≡ start }
 {
     Place { at: 0, need: 0 }
-}
-
-// For the crates that are not yet written over: `saturating_add`. The sum of two lengths, held at the largest `usize`. Ruled out: a sum that wraps; one that is held before it has to be.
-pub fn more(n: usize, k: usize) -> usize
-    ensures { result ≡ saturated n k }
-{
-    n.saturating_add(k)
-}
-
-// For the crates that are not yet written over: `copy_from_slice`. The first k bytes of w, stored from `at` on (`push_range`). Ruled out: one byte fewer; stored one place further on.
-pub fn copy(out: &mut [u8], at: usize, w: &[u8], k: usize)
-    requires { (k ≤ length w.now) × (k ≤ length out.old - at) }
-    ensures { out.new ≡ paste out.old at w.now k }
-{
-    if k > 0 {
-        out[at..at + k].copy_from_slice(&w[..k]);
-    }
 }
 
 // The highest digits of ds, as many as there is room for from `at` on: ds holds them lowest first, and the highest is stored first (`push_bits`).
@@ -86,6 +69,18 @@ fn share(len: usize) -> u64
         6 => 720_575_940_380,
         7 => 72_057_594_038,
         _ => 7_205_759_404,
+    }
+}
+
+// All of w.
+// Kept: a loop, and not `copy_from_slice`, which calls the C library for each word whose length is not known before: a script of names
+// and calls took up to a seventh longer with it.
+fn copy(to: &mut [u8], w: &[u8])
+    requires { length to.old ≡ length w.now }
+    ensures { to.new ≡ w.now }
+{
+    for i in 0..w.len() {
+        to[i] = w[i];
     }
 }
 
@@ -138,7 +133,7 @@ impl Place {
     {
         let k = w.len();
         if self.at < out.len() && k <= out.len() - self.at {
-            out[self.at..self.at + k].copy_from_slice(w);
+            copy(&mut out[self.at..self.at + k], w);
             return self.moved(k, k);
         }
         self.cut(out, w)
@@ -222,7 +217,7 @@ impl Place {
             let at = self.at;
             out[at] = a;
             out[at + 1] = b;
-            out[at + 2..at + all].copy_from_slice(w);
+            copy(&mut out[at + 2..at + all], w);
             return self.moved(all, all);
         }
         self.byte(out, a).byte(out, b).word(out, w)

@@ -3,7 +3,8 @@ ghost use Rattle.lent.specs.Lent.{problem_of};
 ghost use Rattle.fewest.specs.Fewest.{fewest_roots_answer};
 ghost use Rattle.c_answers.specs.Answered.{chosen};
 
-use c_answers::{FewestAnswer, fewest_answer};
+use c_answers::FewestAnswer;
+use lent::Problem;
 
 // The fewest roots with which the problem is still refused by the same number.
 #[unsafe(no_mangle)]
@@ -29,7 +30,7 @@ pub extern "C" fn fewest_roots<'a>(
 ) -> FewestAnswer
     ensures { chosen result (fewest_roots_answer (problem_of nodes.now bits.now side.now roots.now names.now name_start.now name_len.now var_node.now var_width.now anames.now aname_start.now aname_len.now index_width.now value_width.now fnames.now fname_start.now fname_len.now func_width.now)) }
 {
-    let r = fewest_roots::fewest_roots(
+    let problem = Problem {
         nodes,
         bits,
         side,
@@ -48,6 +49,6 @@ pub extern "C" fn fewest_roots<'a>(
         fname_start,
         fname_len,
         func_width,
-    );
-    fewest_answer(r)
+    };
+    FewestAnswer::from(fewest_roots::fewest_roots(&problem))
 }

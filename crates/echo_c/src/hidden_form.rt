@@ -4,7 +4,8 @@ ghost use Rattle.lent.specs.Lent.{problem_of};
 ghost use Rattle.hidden.specs.Hidden.{echo_hidden_answer};
 ghost use Rattle.c_answers.specs.Answered.{printed};
 
-use c_answers::{EchoAnswer, echo_answer};
+use c_answers::EchoAnswer;
+use lent::Problem;
 
 // The printer, with zeros for the digits of each constant.
 #[unsafe(no_mangle)]
@@ -31,7 +32,7 @@ pub extern "C" fn echo_hidden<'a>(
 ) -> EchoAnswer
     ensures { printed result out.new ≡ echo_hidden_answer (problem_of nodes.now bits.now side.now roots.now names.now name_start.now name_len.now var_node.now var_width.now anames.now aname_start.now aname_len.now index_width.now value_width.now fnames.now fname_start.now fname_len.now func_width.now) out.old }
 {
-    let r = echo_hidden::echo_hidden(
+    let problem = Problem {
         nodes,
         bits,
         side,
@@ -50,7 +51,6 @@ pub extern "C" fn echo_hidden<'a>(
         fname_start,
         fname_len,
         func_width,
-        out,
-    );
-    echo_answer(r)
+    };
+    EchoAnswer::from(echo_hidden::echo_hidden(&problem, out))
 }

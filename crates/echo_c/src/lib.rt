@@ -1,5 +1,6 @@
 // The entry points for C, and for Rust over C, under their plain names, as in include/echo.h: the printer and the width pass here, the others
 // in files of their own. A slice is a pointer and a `size_t`; the answer is a struct of numbers.
+// Kept: each export that takes a problem names its eighteen slices, as C passes them, and no macro of this language writes a function.
 #![tactic(auto)]
 
 pub mod fewest_form;
@@ -19,7 +20,8 @@ ghost use Rattle.echo_spec.specs.Answers.{echo_ext_answer, ext_wf_answer};
 ghost use Rattle.lent.specs.Lent.{problem_of};
 ghost use Rattle.c_answers.specs.Answered.{printed, passed};
 
-use c_answers::{EchoAnswer, WidthAnswer, echo_answer, width_answer};
+use c_answers::{EchoAnswer, WidthAnswer};
+use lent::Problem;
 
 // The printer.
 #[unsafe(no_mangle)]
@@ -46,7 +48,7 @@ pub extern "C" fn echo_ext<'a>(
 ) -> EchoAnswer
     ensures { printed result out.new ≡ echo_ext_answer (problem_of nodes.now bits.now side.now roots.now names.now name_start.now name_len.now var_node.now var_width.now anames.now aname_start.now aname_len.now index_width.now value_width.now fnames.now fname_start.now fname_len.now func_width.now) out.old }
 {
-    let r = echo_kernel::echo_ext(
+    let problem = Problem {
         nodes,
         bits,
         side,
@@ -65,9 +67,8 @@ pub extern "C" fn echo_ext<'a>(
         fname_start,
         fname_len,
         func_width,
-        out,
-    );
-    echo_answer(r)
+    };
+    EchoAnswer::from(echo_kernel::echo_ext(&problem, out))
 }
 
 // The width pass.
@@ -82,6 +83,5 @@ pub extern "C" fn ext_wf(
 ) -> WidthAnswer
     ensures { passed result out.new ≡ ext_wf_answer nodes.now bits.now side.now (array_columns index_width.now value_width.now) out.old }
 {
-    let r = sliver_kernel::ext_wf(nodes, bits, side, index_width, value_width, out);
-    width_answer(r)
+    WidthAnswer::from(sliver_kernel::ext_wf(nodes, bits, side, index_width, value_width, out))
 }

@@ -4,7 +4,8 @@ ghost use Rattle.lent.specs.Lent.{problem_of};
 ghost use Rattle.readback.specs.ReadAnswers.{read_script_answer};
 ghost use Rattle.read_answers.specs.Answered.{read_numbers};
 
-use read_answers::{ReadAnswer, read_answer};
+use read_answers::ReadAnswer;
+use script_reader::Outputs;
 
 // The problem of a script, in the eighteen outputs.
 #[unsafe(no_mangle)]
@@ -31,8 +32,7 @@ pub extern "C" fn read_script(
 ) -> ReadAnswer
     ensures { read_numbers result (problem_of nodes.new bits.new side.new roots.new names.new name_start.new name_len.new var_node.new var_width.new anames.new aname_start.new aname_len.new index_width.new value_width.new fnames.new fname_start.new fname_len.new func_width.new) ≡ read_script_answer script.now (problem_of nodes.old bits.old side.old roots.old names.old name_start.old name_len.old var_node.old var_width.old anames.old aname_start.old aname_len.old index_width.old value_width.old fnames.old fname_start.old fname_len.old func_width.old) }
 {
-    let r = script_reader::read_script(
-        script,
+    let mut outputs = Outputs {
         nodes,
         bits,
         side,
@@ -51,6 +51,6 @@ pub extern "C" fn read_script(
         fname_start,
         fname_len,
         func_width,
-    );
-    read_answer(r)
+    };
+    ReadAnswer::from(script_reader::read_script(script, &mut outputs))
 }

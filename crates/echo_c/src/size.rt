@@ -4,7 +4,8 @@ ghost use Rattle.lent.specs.Lent.{problem_of};
 ghost use Rattle.sizes.specs.Size.{echo_size_answer};
 ghost use Rattle.c_answers.specs.Answered.{told};
 
-use c_answers::{SizeAnswer, size_answer};
+use c_answers::SizeAnswer;
+use lent::Problem;
 
 // The size of the script that the printer prints where there is room.
 #[unsafe(no_mangle)]
@@ -30,7 +31,7 @@ pub extern "C" fn echo_size<'a>(
 ) -> SizeAnswer
     ensures { told result ≡ echo_size_answer (problem_of nodes.now bits.now side.now roots.now names.now name_start.now name_len.now var_node.now var_width.now anames.now aname_start.now aname_len.now index_width.now value_width.now fnames.now fname_start.now fname_len.now func_width.now) }
 {
-    let r = echo_size::echo_size(
+    let problem = Problem {
         nodes,
         bits,
         side,
@@ -49,6 +50,6 @@ pub extern "C" fn echo_size<'a>(
         fname_start,
         fname_len,
         func_width,
-    );
-    size_answer(r)
+    };
+    SizeAnswer::from(echo_size::echo_size(&problem))
 }

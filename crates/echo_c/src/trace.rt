@@ -4,7 +4,8 @@ ghost use Rattle.lent.specs.Lent.{problem_of};
 ghost use Rattle.traces.specs.Trace.{replay_trace_answer};
 ghost use Rattle.trace_answers.specs.Answered.{replayed};
 
-use trace_answers::{TraceAnswer, trace_answer};
+use lent::Problem;
+use trace_answers::TraceAnswer;
 
 // Masks and counts of the rows of a trace.
 #[unsafe(no_mangle)]
@@ -33,7 +34,7 @@ pub extern "C" fn replay_trace<'a>(
 ) -> TraceAnswer
     ensures { replayed result masks.new counts.new ≡ replay_trace_answer (problem_of nodes.now bits.now side.now roots.now names.now name_start.now name_len.now var_node.now var_width.now anames.now aname_start.now aname_len.now index_width.now value_width.now fnames.now fname_start.now fname_len.now func_width.now) values.now masks.old counts.old }
 {
-    let r = replay_trace::replay_trace(
+    let problem = Problem {
         nodes,
         bits,
         side,
@@ -52,9 +53,6 @@ pub extern "C" fn replay_trace<'a>(
         fname_start,
         fname_len,
         func_width,
-        values,
-        masks,
-        counts,
-    );
-    trace_answer(r)
+    };
+    TraceAnswer::from(replay_trace::replay_trace(&problem, values, masks, counts))
 }

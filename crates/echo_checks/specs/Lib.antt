@@ -1,5 +1,3 @@
 pub mod Answered
 pub mod Limits
-pub mod Aligned
-pub mod Named
-pub mod Declared
+pub mod Functions

@@ -1,17 +1,12 @@
--- The columns and arenas of a problem, and what its limits say.
-use Rattle.std.specs.Prelude.{ℕ, ◌+◌, ◌-◌, ◌≤◌, ◌<◌, ◌≡◌, List, [], ◌∷◌, T, leb, length, get_or}
-use Rattle.std.proofs.Common.{ap, ◌∙◌, arith, leb→le}
+-- The columns of a problem, and what its limits say.
+use Rattle.std.specs.Prelude.{ℕ, ◌≤◌, List, [], ◌∷◌, T, leb, length}
+use Rattle.std.proofs.Common.{leb→le}
 use Rattle.lists.specs.Tests.{every, by-test, and_0, and-1}
-use Rattle.lists.specs.Build.{get_or-tabulate}
 use Rattle.echo_spec.specs.Input.{Problem, nodes_within, column_within, within_limits}
-use Rattle.lent.specs.Arrays.{Slice, slot, problem_at}
 
 abbrev pub columns : Problem → List (List ℕ)
 columns p =
     p.name_start ∷ p.name_len ∷ p.var_node ∷ p.var_width ∷ p.aname_start ∷ p.aname_len ∷ p.index_width ∷ p.value_width ∷ p.fname_start ∷ p.fname_len ∷ p.func_width ∷ []
-
-abbrev pub arenas : Problem → List (List ℕ)
-arenas p = p.names ∷ p.anames ∷ p.fnames ∷ []
 
 -- what later functions use of the limits
 pub record Bounds (p : Problem) : Type 0 where
@@ -20,12 +15,6 @@ pub record Bounds (p : Problem) : Type 0 where
   pub functions : length p.fname_start ≤ 512
 
 -- ---------------------------------------------------------------- laws
-
--- the columns are the slices of numbers from place 2 on
-pub column-at : (n : List Slice) (k : ℕ) → 2 ≤ k → k < 13 → get_or (columns (problem_at [] n)) (k - 2) [] ≡ slot n k
-column-at n k l h =
-    let e : 2 + (k - 2) ≡ k = omega arith in
-    get_or-tabulate 11 (λ i. slot n (2 + i)) [] (k - 2) (omega arith) ∙ ap (slot n) e
 
 pub bounds : (p : Problem) → T (within_limits p) → Bounds p
 unfolding within_limits nodes_within column_within

@@ -2,175 +2,122 @@
 // Under "Ruled out" stand wrong programs that a public function's contract refuses.
 #![tactic(auto)]
 
-ghost use Rattle.std.specs.Prelude.{◌≡◌, [], ◌∷◌, ◌&&◌, ◌<◌, leb, ltb, length};
+ghost use Rattle.std.specs.Prelude.{◌≡◌, ◌&&◌, ◌<◌, leb, ltb, eqb, length};
 ghost use Rattle.lists.specs.Tests.{every};
-ghost use Rattle.echo_spec.specs.Input.{column_within, arena_within, within_limits};
+ghost use Rattle.echo_spec.specs.Input.{within_limits};
 ghost use Rattle.echo_spec.specs.Names.{names_ok};
-ghost use Rattle.echo_spec.specs.Tables.{one_length, columns_ok, arguments_inside, argument_widths, decl_vars_ok, decl_func_ok, decl_funcs_ok};
+ghost use Rattle.echo_spec.specs.Tables.{columns_ok, arguments_inside, argument_widths, decl_vars_ok, decl_func_ok, decl_funcs_ok};
 ghost use Rattle.echo_spec.specs.ColumnLaws.{Aligned};
-ghost use Rattle.lent.specs.Arrays.{problem_at, dag_at};
+ghost use Rattle.lent.specs.Lent.{problem_at, dag_at};
 ghost use Rattle.lent.specs.Records.{node_of};
-ghost use Rattle.echo_checks.specs.Limits.{columns, arenas};
-ghost use Rattle.echo_checks.specs.Declared.{has_width, FirstCalls};
+ghost use Rattle.echo_checks.specs.Functions.{has_width, FirstCalls};
 
 use blast_kernel::nodes_within;
-use echo_names::table_ok;
-use echo_tables::{Found, arguments_inside, looked_up};
-use lent::{
-    ANAME_LEN, ANAME_START, ANAMES, BITS, BYTES, FNAME_LEN, FNAME_START, FNAMES, FUNC_WIDTH,
-    INDEX_WIDTH, NAME_LEN, NAME_START, NAMES, NODES, NUMBERS, Node, ROOTS, SIDE, VALUE_WIDTH,
-    VAR_NODE, VAR_WIDTH, count, get, node_of,
-};
+use echo_names::NameTable;
+use echo_tables::{arguments_inside, looked_up};
+use lent::{Node, Problem, get, node_of};
 use refusals::{MAX_ARENA, MAX_ENTRIES, MAX_ROOTS};
 
 // ---------------------------------------------------------------- limits
 
-// (Those of the nodes, bits and side entries are tested with the nodes.)
-
-fn roots_within(roots: &[u64]) -> bool
-    ensures { result ≡ leb (length roots.now) 256 }
+// Is none of these longer than the limit.
+fn all_within<T>(slices: &[&[T]], limit: usize) -> bool
+    ensures { result ≡ every (λ s. leb (length s.now) limit) slices.now }
 {
-    roots.len() <= MAX_ROOTS
-}
-
-fn column_within(c: &[u64]) -> bool
-    ensures { result ≡ column_within c.now }
-{
-    c.len() <= MAX_ENTRIES
-}
-
-fn arena_within(a: &[u8]) -> bool
-    ensures { result ≡ arena_within a.now }
-{
-    a.len() <= MAX_ARENA
-}
-
-// The columns of the tables are the slices of numbers from the first of the variables' on.
-fn columns_within(numbers: &[&[u64]; NUMBERS]) -> bool
-    ensures { result ≡ every column_within (columns (problem_at [] numbers.now)) }
-{
-    let mut k = NAME_START;
-    while k < NUMBERS {
-        let column = numbers[k];
-        if !column_within(column) {
+    for s in slices {
+        if s.len() > limit {
             return false;
         }
-        k += 1;
     }
     true
 }
 
-fn arenas_within(bytes: &[&[u8]; BYTES]) -> bool
-    ensures { result ≡ every arena_within (arenas (problem_at bytes.now [])) }
+// Refusal 9 is where this is false. (The limits of the nodes, bits and side entries are tested with the nodes.) Ruled out: a limit that is
+// itself refused; a column of 513 entries let through.
+#[tactic(auto, unfolding(echo_spec::specs::Input::within_limits, echo_spec::specs::Input::column_within, echo_spec::specs::Input::arena_within))]
+pub fn within_limits(problem: &Problem) -> bool
+    ensures { result ≡ within_limits (problem_at problem.now) }
 {
-    if !arena_within(bytes[NAMES]) {
-        return false;
-    }
-    if !arena_within(bytes[ANAMES]) {
-        return false;
-    }
-    arena_within(bytes[FNAMES])
-}
-
-// Refusal 9 is where this is false. Ruled out: a limit that is itself refused; a column of 513 entries let through.
-pub fn within_limits(bytes: &[&[u8]; BYTES], numbers: &[&[u64]; NUMBERS]) -> bool
-    ensures { result ≡ within_limits (problem_at bytes.now numbers.now) }
-{
-    if !nodes_within(bytes[NODES], bytes[BITS], numbers[SIDE]) {
-        return false;
-    }
-    if !roots_within(numbers[ROOTS]) {
-        return false;
-    }
-    if !columns_within(numbers) {
-        return false;
-    }
-    arenas_within(bytes)
+    let columns = [
+        problem.name_start,
+        problem.name_len,
+        problem.var_node,
+        problem.var_width,
+        problem.aname_start,
+        problem.aname_len,
+        problem.index_width,
+        problem.value_width,
+        problem.fname_start,
+        problem.fname_len,
+        problem.func_width,
+    ];
+    let arenas = [problem.names, problem.anames, problem.fnames];
+    nodes_within(problem.nodes, problem.bits, problem.side)
+        && problem.roots.len() <= MAX_ROOTS
+        && all_within(&columns, MAX_ENTRIES)
+        && all_within(&arenas, MAX_ARENA)
 }
 
 // ---------------------------------------------------------------- columns
 
-fn three_aligned(a: &[u64], b: &[u64], c: &[u64]) -> bool
-    ensures { result ≡ one_length (a.now ∷ b.now ∷ c.now ∷ []) }
+// Has each of these columns n entries.
+fn all_of(columns: &[&[u64]], n: usize) -> bool
+    ensures { result ≡ every (λ c. eqb (length c.now) n) columns.now }
 {
-    if b.len() != a.len() {
-        return false;
+    for c in columns {
+        if c.len() != n {
+            return false;
+        }
     }
-    c.len() == a.len()
-}
-
-fn four_aligned(a: &[u64], b: &[u64], c: &[u64], d: &[u64]) -> bool
-    ensures { result ≡ one_length (a.now ∷ b.now ∷ c.now ∷ d.now ∷ []) }
-{
-    if b.len() != a.len() {
-        return false;
-    }
-    if c.len() != a.len() {
-        return false;
-    }
-    d.len() == a.len()
+    true
 }
 
 // Are the columns of each table of one length. Ruled out: a column that is longer than its table's first; the widths of the variables
 // not compared.
-pub fn columns_ok(bytes: &[&[u8]; BYTES], numbers: &[&[u64]; NUMBERS]) -> bool
-    ensures { result ≡ columns_ok (dag_at bytes.now numbers.now) }
+#[tactic(auto, unfolding(echo_spec::specs::Tables::columns_ok, echo_spec::specs::Tables::one_length, echo_spec::specs::Input::dag_of))]
+pub fn columns_ok(problem: &Problem) -> bool
+    ensures { result ≡ columns_ok (dag_at problem.now) }
 {
-    if !four_aligned(
-        numbers[NAME_START],
-        numbers[NAME_LEN],
-        numbers[VAR_NODE],
-        numbers[VAR_WIDTH],
-    ) {
-        return false;
-    }
-    if !four_aligned(
-        numbers[ANAME_START],
-        numbers[ANAME_LEN],
-        numbers[INDEX_WIDTH],
-        numbers[VALUE_WIDTH],
-    ) {
-        return false;
-    }
-    three_aligned(
-        numbers[FNAME_START],
-        numbers[FNAME_LEN],
-        numbers[FUNC_WIDTH],
-    )
+    let variables = [problem.name_len, problem.var_node, problem.var_width];
+    let arrays = [problem.aname_len, problem.index_width, problem.value_width];
+    let functions = [problem.fname_len, problem.func_width];
+    all_of(&variables, problem.name_start.len())
+        && all_of(&arrays, problem.aname_start.len())
+        && all_of(&functions, problem.fname_start.len())
 }
 
 // ---------------------------------------------------------------- names
 
 // Refusal 2 is where this is false: each table's names after those of the tables before it.
 // Ruled out: an array that has a variable's name; a function's name not looked at.
-pub fn names_ok(bytes: &[&[u8]; BYTES], numbers: &[&[u64]; NUMBERS]) -> bool
-    requires { Aligned (dag_at bytes.now numbers.now) }
-    ensures { result ≡ names_ok (dag_at bytes.now numbers.now) }
+#[tactic(auto, unfolding(echo_spec::specs::Names::names_ok, echo_spec::specs::Input::dag_of, echo_spec::specs::Input::names_of))]
+pub fn names_ok(problem: &Problem) -> bool
+    requires { Aligned (dag_at problem.now) }
+    ensures { result ≡ names_ok (dag_at problem.now) }
 {
-    let names = bytes[NAMES];
-    let starts = numbers[NAME_START];
-    let lens = numbers[NAME_LEN];
-    let no_names = &names[0..0];
-    let no_column = &starts[0..0];
-    if !table_ok(
-        names, starts, lens, no_names, no_column, no_column, no_names, no_column, no_column,
-    ) {
-        return false;
-    }
-    let anames = bytes[ANAMES];
-    let astarts = numbers[ANAME_START];
-    let alens = numbers[ANAME_LEN];
-    if !table_ok(
-        anames, astarts, alens, names, starts, lens, no_names, no_column, no_column,
-    ) {
-        return false;
-    }
-    let fnames = bytes[FNAMES];
-    let fstarts = numbers[FNAME_START];
-    let flens = numbers[FNAME_LEN];
-    table_ok(
-        fnames, fstarts, flens, names, starts, lens, anames, astarts, alens,
-    )
+    let none = NameTable {
+        arena: &[],
+        starts: &[],
+        lens: &[],
+    };
+    let variables = NameTable {
+        arena: problem.names,
+        starts: problem.name_start,
+        lens: problem.name_len,
+    };
+    let arrays = NameTable {
+        arena: problem.anames,
+        starts: problem.aname_start,
+        lens: problem.aname_len,
+    };
+    let functions = NameTable {
+        arena: problem.fnames,
+        starts: problem.fname_start,
+        lens: problem.fname_len,
+    };
+    variables.accepted(&none, &none)
+        && arrays.accepted(&variables, &none)
+        && functions.accepted(&variables, &arrays)
 }
 
 // ---------------------------------------------------------------- declarations
@@ -179,33 +126,30 @@ pub fn names_ok(bytes: &[&[u8]; BYTES], numbers: &[&[u64]; NUMBERS]) -> bool
 fn widths_ok(widths: &[u64]) -> bool
     ensures { result ≡ every (ltb 0) widths.now }
 {
-    let mut i = 0;
-    while i < widths.len() {
-        if widths[i] == 0 {
+    for w in widths {
+        if *w == 0 {
             return false;
         }
-        i += 1;
     }
     true
 }
 
 // Refusal 4 is where this is false. Ruled out: the last variable's width not looked at; a width of 0 let through.
-pub fn decl_vars_ok(bytes: &[&[u8]; BYTES], numbers: &[&[u64]; NUMBERS]) -> bool
-    ensures { result ≡ decl_vars_ok (dag_at bytes.now numbers.now) }
+#[tactic(auto, unfolding(echo_spec::specs::Tables::decl_vars_ok, echo_spec::specs::Input::dag_of))]
+pub fn decl_vars_ok(problem: &Problem) -> bool
+    ensures { result ≡ decl_vars_ok (dag_at problem.now) }
 {
-    widths_ok(numbers[VAR_WIDTH])
+    widths_ok(problem.var_width)
 }
 
 // Has each of these nodes a width.
 fn have_widths(ws: &[u64], xs: &[u64]) -> bool
     ensures { result ≡ every (has_width ws.now) xs.now }
 {
-    let mut i = 0;
-    while i < xs.len() {
-        if get(ws, xs[i]) == 0 {
+    for x in xs {
+        if get(ws, *x) == 0 {
             return false;
         }
-        i += 1;
     }
     true
 }
@@ -223,44 +167,44 @@ fn arguments_ok(ws: &[u64], side: &[u64], f: Node) -> bool
     have_widths(ws, &side[start..start + count])
 }
 
-// Function g has a width, and a first call whose arguments lie inside the side entries and have widths.
-fn decl_func_ok(
-    bytes: &[&[u8]; BYTES],
-    numbers: &[&[u64]; NUMBERS],
-    ws: &[u64],
-    first: &[u64; MAX_ENTRIES],
-    g: u64,
-) -> bool
-    requires { (g < 512) × FirstCalls bytes.now numbers.now first.now }
-    ensures { result ≡ decl_func_ok (dag_at bytes.now numbers.now) ws.now g }
-{
-    if get(numbers[FUNC_WIDTH], g) == 0 {
-        return false;
-    }
-    match looked_up(first, g) {
-        Found::Nothing => false,
-        Found::At(c) => arguments_ok(ws, numbers[SIDE], node_of(bytes[NODES], c as u64)),
-    }
+// What functions are declared from: the problem, the widths of its nodes, and the first call of each function.
+#[derive(Clone, Copy)]
+pub struct Signatures<'a> {
+    pub problem: &'a Problem<'a>,
+    pub widths: &'a [u64],
+    pub first: &'a [Option<usize>],
+    ghost filled: { FirstCalls problem.now first.now },
 }
 
-// Refusal 7 is where this is false, as far as declarations go.
-// Ruled out: a function that is never called let through; an argument of width 0.
-pub fn decl_funcs_ok(
-    bytes: &[&[u8]; BYTES],
-    numbers: &[&[u64]; NUMBERS],
-    ws: &[u64],
-    first: &[u64; MAX_ENTRIES],
-) -> bool
-    requires { FirstCalls bytes.now numbers.now first.now }
-    ensures { result ≡ decl_funcs_ok (dag_at bytes.now numbers.now) ws.now }
-{
-    let nf = count(numbers[FNAME_START]);
-    let mut g = 0;
-    while g < nf {
-        if !decl_func_ok(bytes, numbers, ws, first, g) {
+impl<'a> Signatures<'a> {
+    // Function g has a width, and a first call whose arguments lie inside the side entries and have widths.
+    fn function_ok(&self, g: u64) -> bool
+        requires { g < 512 }
+        ensures { result ≡ decl_func_ok (dag_at self.now.problem.now) self.now.widths.now g }
+    {
+        if get(self.problem.func_width, g) == 0 {
             return false;
         }
-        g += 1;
+        match looked_up(self.first, g) {
+            None => false,
+            Some(c) => arguments_ok(
+                self.widths,
+                self.problem.side,
+                node_of(self.problem.nodes, c as u64),
+            ),
+        }
     }
-    true
+
+    // Refusal 7 is where this is false, as far as declarations go.
+    // Ruled out: a function that is never called let through; an argument of width 0.
+    pub fn all_ok(&self) -> bool
+        ensures { result ≡ decl_funcs_ok (dag_at self.now.problem.now) self.now.widths.now }
+    {
+        for g in 0..self.problem.fname_start.len() {
+            if !self.function_ok(g as u64) {
+                return false;
+            }
+        }
+        true
+    }
 }

@@ -1,16 +1,18 @@
 -- Which declared name is that of a shared node, by the number that is read from it.
-use Prim.Native.Nat.{ℕ, zero, suc, ◌+◌, ◌-◌, ◌*◌, ◌/◌, ◌%◌, ◌^◌, ◌≤◌, ◌<◌, min}
-use Rattle.std.specs.Prelude.{◌≡◌, List, [], ◌∷◌, ◌++◌, Bool, ◌&&◌, ltb, eqb, length, get_or, take, drop}
+use Prim.Native.Nat.{ℕ, zero, suc, ◌+◌, ◌-◌, ◌*◌, ◌/◌, ◌%◌, ◌≤◌, ◌<◌, min}
+use Rattle.std.specs.Prelude.{◌≡◌, List, [], ◌∷◌, ◌++◌, Bool, ◌&&◌, ltb, length, get_or, take, drop}
 use Rattle.std.proofs.Math.Path.{refl, ap}
 use Rattle.std.proofs.Common.{sym, ◌∙◌, subst, length-append, length-drop, drop_of_length-le, drop-cons, take_all}
 use Rattle.std.proofs.Math.Bool.{true, false, not, and-false}
 use native.Mathlib.Omega.{arith}
 use Rattle.std.proofs.Math.Numerals.{add-one}
-use borrow.Author.Tests.{lt-ltb, le-ltb, eq-eqb, ne_eqb, ltb-true, ltb-false}
+use borrow.Author.Tests.{lt-ltb, ltb-false}
+use Rattle.std.proofs.Math.Decide.{dec_lt}
+use Rattle.std.proofs.Math.ListN.{get_or-eq_default}
 use Rattle.std.proofs.Math.Dec.{T, ltb→lt, T_not, not_T}
 use Rattle.std.proofs.lemmas.List.{take-append-le}
 use Rattle.lists.specs.Bytes.{bytes}
-use Rattle.lists.specs.Tests.{same, in_list, every, every_from, and_0, and-1, and_T, every-at, every-from, every_in, same→eq, same_refl, or_l, or_r, every_append, true→T, T→true}
+use Rattle.lists.specs.Tests.{same, in_list, every, and_0, and-1, and_T, every-at, every-from, every_in, same→eq, same_refl, or_l, or_r, every_append, true→T, T→true}
 use Rattle.reading.specs.Trees.{Name}
 use Rattle.echo_spec.specs.Input.{Dag, part, names_of, name_table, aname_table, fname_table}
 use Rattle.echo_spec.specs.Render.{decimal_digits, decimal}
@@ -18,7 +20,7 @@ use Rattle.lets.specs.Lets.{let_name, shared, names_clear}
 use Rattle.echo_bytes.specs.declared.Place.{Place}
 use Rattle.echo_bytes.specs.Page.{Page, page, start, written}
 use Rattle.echo_bytes.specs.Laws.{written_then, written-fits}
-use Rattle.echo_sharing.specs.Flags.{Flags, flag_is}
+use Rattle.echo_sharing.specs.Flags.{Flags}
 use Rattle.echo_names.specs.NameTables.{length-names_of, get_or-names_of}
 
 -- one digit more, the number held at 2,048
@@ -34,14 +36,10 @@ abbrev pub number_of : List ℕ → ℕ
 number_of m = read_from 0 (drop 1 m)
 
 -- by the table of the shared nodes
-unfoldable pub clashes : List ℕ → ℕ → List ℕ → Bool
-clashes table n m = ltb (number_of m) n && (eqb (get_or table (number_of m) 0) 1 && same m (let_name (number_of m)))
+unfoldable pub clashes : List Bool → List ℕ → Bool
+clashes table m = get_or table (number_of m) false && same m (let_name (number_of m))
 
 -- ---------------------------------------------------------------- reading
-
-pub digit-small : (v c : ℕ) → digit v c ≤ 2048
-unfolding digit
-digit-small v c = omega arith
 
 read-last : (v : ℕ) (xs : List ℕ) (c : ℕ) → read_from v (xs ++ (c ∷ [])) ≡ digit (read_from v xs) c
 unfolding read_from
@@ -106,59 +104,47 @@ name-written i h l e {p} {q} {r} {a} {b} s x y =
     let is : b ≡ let_name i ++ drop (length (let_name i)) l = ap (λ (o : Page). o.bytes) w in
     (omega arith, ap length is ∙ rw (length-append (let_name i) (drop (length (let_name i)) l), length-drop (length (let_name i)) l) (omega arith), front (let_name i) (drop (length (let_name i)) l) r.at at is)
 
--- ---------------------------------------------------------------- one byte further
-
-module _ (s : List ℕ) (k v : ℕ) (e : read_from v (drop k s) ≡ read_from 0 s) where
-  pub read_next : k < length s → (w : ℕ) → w ≡ digit v (get_or s k 0) → read_from w (drop (k + 1) s) ≡ read_from 0 s
-  unfolding read_from
-  read_next l w q = rw (q, add-one k) (rw (drop-cons s k 0 l) at e)
-
-  pub read-end : length s ≤ k → v ≡ read_from 0 s
-  unfolding read_from
-  read-end l = rw (drop_of_length-le s l) at e
-
 -- ---------------------------------------------------------------- a name
 
 -- the bytes after the first, as they are lent
-pub number-part : (m : List ℕ) {v : ℕ} → (length m ≡ 0 → ⊥) → v ≡ read_from 0 (take (length m - 1) (drop 1 m)) → v ≡ number_of m
-number-part m h e = e ∙ ap (read_from 0) (take_all (length m - 1) (drop 1 m) (omega (arith, length-drop 1 m)))
+pub number-part : (m : List ℕ) {v : ℕ} → v ≡ read_from 0 (take (length m - 1) (drop 1 m)) → v ≡ number_of m
+number-part m e = e ∙ ap (read_from 0) (take_all (length m - 1) (drop 1 m) (omega (arith, length-drop 1 m)))
 
-module _ (table : List ℕ) (n : ℕ) (m : List ℕ) where
-  pub clash-empty : length m ≡ 0 → false ≡ clashes table n m
+-- a node whose flag is set is in the table
+pub flag-inside : (table : List Bool) (v : ℕ) → get_or table v false ≡ true → v < length table
+flag-inside table v e = by_place (dec_lt v (length table))
+  where
+    by_place : Dec (v < length table) → v < length table
+    by_place (yes l) = l
+    by_place (no l) = let z : get_or table v false ≡ false = get_or-eq_default table false (omega arith) in let y : false ≡ true = sym z ∙ e in absurd (subst T (sym y) tt)
+
+module _ (table : List Bool) (m : List ℕ) where
+  pub clash-empty : length m ≡ 0 → false ≡ clashes table m
   unfolding clashes same let_name bytes
   clash-empty e = by-list m e
     where
-      and_no : (a b : Bool) → false ≡ (a && (b && false))
-      and_no true true = refl
-      and_no true false = refl
-      and_no false b = refl
-
-      by-list : (m : List ℕ) → length m ≡ 0 → false ≡ clashes table n m
-      by-list [] e = and_no (ltb (read_from 0 []) n) (eqb (get_or table (read_from 0 []) 0) 1)
+      by-list : (m : List ℕ) → length m ≡ 0 → false ≡ clashes table m
+      by-list [] e = sym (and-false (get_or table (read_from 0 []) false))
       by-list (c ∷ m) e = absurd (omega arith)
 
   module _ {v : ℕ} (is : v ≡ number_of m) where
-    pub clash-past : n ≤ v → false ≡ clashes table n m
+    pub clash-other : get_or table v false ≡ false → false ≡ clashes table m
     unfolding clashes
-    clash-past l = rw (← is, le-ltb v n l) refl
+    clash-other h = rw (← is, h) refl
 
-    pub clash-other : v < n → (get_or table v 0 ≡ 1 → ⊥) → false ≡ clashes table n m
+    pub clash-same : get_or table v false ≡ true → {r : Bool} → r ≡ same m (let_name v) → r ≡ clashes table m
     unfolding clashes
-    clash-other l h = rw (← is, lt-ltb v n l, ne_eqb (get_or table v 0) 1 h) refl
-
-    pub clash-same : v < n → get_or table v 0 ≡ 1 → {r : Bool} → r ≡ same m (let_name v) → r ≡ clashes table n m
-    unfolding clashes
-    clash-same l h q = rw (← is, lt-ltb v n l, eq-eqb (get_or table v 0) 1 h) q
+    clash-same h q = rw (← is, h) q
 
 -- ---------------------------------------------------------------- a table of names
 
 -- the names from k on
-abbrev pub clear_from : List ℕ → ℕ → List Name → ℕ → Bool
-clear_from table n names k = every (λ m. not (clashes table n m)) (drop k names)
+abbrev pub clear_from : List Bool → List Name → ℕ → Bool
+clear_from table names k = every (λ m. not (clashes table m)) (drop k names)
 
-module _ (table : List ℕ) (n : ℕ) (arena starts lens : List ℕ) (k : ℕ) {whole : Bool} (e : clear_from table n (names_of arena starts lens) k ≡ whole) where
-  module _ (l : k < length starts) {m : List ℕ} (p : m ≡ part arena (get_or starts k 0) (get_or lens k 0)) {r : Bool} (q : r ≡ clashes table n m) where
-    clear-opens : (not r && clear_from table n (names_of arena starts lens) (k + 1)) ≡ whole
+module _ (table : List Bool) (arena starts lens : List ℕ) (k : ℕ) {whole : Bool} (e : clear_from table (names_of arena starts lens) k ≡ whole) where
+  module _ (l : k < length starts) {m : List ℕ} (p : m ≡ part arena (get_or starts k 0) (get_or lens k 0)) {r : Bool} (q : r ≡ clashes table m) where
+    clear-opens : (not r && clear_from table (names_of arena starts lens) (k + 1)) ≡ whole
     clear-opens =
         let here : k < length (names_of arena starts lens) = rw length-names_of l in
         let f : get_or (names_of arena starts lens) k [] ≡ m = get_or-names_of arena starts lens k l ∙ sym p in
@@ -167,7 +153,7 @@ module _ (table : List ℕ) (n : ℕ) (arena starts lens : List ℕ) (k : ℕ) {
     pub clear-stops : r ≡ true → false ≡ whole
     clear-stops t = rw t at clear-opens
 
-    pub clear_next : r ≡ false → clear_from table n (names_of arena starts lens) (k + 1) ≡ whole
+    pub clear_next : r ≡ false → clear_from table (names_of arena starts lens) (k + 1) ≡ whole
     clear_next t = rw t at clear-opens
 
   pub clear-ends : length starts ≤ k → true ≡ whole
@@ -177,40 +163,37 @@ module _ (table : List ℕ) (n : ℕ) (arena starts lens : List ℕ) (k : ℕ) {
 
 -- ---------------------------------------------------------------- all names
 
-module _ (d : Dag) (us : List ℕ) (table : List ℕ) (flags : Flags (shared d us) (length d.nodes) table) (few : length d.nodes ≤ 2048) where
+module _ (d : Dag) (us : List ℕ) (table : List Bool) (flags : Flags (shared d us) table) (few : length d.nodes ≤ 2048) where
   abbrev names : List Name
   names = name_table d ++ (aname_table d ++ fname_table d)
 
-  abbrev clear : Name → Bool
-  clear m = not (clashes table (length d.nodes) m)
+  abbrev pub clear : Name → Bool
+  clear m = not (clashes table m)
 
   shared-here : (i : ℕ) → T (shared d us i) → i < length d.nodes
   unfolding shared
   shared-here i t = ltb→lt i (length d.nodes) (and_0 (ltb i (length d.nodes)) _ t)
 
   -- the name of a shared node clashes
-  clash-name : (i : ℕ) → T (shared d us i) → T (clashes table (length d.nodes) (let_name i))
+  clash-name : (i : ℕ) → T (shared d us i) → T (clashes table (let_name i))
   unfolding clashes
   clash-name i t =
       let l = shared-here i t in
-      rw (read_name i (omega arith))
-      (and_T (ltb i (length d.nodes)) _ (true→T (lt-ltb i (length d.nodes) l)) (and_T (eqb (get_or table i 0) 1) _ (true→T (flag_is flags i l ∙ T→true (shared d us i) t)) (same_refl (let_name i))))
+      rw (read_name i (omega arith)) (and_T (get_or table i false) _ (true→T (flags.at i ∙ T→true (shared d us i) t)) (same_refl (let_name i)))
 
   -- and no other name does
-  clash-only : (m : Name) → T (clashes table (length d.nodes) m) → T (shared d us (number_of m)) × (m ≡ let_name (number_of m))
+  clash-only : (m : Name) → T (clashes table m) → T (shared d us (number_of m)) × (m ≡ let_name (number_of m))
   unfolding clashes
   clash-only m t =
       let v : ℕ = number_of m in
-      let l = ltb→lt v (length d.nodes) (and_0 (ltb v (length d.nodes)) _ t) in
-      let rest = and-1 (ltb v (length d.nodes)) (eqb (get_or table v 0) 1 && same m (let_name v)) t in
-      (subst T (flag_is flags v l) (and_0 (eqb (get_or table v 0) 1) (same m (let_name v)) rest), same→eq m (let_name v) (and-1 (eqb (get_or table v 0) 1) (same m (let_name v)) rest))
+      (subst T (flags.at v) (and_0 (get_or table v false) (same m (let_name v)) t), same→eq m (let_name v) (and-1 (get_or table v false) (same m (let_name v)) t))
 
   clear-there : T (every clear names) → T (names_clear d us)
   unfolding names_clear
   clear-there t =
       every-from (λ i. not (shared d us i && in_list (let_name i) names)) 0 (length d.nodes) λ i l h.
       not_T (shared d us i && in_list (let_name i) names) λ s.
-      T_not (clashes table (length d.nodes) (let_name i)) (every_in clear names (let_name i) t (and-1 (shared d us i) (in_list (let_name i) names) s))
+      T_not (clashes table (let_name i)) (every_in clear names (let_name i) t (and-1 (shared d us i) (in_list (let_name i) names) s))
       (clash-name i (and_0 (shared d us i) (in_list (let_name i) names) s))
 
   clear-back : T (names_clear d us) → T (every clear names)
@@ -219,7 +202,7 @@ module _ (d : Dag) (us : List ℕ) (table : List ℕ) (flags : Flags (shared d u
     where
       one : (m : Name) → T (in_list m names) → T (clear m)
       one m h =
-          not_T (clashes table (length d.nodes) m) λ c.
+          not_T (clashes table m) λ c.
           let (s, e) = clash-only m c in
           T_not (shared d us (number_of m) && in_list (let_name (number_of m)) names)
           (every-at (λ i. not (shared d us i && in_list (let_name i) names)) 0 (length d.nodes) t (number_of m) (omega arith) (let l = shared-here (number_of m) s in omega arith))
@@ -239,23 +222,6 @@ module _ (d : Dag) (us : List ℕ) (table : List ℕ) (flags : Flags (shared d u
   clear-is = bool_same (every clear names) (names_clear d us) clear-there clear-back
 
   -- the three tables, one after the other
-  module _ (n : ℕ) (e : n ≡ length d.nodes) where
-    parts : (every clear (name_table d) && (every clear (aname_table d) && every clear (fname_table d))) ≡ names_clear d us
-    parts =
-        ap (λ (x : Bool). every clear (name_table d) && x) (sym (every_append clear (aname_table d) (fname_table d))) ∙ sym (every_append clear (name_table d) (aname_table d ++ fname_table d)) ∙ clear-is
-
-    abbrev Clears : Bool → List Name → Type 0
-    Clears r ns = r ≡ every (λ m. not (clashes table n m)) ns
-
-    at_size : (r : Bool) (ns : List Name) → Clears r ns → r ≡ every clear ns
-    at_size r ns h = h ∙ ap (λ (k : ℕ). every (λ m. not (clashes table k m)) ns) e
-
-    pub first-clash : (a : Bool) → Clears a (name_table d) → a ≡ false → false ≡ names_clear d us
-    first-clash a p z = rw (sym (at_size a (name_table d) p) ∙ z) at parts
-
-    module _ (a b : Bool) (p : Clears a (name_table d)) (y : a ≡ true) (q : Clears b (aname_table d)) where
-      pub second-clash : b ≡ false → false ≡ names_clear d us
-      second-clash z = rw (sym (at_size a (name_table d) p) ∙ y, sym (at_size b (aname_table d) q) ∙ z) at parts
-
-      pub last-clash : b ≡ true → (c : Bool) → Clears c (fname_table d) → c ≡ names_clear d us
-      last-clash z c r = at_size c (fname_table d) r ∙ (rw (sym (at_size a (name_table d) p) ∙ y, sym (at_size b (aname_table d) q) ∙ z) at parts)
+  pub parts : (every clear (name_table d) && (every clear (aname_table d) && every clear (fname_table d))) ≡ names_clear d us
+  parts =
+      ap (λ (x : Bool). every clear (name_table d) && x) (sym (every_append clear (aname_table d) (fname_table d))) ∙ sym (every_append clear (name_table d) (aname_table d ++ fname_table d)) ∙ clear-is

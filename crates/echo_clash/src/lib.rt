@@ -1,4 +1,4 @@
-// Refusal 11 (document 02, L4): a declared name that a `let` would give to a shared node.
+// Refusal `Clash`: a declared name that a `let` would give to a shared node.
 //
 // A name is read as the letter and a number in whatever way, and the name of that number is written anew and compared: so a name with a
 // leading zero, or with other bytes than digits, needs no test of its own.
@@ -8,42 +8,38 @@ ghost use Rattle.std.specs.Prelude.{◌≡◌, not, ◌-◌, ◌≤◌, ◌<◌,
 ghost use Rattle.lists.specs.Tests.{same, every};
 ghost use Rattle.echo_spec.specs.Input.{names_of};
 ghost use Rattle.lets.specs.Lets.{let_name, uses_in, names_clear};
-ghost use Rattle.lent.specs.Arrays.{problem_at, dag_at};
+ghost use Rattle.lent.specs.Lent.{problem_at, dag_at};
 ghost use Rattle.echo_clash.specs.Clash.{digit, read_from, clashes as «clashes-of»};
 ghost use Rattle.echo_clash.specs.Clearable.{Clearable};
 
-use echo_names::{part, same_bytes};
-use lent::{
-    ANAME_LEN, ANAME_START, ANAMES, BYTES, FNAME_LEN, FNAME_START, FNAMES, NAME_LEN, NAME_START,
-    NAMES, NUMBERS, get, wide,
-};
-use refusals::MAX_NODES;
+use echo_names::{NameTable, part};
+use echo_sharing::flagged;
+use lent::Problem;
 
 // What a byte is as a digit; 0 for a byte below the digits.
 fn value_of(c: u8) -> u64
     ensures { result ≡ c - 48 }
 {
-    if c < 48 { 0 } else { wide(c) - 48 }
+    u64::from(c).saturating_sub(48)
 }
 
 // One digit more, the number held at 2,048.
+#[tactic(auto, unfolding(crate::specs::Clash::digit))]
 fn one_digit(v: u64, c: u8) -> u64
     requires { v ≤ 2048 }
-    ensures { result ≡ digit v c }
+    ensures { (result ≡ digit v c) × (result ≤ 2048) }
 {
-    let n = 10 * v + value_of(c);
-    if n < 2048 { n } else { 2048 }
+    (10 * v + value_of(c)).min(2048)
 }
 
 // The number that the bytes make as digits, the highest first, held at 2,048, which is past every node.
+#[tactic(auto, unfolding(crate::specs::Clash::read_from))]
 fn read_number(s: &[u8]) -> u64
     ensures { result ≡ read_from 0 s.now }
 {
-    let mut v: u64 = 0;
-    let mut k = 0;
-    while k < s.len() {
-        v = one_digit(v, s[k]);
-        k += 1;
+    let mut v = 0;
+    for c in s {
+        v = one_digit(v, *c);
     }
     v
 }
@@ -55,86 +51,58 @@ fn is_let_name(name: &[u8], i: u64) -> bool
 {
     let mut room = [0u8; 8];
     let p = echo_bytes::start();
-    let q = p.byte(&mut room, 100);
+    let q = p.byte(&mut room, b'd');
     let r = q.number(&mut room, i);
     let n = r.at;
-    same_bytes(name, &room[..n])
+    name == &room[..n]
 }
 
-// Is this the name of a shared node out of the first n.
-fn clashes(name: &[u8], shared: &[u8; MAX_NODES], n: usize) -> bool
-    requires { n ≤ 2048 }
-    ensures { result ≡ «clashes-of» shared.now n name.now }
+// Is this the name of a shared node.
+fn clashes(name: &[u8], shared: &[bool]) -> bool
+    requires { length shared.now ≤ 2048 }
+    ensures { result ≡ «clashes-of» shared.now name.now }
 {
-    if name.len() == 0 {
+    let [_letter, digits @ ..] = name else {
         return false;
-    }
-    let v = read_number(&name[1..]);
-    let i = v as usize;
-    if i >= n {
-        return false;
-    }
-    if shared[i] != 1 {
-        return false;
-    }
-    is_let_name(name, v)
+    };
+    let v = read_number(digits);
+    flagged(shared, v) && is_let_name(name, v)
 }
 
 // Is no name of a table that of a shared node.
-fn table_clear(
-    arena: &[u8],
-    starts: &[u64],
-    lens: &[u64],
-    shared: &[u8; MAX_NODES],
-    n: usize,
-) -> bool
-    requires { (n ≤ 2048) × (length starts.now ≡ length lens.now) }
-    ensures { result ≡ every (λ m. not («clashes-of» shared.now n m)) (names_of arena.now starts.now lens.now) }
+fn table_clear(table: &NameTable, shared: &[bool]) -> bool
+    requires { length shared.now ≤ 2048 }
+    ensures { result ≡ every (λ m. not («clashes-of» shared.now m)) (names_of table.now.arena.now table.now.starts.now table.now.lens.now) }
 {
-    let mut k = 0;
-    while k < starts.len() {
-        if clashes(part(arena, starts[k], lens[k]), shared, n) {
+    for (k, start) in table.starts.iter().enumerate() {
+        let name = part(table.arena, *start, table.lens[k]);
+        if clashes(name, shared) {
             return false;
         }
-        k += 1;
     }
     true
 }
 
-// Refusal 11 is where this is false: no declared name is that of a shared node, reached or not. Ruled out: variables alone looked at; a name
+// `Clash` is where this is false: no declared name is that of a shared node, reached or not. Ruled out: variables alone looked at; a name
 // with a leading zero taken for a node's; a node that has one use.
-pub fn names_clear(
-    bytes: &[&[u8]; BYTES],
-    numbers: &[&[u64]; NUMBERS],
-    shared: &[u8; MAX_NODES],
-    n: usize,
-) -> bool
-    requires { Clearable bytes.now numbers.now shared.now n }
-    ensures { result ≡ names_clear (dag_at bytes.now numbers.now) (uses_in (dag_at bytes.now numbers.now) (problem_at bytes.now numbers.now).roots) }
+pub fn names_clear(problem: &Problem, shared: &[bool]) -> bool
+    requires { Clearable problem.now shared.now }
+    ensures { result ≡ names_clear (dag_at problem.now) (uses_in (dag_at problem.now) (problem_at problem.now).roots) }
 {
-    if !table_clear(
-        bytes[NAMES],
-        numbers[NAME_START],
-        numbers[NAME_LEN],
-        shared,
-        n,
-    ) {
-        return false;
-    }
-    if !table_clear(
-        bytes[ANAMES],
-        numbers[ANAME_START],
-        numbers[ANAME_LEN],
-        shared,
-        n,
-    ) {
-        return false;
-    }
-    table_clear(
-        bytes[FNAMES],
-        numbers[FNAME_START],
-        numbers[FNAME_LEN],
-        shared,
-        n,
-    )
+    let names = NameTable {
+        arena: problem.names,
+        starts: problem.name_start,
+        lens: problem.name_len,
+    };
+    let arrays = NameTable {
+        arena: problem.anames,
+        starts: problem.aname_start,
+        lens: problem.aname_len,
+    };
+    let functions = NameTable {
+        arena: problem.fnames,
+        starts: problem.fname_start,
+        lens: problem.fname_len,
+    };
+    table_clear(&names, shared) && table_clear(&arrays, shared) && table_clear(&functions, shared)
 }

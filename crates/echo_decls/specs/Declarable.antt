@@ -1,8 +1,8 @@
 -- What is asked of a problem whose declarations are written, and how its checks come to it. Assumes nothing.
-use Rattle.std.specs.Prelude.{ℕ, ◌+◌, ◌≤◌, ◌<◌, ◌≡◌, ◌&&◌, List, T, ltb, length}
-use Rattle.std.proofs.Math.Path.{ap}
+use Rattle.std.specs.Prelude.{ℕ, ◌+◌, ◌≤◌, ◌<◌, ◌≡◌, refl, ◌&&◌, List, T, ltb, length, Option, Some, None, IsSome}
 use Rattle.std.proofs.Common.{sym, ◌∙◌, arith}
 use Rattle.std.proofs.Math.Bool.{false}
+use Rattle.std.proofs.Math.Option as math
 use Rattle.std.proofs.Math.Option.{none, some}
 use Rattle.std.proofs.Math.Dec.{leb→le}
 use Rattle.std.proofs.Math.ListN.{get_or}
@@ -10,10 +10,9 @@ use Rattle.lists.specs.Tests.{every, every-at, and_0, and-1}
 use Rattle.echo_spec.specs.Input.{Node, no_node, nodes_of, Dag, dag_of, fname_table}
 use Rattle.echo_spec.specs.ColumnLaws.{names-counted}
 use Rattle.echo_spec.specs.Tables.{find_call, arguments_inside, signature, decl_func_ok, decl_funcs_ok}
-use Rattle.lent.specs.Arrays.{Slice, problem_at, dag_at}
-use Rattle.echo_tables.specs.declared.Found.{Found}
-use Rattle.echo_tables.specs.declared.Found.TheVariants.{At, Nothing}
-use Rattle.echo_tables.specs.Found.{found_of, entered, Calls, entered-found}
+use Rattle.lent.specs.declared.Problem.{Problem as Lent}
+use Rattle.lent.specs.Lent.{problem_at, dag_at}
+use Rattle.echo_tables.specs.Found.{found_of, Calls, found_some}
 
 -- each function has a first call, and its arguments lie inside the side entries
 pub record EachCalled (d : Dag) : Type 0 where
@@ -22,10 +21,10 @@ pub record EachCalled (d : Dag) : Type 0 where
       → (get_or d.nodes c no_node).c + (get_or d.nodes c no_node).d ≤ length d.side
 
 -- the table of first calls was filled from the problem, and has room for its functions, which are all called
-pub record Declarable (b n : List Slice) (first : List ℕ) : Type 0 where
-  pub functions : length (problem_at b n).fname_start ≤ 512
-  pub calls : Calls (nodes_of (problem_at b n).nodes) first
-  pub called : EachCalled (dag_at b n)
+pub record Declarable (p : Lent) (first : List (Option ℕ)) : Type 0 where
+  pub functions : length (problem_at p).fname_start ≤ 512
+  pub calls : Calls (nodes_of (problem_at p).nodes) first
+  pub called : EachCalled (dag_at p)
 
 -- ---------------------------------------------------------------- laws
 
@@ -51,28 +50,32 @@ each-called d ws h = record { found = has-call d ws h; inside = call-inside d ws
 
 -- r is what was looked up of function g's first call
 module _
-    {b n : List Slice}
-    {first : List ℕ}
-    (h : Declarable b n first)
+    {p : Lent}
+    {first : List (Option ℕ)}
+    (h : Declarable p first)
     (g : ℕ)
-    (l : g < length (problem_at b n).fname_start)
-    (r : Found)
-    (looked : found_of r ≡ entered (get_or first g 0))
+    (l : g < length (problem_at p).fname_start)
+    {r : Option ℕ}
+    (looked : r ≡ get_or first g None)
   where
-    call-is : find_call (nodes_of (problem_at b n).nodes) g ≡ found_of r
+    call-is : r ≡ found_of (find_call (nodes_of (problem_at p).nodes) g)
     call-is =
         let few : g < 512 = omega (arith, h.functions) in
-        sym (looked ∙ entered-found (find_call (nodes_of (problem_at b n).nodes) g) (h.calls.at g few))
+        looked ∙ h.calls.at g few
 
-    pub never-absent : r ≡ Nothing → ⊥
+    pub some-call : IsSome r
     unfolding dag_of
-    never-absent z = h.called.found g l (call-is ∙ ap found_of z)
+    some-call = by_search (find_call (nodes_of (problem_at p).nodes) g) refl
+      where
+        by_search : (o : math.Option ℕ) → find_call (nodes_of (problem_at p).nodes) g ≡ o → IsSome r
+        by_search none e = absurd (h.called.found g l e)
+        by_search (some c) e = rw (call-is, e) refl
 
-    pub call_at : {c : ℕ} → r ≡ At c → find_call (nodes_of (problem_at b n).nodes) g ≡ some c
-    call_at z = call-is ∙ ap found_of z
+    pub call_at : {c : ℕ} → r ≡ Some c → find_call (nodes_of (problem_at p).nodes) g ≡ some c
+    call_at z = found_some _ (sym z ∙ call-is)
 
     -- and f is its node
-    pub arguments-in : {c : ℕ} → r ≡ At c → {f : Node} → f ≡ get_or (nodes_of (problem_at b n).nodes) c no_node
-        → f.c + f.d ≤ length (problem_at b n).side
+    pub arguments-in : {c : ℕ} → r ≡ Some c → {f : Node} → f ≡ get_or (nodes_of (problem_at p).nodes) c no_node
+        → f.c + f.d ≤ length (problem_at p).side
     unfolding dag_of
     arguments-in z q = rw q (h.called.inside g l (call_at z))

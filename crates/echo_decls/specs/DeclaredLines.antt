@@ -1,19 +1,19 @@
 -- The line of each entry, by its number, and the lines before the roots. Assumes nothing.
-use Rattle.std.specs.Prelude.{ℕ, ◌≡◌, List, [], ◌++◌, length, get_or}
+use Rattle.std.specs.Prelude.{ℕ, ◌+◌, ◌-◌, ◌≡◌, List, [], ◌++◌, map, length, take, drop, get_or}
 use Rattle.std.proofs.Math.Path.{refl, sym}
-use Rattle.std.proofs.Common.{◌∙◌}
+use Rattle.std.proofs.Common.{◌∙◌, arith}
 use Rattle.std.proofs.Math.Option.{some}
 use Rattle.lists.specs.Build.{length-tabulate}
 use Rattle.reading.specs.Trees.{Name, Declarations}
 use Rattle.echo_spec.specs.Input.{Node, no_node, Dag, name_table, aname_table, fname_table}
 use Rattle.echo_spec.specs.ColumnLaws.{names-counted}
-use Rattle.echo_spec.specs.Widths.{index_width_of, value_width_of}
+use Rattle.echo_spec.specs.Widths.{width_at, index_width_of, value_width_of}
 use Rattle.echo_spec.specs.Tables.{find_call, argument_widths, signature, variables_of, arrays_of, functions_of, declarations_of}
 use Rattle.echo_spec.specs.Render.{variable_text, array_text, function_text, texts, logic_text, declarations_text}
 use Rattle.echo_bytes.specs.declared.Place.{Place}
 use Rattle.echo_bytes.specs.Page.{Page, page, start, written}
 use Rattle.echo_bytes.specs.Laws.{written_then}
-use Rattle.echo_lines.specs.Lines.{widths_at, logic_for, logic-for}
+use Rattle.echo_lines.specs.Lines.{logic_for, logic-for}
 use Rattle.echo_decls.specs.NumberedLines.{LinesWritten, all-written}
 
 unfoldable pub variable_line : Dag → ℕ → List ℕ
@@ -43,12 +43,14 @@ module _ (d : Dag) (k : ℕ) {n : Name} where
   unfolding array_line
   array-line p q r = λ i. array_text (record { name = p i; index = q i; value = r i })
 
-  -- node c, which is f, is the function's first call
+  -- node c, which is f, is the function's first call, and its part of the side entries is lent from its start to its end
   pub function-line : (ws : List ℕ) {c w : ℕ} {f : Node} → find_call d.nodes k ≡ some c → f ≡ get_or d.nodes c no_node
       → n ≡ get_or (fname_table d) k [] → w ≡ get_or d.func_width k 0
-      → function_text (record { name = n; arguments = widths_at ws d.side f.c f.d; width = w }) ≡ function_line d ws k
+      → function_text (record { name = n; arguments = map (width_at ws) (take (f.c + f.d - f.c) (drop f.c d.side)); width = w }) ≡ function_line d ws k
   unfolding function_line signature argument_widths
-  function-line ws e f p q = rw (e, signature, ← f, p, q) refl
+  function-line ws {f = m} e f p q =
+      let k : m.c + m.d - m.c ≡ m.d = omega arith in
+      rw (k, e, signature, ← f, p, q) refl
 
 -- ---------------------------------------------------------------- the lines of a table
 

@@ -1,11 +1,11 @@
 -- The lines one after the other, and the checks before them. Assumes nothing.
-use Prim.Native.Nat.{ℕ, ◌+◌, ◌<◌, ◌≤◌}
-use mathlib.Core.Path.{◌≡◌, refl, sym, ap, ◌∙◌, subst}
+use Prim.Native.Nat.{ℕ, ◌+◌, ◌<◌}
+use mathlib.Core.Path.{◌≡◌, sym, ap, ◌∙◌, subst}
 use mathlib.Core.List.{List, [], ◌∷◌, ◌++◌}
-use native.Mathlib.Omega.{arith}
 use native.Mathlib.Numerals.{add-one}
 use lib.ListN.{length, get_or, drop}
 use lib.Seq.{drop-cons, drop-length}
+use Rattle.std.specs.Prelude.{Result}
 use Rattle.echo_spec.specs.Refusals.{unless}
 use Rattle.echo_spec.specs.Input.{Problem, array_widths, nodes_of, dag_of, query_of}
 use Rattle.echo_spec.specs.Widths.{ext_wf_of}
@@ -13,8 +13,9 @@ use Rattle.echo_spec.specs.Sharing.{unshared}
 use Rattle.echo_spec.specs.Trees.{reading_of}
 use Rattle.echo_spec.specs.Walk.{walk_roots, checks, refusal_with}
 use Rattle.echo_spec.specs.Answers.{endless_with, endless_refusal}
+use Rattle.refusals.specs.declared.EchoError.{EchoError}
+use Rattle.echo_bytes.specs.declared.Place.{Place}
 use Rattle.echo_bytes.specs.Page.{Page}
-use Rattle.echo_script.specs.declared.Out.{Out}
 use Rattle.echo_script.specs.Outcomes.{Wrote}
 use Rattle.echo_script.specs.Scripts.{tables_refusal}
 use Rattle.echo_script.specs.Prepared.{WellFormed}
@@ -22,20 +23,18 @@ use Rattle.echo_script.proofs.Checking.{wrote_as, measured-checks}
 use Rattle.formula_answers.specs.Answers.{formula_lines}
 use Rattle.echo_formulas.specs.Lines.{lines_text, lines_with}
 
-pub line_step : (g : ℕ → List ℕ) (roots : List ℕ) (k : ℕ) → k < length roots → {x : ℕ} → x ≡ get_or roots k 0
-    → (g x ++ (10 ∷ [])) ++ lines_text g (drop (k + 1) roots) ≡ lines_text g (drop k roots)
+pub line_step : (g : ℕ → List ℕ) (roots : List ℕ) (k : ℕ) → k < length roots
+    → (g (get_or roots k 0) ++ (10 ∷ [])) ++ lines_text g (drop (k + 1) roots) ≡ lines_text g (drop k roots)
 unfolding lines_text
-line_step g roots k h {x} e =
-    let d : drop k roots ≡ x ∷ drop (k + 1) roots = rw (e, add-one) (drop-cons roots k 0 h) in
+line_step g roots k h =
+    let d : drop k roots ≡ get_or roots k 0 ∷ drop (k + 1) roots = rw add-one (drop-cons roots k 0 h) in
     sym (ap (lines_text g) d)
 
-pub lines_none : (g : ℕ → List ℕ) (roots : List ℕ) {k : ℕ} → length roots ≤ k → k ≤ length roots → lines_text g (drop k roots) ≡ []
+pub lines_none : (g : ℕ → List ℕ) (roots : List ℕ) {k : ℕ} → k ≡ length roots → lines_text g (drop k roots) ≡ []
 unfolding lines_text
-lines_none g roots {k} a b =
-    let c : k ≡ length roots = omega arith in
-    ap (lines_text g) (ap (λ (n : ℕ). drop n roots) c ∙ drop-length roots)
+lines_none g roots e = ap (lines_text g) (ap (λ (n : ℕ). drop n roots) e ∙ drop-length roots)
 
-pub checked-passed : (p : Problem) {ws : List ℕ} → WellFormed p ws → {pg : Page} {o : Out} {l : List ℕ} → Wrote (tables_refusal p ws) (lines_with p ws) pg o l
+pub checked-passed : (p : Problem) {ws : List ℕ} → WellFormed p ws → {pg : Page} {o : Result Place EchoError} {l : List ℕ} → Wrote (tables_refusal p ws) (lines_with p ws) pg o l
     → Wrote (endless_refusal p) (formula_lines (query_of p)) pg o l
 unfolding endless_refusal refusal_with tables_refusal formula_lines reading_of dag_of
 checked-passed p {ws} h {pg} {o} {l} w =

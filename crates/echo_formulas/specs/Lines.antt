@@ -1,10 +1,10 @@
 -- The lines of the map file as the writers make them.
 use Rattle.std.specs.Prelude.{ℕ, ◌≡◌, refl, List, [], ◌∷◌, ◌++◌}
-use Rattle.std.proofs.Common.{ap, sym, ◌∙◌, append_assoc}
+use Rattle.std.proofs.Common.{◌∙◌, append_assoc}
 use Rattle.lists.specs.Bytes.{bytes}
 use Rattle.echo_spec.specs.Input.{Problem, Dag, dag_of}
 use Rattle.echo_spec.specs.Trees.{trees_over, tree_of}
-use Rattle.formula_text.specs.Notation.{formula, formulas}
+use Rattle.formula_text.specs.Notation.{formulas}
 use Rattle.echo_openings.specs.NodeText.{placed_tree, placed-none}
 
 -- each after the other, over the texts of nodes

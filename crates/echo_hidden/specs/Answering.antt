@@ -1,6 +1,6 @@
 -- The printer's answer with its script covered is the answer of the hidden form.
 use Prim.Native.Nat.{ℕ, zero, suc, ◌-◌, ◌≤◌}
-use Rattle.std.specs.Prelude.{◌≡◌, leb}
+use Rattle.std.specs.Prelude.{◌≡◌, leb, Result, Ok, Err}
 use Rattle.std.proofs.Math.Path.{refl, sym, ap}
 use Rattle.std.proofs.Common.{◌∙◌, arith, length-append}
 use mathlib.Core.List.{List, ◌++◌}
@@ -11,8 +11,6 @@ use Rattle.echo_spec.specs.Input.{Problem, query_of}
 use Rattle.echo_spec.specs.Answers.{Answer, reading, script, endless_refusal, text_refusal, echo_answer, text_answer, echo_ext_answer}
 use Rattle.refusals.specs.declared.EchoError.{EchoError}
 use Rattle.refusals.specs.Numbers.{error_number, error-number}
-use Rattle.echo_kernel.specs.declared.Echo.{Echo}
-use Rattle.echo_kernel.specs.declared.Echo.TheVariants.{Printed, Refused}
 use Rattle.echo_kernel.specs.Answered.{count, answered}
 use Rattle.hidden.specs.Hidden.{hidden_script, echo_hidden_answer}
 use Rattle.theorems.specs.Answered.{Whole, printed, sound, acceptance, refused, accepted-whole, endless-whole, text-number}
@@ -24,30 +22,18 @@ unfoldable pub covered_first : ℕ → List ℕ → List ℕ
 covered_first n l = covered outside (take n l) ++ drop n l
 
 -- a buffer in which the script that was printed, if one was, is covered
-unfoldable pub covered_by : Echo → List ℕ → List ℕ
-covered_by (Printed n) l = covered_first n l
-covered_by (Refused e) l = l
-
-module _ (l : List ℕ) {r : Echo} where
-  pub first-inside : {n : ℕ} → r ≡ Printed n → count r ≤ length l → n ≤ length l
-  first-inside e h = rw e at h
-
-  pub first-covered : {n : ℕ} {m : List ℕ} → r ≡ Printed n → m ≡ covered_first n l → m ≡ covered_by r l
-  unfolding covered_by
-  first-covered e h = rw e h
-
-  pub none-covered : {f : EchoError} → r ≡ Refused f → l ≡ covered_by r l
-  unfolding covered_by
-  none-covered e = rw e refl
+unfoldable pub covered_by : Result ℕ EchoError → List ℕ → List ℕ
+covered_by (Ok n) l = covered_first n l
+covered_by (Err e) l = l
 
 -- a script that was printed lies in the buffer
-pub printed-inside : (p : Problem) (lent : List ℕ) (r : Echo) (l : List ℕ) → answered r l ≡ echo_ext_answer p lent → count r ≤ length l
-printed-inside p lent (Printed n) l e =
+pub printed-inside : (p : Problem) (lent : List ℕ) (r : Result ℕ EchoError) (l : List ℕ) → answered r l ≡ echo_ext_answer p lent → count r ≤ length l
+printed-inside p lent (Ok n) l e =
     let a = acceptance p lent (sym (ap (λ (x : Answer). x.number) e)) in
     let c : n ≡ length (printed p) = ap (λ (x : Answer). x.count) (e ∙ a) in
     let o : length l ≡ length (printed p ++ drop (length (printed p)) lent) = ap (λ (x : Answer). length x.output) (e ∙ a) in
     omega (arith, length-append (printed p) (drop (length (printed p)) lent))
-printed-inside p lent (Refused e) l h = omega arith
+printed-inside p lent (Err e) l h = omega arith
 
 -- ---------------------------------------------------------------- the answer
 
@@ -75,9 +61,9 @@ module _ (p : Problem) (lent : List ℕ) where
   hidden-by n e = ap (λ (k : ℕ). echo_answer k (hidden_script (query_of p)) lent) (hidden-refusal p (length lent) ∙ sym (text-number (endless_refusal p) (printed p) lent) ∙ e)
 
   -- the printer's answer with its script covered is the answer of the hidden form
-  pub hidden-answered : (r : Echo) {l m : List ℕ} → answered r l ≡ echo_ext_answer p lent → m ≡ covered_by r l → answered r m ≡ echo_hidden_answer p lent
+  pub hidden-answered : (r : Result ℕ EchoError) {l m : List ℕ} → answered r l ≡ echo_ext_answer p lent → m ≡ covered_by r l → answered r m ≡ echo_hidden_answer p lent
   unfolding covered_by covered_first echo_answer
-  hidden-answered (Printed n) {l} {m} e c =
+  hidden-answered (Ok n) {l} {m} e c =
       let z : (echo_ext_answer p lent).number ≡ 0 = sym (ap (λ (x : Answer). x.number) e) in
       let w = (accepted-whole p lent z).0 in
       let a = e ∙ acceptance p lent z in
@@ -89,6 +75,6 @@ module _ (p : Problem) (lent : List ℕ) where
       let done : m ≡ hidden_script (query_of p) ++ drop (length (hidden_script (query_of p))) lent =
       c ∙ (λ i. covered outside (front i) ++ back i) ∙ ap (λ (t : List ℕ). t ++ drop (length (hidden_script (query_of p))) lent) (covered-printed p w) in
       (λ i. record { number = 0; count = (count-is ∙ sym (hidden-length p w)) i; output = done i }) ∙ sym (hidden-by 0 z)
-  hidden-answered (Refused f) {l} {m} e c =
+  hidden-answered (Err f) {l} {m} e c =
       let n : (echo_ext_answer p lent).number ≡ suc (error_number f - 1) = sym (ap (λ (x : Answer). x.number) e) ∙ error-number f in
-      ap (answered (Refused f)) c ∙ e ∙ refused p lent (error_number f - 1) n ∙ sym (hidden-by (suc (error_number f - 1)) n)
+      ap (answered (Err f)) c ∙ e ∙ refused p lent (error_number f - 1) n ∙ sym (hidden-by (suc (error_number f - 1)) n)

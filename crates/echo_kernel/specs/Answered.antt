@@ -1,17 +1,16 @@
 -- The number and length of what `echo_ext` answers, with the buffer as it is then.
-use Rattle.std.specs.Prelude.{ℕ, List}
+use Rattle.std.specs.Prelude.{ℕ, List, Result, Ok, Err}
 use Rattle.echo_spec.specs.Answers.{Answer}
+use Rattle.refusals.specs.declared.EchoError.{EchoError}
 use Rattle.refusals.specs.Numbers.{error_number}
-use Rattle.echo_kernel.specs.declared.Echo.{Echo}
-use Rattle.echo_kernel.specs.declared.Echo.TheVariants.{Printed, Refused}
 
-abbrev pub number : Echo → ℕ
-number (Printed n) = 0
-number (Refused e) = error_number e
+abbrev pub number : Result ℕ EchoError → ℕ
+number (Ok n) = 0
+number (Err e) = error_number e
 
-abbrev pub count : Echo → ℕ
-count (Printed n) = n
-count (Refused e) = 0
+abbrev pub count : Result ℕ EchoError → ℕ
+count (Ok n) = n
+count (Err e) = 0
 
-abbrev pub answered : Echo → List ℕ → Answer
+abbrev pub answered : Result ℕ EchoError → List ℕ → Answer
 answered r out = record { number = number r; count = count r; output = out }

@@ -1,21 +1,17 @@
 -- The lengths of the nodes' texts, held at the largest number, in a table that is filled node by node.
-use Prim.Native.Nat.{ℕ, zero, suc, ◌+◌, ◌*◌, ◌≤◌, ◌<◌}
-use Rattle.std.specs.Prelude.{◌≡◌, length, take, drop}
-use Rattle.std.proofs.Math.Path.{refl}
-use mathlib.Core.List.{List, [], ◌∷◌}
-use native.Mathlib.Omega.{arith}
-use Rattle.std.proofs.Math.ListN.{get_or, length-append, length-drop}
+use Rattle.std.specs.Prelude.{ℕ, zero, suc, ◌+◌, ◌*◌, ◌≤◌, ◌<◌, ◌≡◌, refl, List, [], ◌∷◌, length, get_or, take, drop}
+use Rattle.std.proofs.Common.{arith, length-append, length-drop}
 use Rattle.lists.specs.Bytes.{bytes}
 use Rattle.echo_spec.specs.Walk.{Operand, vector, levels}
-use Rattle.lent.specs.Arrays.{Slice, problem_at, dag_at}
 use Rattle.echo_tables.specs.declared.Form.{Form}
 use Rattle.echo_tables.specs.declared.Form.TheVariants.{Leaf, One, Two, Choice, Chain, Arguments}
 use Rattle.echo_tables.specs.Forms.{form_operands}
 use Rattle.echo_tables.specs.Uses.{FormInside}
 use Rattle.echo_tables.specs.Refused.{Each}
-use Rattle.echo_walk.specs.Texts.{head_of, one_text, two_text, choice_text, levels_text, args_text, form_text}
+use Rattle.echo_walk.specs.declared.Walk.{Walk}
+use Rattle.echo_walk.specs.Texts.{one_text, two_text, choice_text, levels_text, args_text, form_text}
 use Rattle.echo_walk.specs.StyleLaws.{entry_first, levels-first}
-use Rattle.echo_walk.specs.Ready.{widths_in, text_at, Fine}
+use Rattle.echo_walk.specs.Walks.{text_at, Fine}
 use Rattle.sizes.specs.Sums.{sum_over, sum-append, sum-map}
 use Rattle.echo_terms.specs.TermTable.{held, entry}
 use Rattle.echo_roots.specs.Roots.{root_text, roots_text}
@@ -29,17 +25,13 @@ closings (Choice a b c) = 1
 closings (Chain j s n) = n + 1
 closings (Arguments s n) = 1
 
--- the length of a blank and the head of node i in the plain script
-unfoldable pub head_length : List Slice → List Slice → List Slice → ℕ → ℕ
-head_length B N F i = suc (length (head_of (dag_at B N) (widths_in F) (problem_at B N).bits i))
-
 -- the length of a blank and node i, where it is not refused
-pub record Long (B N F : List Slice) (i r : ℕ) : Type 0 where
-  pub told : Fine B N F i → r ≡ held (length (32 ∷ text_at B N F i))
+pub record Long (W : Walk) (i r : ℕ) : Type 0 where
+  pub told : Fine W i → r ≡ held (length (32 ∷ text_at W i))
 
 -- the table has those of the nodes below n
-pub record Longs (B N F : List Slice) (t : List ℕ) (n : ℕ) : Type 0 where
-  pub at : (j : ℕ) → j < n → Long B N F j (entry t j)
+pub record Longs (W : Walk) (t : List ℕ) (n : ℕ) : Type 0 where
+  pub at : (j : ℕ) → j < n → Long W j (entry t j)
 
 -- ---------------------------------------------------------------- what stands behind a head
 

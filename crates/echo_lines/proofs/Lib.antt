@@ -1,3 +1,2 @@
--- What the proofs of several functions share, and laws on texts and numbers alone.
-pub mod Cells
+-- Laws on texts and numbers alone.
 pub mod Texts

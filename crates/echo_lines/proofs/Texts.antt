@@ -1,16 +1,12 @@
 -- Texts by the pieces that are written one after the other. Assumes nothing.
-use Prim.Native.Nat.{ℕ, zero, suc, ◌+◌, ◌≤◌, ◌<◌}
-use mathlib.Core.Path.{◌≡◌, refl, ap, ◌∙◌}
-use mathlib.Core.List.{List, [], ◌∷◌, ◌++◌, append_assoc, append-nil, map-append}
-use native.Mathlib.Numerals.{add-one}
-use native.Mathlib.Omega.{arith}
-use lib.ListN.{length, take, drop, get_or, length-drop, length-map}
-use lib.Seq.{take-suc, get_or-drop, length-take-le}
+use Rattle.std.proofs.Common.{◌≡◌, refl, ap, ◌∙◌, ℕ, zero, suc, ◌+◌, ◌-◌, ◌≤◌, ◌<◌, List, [], ◌∷◌, ◌++◌, append_assoc, append-nil, map, length, take, drop, get_or, arith}
+use Rattle.std.proofs.Math.Seq.{take-length}
+use Rattle.std.proofs.lemmas.List.{map_more}
 use Rattle.lists.specs.Bytes.{bytes}
 use Rattle.echo_spec.specs.Widths.{width_at}
 use Rattle.echo_spec.specs.Render.{decimal, numerals_text, operator_text, sort_text, sorts_text}
 use Rattle.echo_lines.specs.Heads.{call_head}
-use Rattle.echo_lines.specs.Lines.{widths_at, separator, logic_name}
+use Rattle.echo_lines.specs.Lines.{logic_name}
 
 -- ---------------------------------------------------------------- heads
 
@@ -35,35 +31,29 @@ call-opened (suc n) name e = refl
 
 -- ---------------------------------------------------------------- argument sorts
 
-pub separator-first : (j : ℕ) (text : List ℕ) → j ≡ 0 → text ≡ separator j ++ text
-unfolding separator
-separator-first zero text e = refl
-separator-first (suc j) text e = absurd (omega arith)
+sorts-more : (v : ℕ) (vs : List ℕ) (w : ℕ) → sorts_text (v ∷ vs) ++ (bytes " " ++ sort_text w) ≡ sorts_text (v ∷ (vs ++ (w ∷ [])))
+unfolding sorts_text
+sorts-more v [] w = refl
+sorts-more v (u ∷ vs) w = simp append_assoc (ap (λ (t : List ℕ). sort_text v ++ (bytes " " ++ t)) (sorts-more u vs w))
 
-pub separator-later : (j : ℕ) (text : List ℕ) → (j ≡ 0 → ⊥) → bytes " " ++ text ≡ separator j ++ text
-unfolding separator
-separator-later zero text e = absurd (e refl)
-separator-later (suc j) text e = refl
+-- after the first argument's sort, that of one of the others more, of the width that was looked up
+pub argument-more : (ws : List ℕ) (x : ℕ) (others : List ℕ) (i : ℕ) → i < length others → (w : ℕ) → w ≡ width_at ws (get_or others i 0)
+    → sorts_text (map (width_at ws) (x ∷ take i others)) ++ (bytes " " ++ sort_text w) ≡ sorts_text (map (width_at ws) (x ∷ take (i + 1) others))
+argument-more ws x others i l w e =
+    sorts-more (width_at ws x) (map (width_at ws) (take i others)) w
+    ∙ ap (λ (vs : List ℕ). sorts_text (width_at ws x ∷ vs)) (rw (e, map_more (width_at ws) others i 0 l) refl)
 
-sorts-more : (vs : List ℕ) (w : ℕ) → sorts_text vs ++ (separator (length vs) ++ sort_text w) ≡ sorts_text (vs ++ (w ∷ []))
-unfolding sorts_text separator
-sorts-more [] w = refl
-sorts-more (v ∷ []) w = refl
-sorts-more (v ∷ u ∷ vs) w = simp append_assoc (ap (λ (t : List ℕ). sort_text v ++ (bytes " " ++ t)) (sorts-more (u ∷ vs) w))
+-- the first argument's sort and those of all others
+pub arguments-all : (ws xs : List ℕ) (i : ℕ) → 1 ≤ length xs → i ≡ length (take (length xs - 1) (drop 1 xs))
+    → sorts_text (map (width_at ws) (get_or xs 0 0 ∷ take i (take (length xs - 1) (drop 1 xs)))) ≡ sorts_text (map (width_at ws) xs)
+arguments-all ws [] i h e = absurd (omega arith)
+arguments-all ws (x ∷ xs) i h e =
+    let n : length (x ∷ xs) - 1 ≡ length xs = omega arith in
+    rw (e, n, take-length xs, take-length xs) refl
 
-module _ (ws side : List ℕ) (s j : ℕ) (h : s + j < length side) where
-  widths-count : length (widths_at ws side s j) ≡ j
-  widths-count = length-map (take j (drop s side)) (width_at ws) ∙ length-take-le j (drop s side) (rw length-drop (omega arith))
-
-  widths-more : widths_at ws side s (j + 1) ≡ widths_at ws side s j ++ (width_at ws (get_or side (s + j) 0) ∷ [])
-  widths-more =
-      let l : j < length (drop s side) = rw length-drop (omega arith) in
-      rw (add-one, take-suc (drop s side) j 0, get_or-drop) (map-append (width_at ws) (take j (drop s side)) (get_or side (s + j) 0 ∷ []))
-
-  -- one sort more, of the width that was looked up
-  pub argument-more : (w : ℕ) → w ≡ width_at ws (get_or side (s + j) 0)
-      → sorts_text (widths_at ws side s j) ++ (separator j ++ sort_text w) ≡ sorts_text (widths_at ws side s (j + 1))
-  argument-more w e = rw (widths-more, ← e) (rw widths-count at (sorts-more (widths_at ws side s j) w))
+pub no-others : (xs : List ℕ) → length xs < 1 → xs ≡ []
+no-others [] h = refl
+no-others (x ∷ xs) h = absurd (omega arith)
 
 -- ---------------------------------------------------------------- the logic
 

@@ -1,3 +1,2 @@
-pub mod Symbols
 pub mod Heads
 pub mod Lines

@@ -1,22 +1,8 @@
--- The argument sorts of a function, one after the other, and the logic by the numbers of arrays and functions. Assumes nothing.
-use Rattle.std.specs.Prelude.{ℕ, zero, suc, ◌≡◌, refl, List, [], ◌∷◌, ◌++◌, map, length, take, drop}
+-- The logic by the numbers of arrays and functions. Assumes nothing.
+use Rattle.std.specs.Prelude.{ℕ, zero, suc, ◌≡◌, refl, List, [], ◌∷◌, ◌++◌, length}
 use Rattle.lists.specs.Bytes.{bytes}
 use Rattle.reading.specs.Trees.{Array, Function, Declarations}
-use Rattle.echo_spec.specs.Widths.{width_at}
 use Rattle.echo_spec.specs.Render.{logic_of, logic_text}
-
--- ---------------------------------------------------------------- argument sorts
-
--- the widths of the n nodes that the side entries from s on name (`argument_widths`, of a call's two numbers)
-abbrev pub widths_at : List ℕ → List ℕ → ℕ → ℕ → List ℕ
-widths_at ws side s n = map (width_at ws) (take n (drop s side))
-
--- what stands before sort j: a blank, but not before the first
-unfoldable pub separator : ℕ → List ℕ
-separator zero = []
-separator (suc j) = bytes " "
-
--- ---------------------------------------------------------------- the logic
 
 -- `logic_of`, of the lists' lengths
 unfoldable pub logic_name : ℕ → ℕ → List ℕ

@@ -100,12 +100,6 @@ first_of (c ∷ s) h = refl
 
 -- ---------------------------------------------------------------- one entry
 
--- for the crates that are not yet written over: a table's two columns are of one length, and so are those of the two tables before it
-pub record NameColumns (starts lens s1 l1 s2 l2 : List ℕ) : Type 0 where
-  pub own : length starts ≡ length lens
-  pub first : length s1 ≡ length l1
-  pub second : length s2 ≡ length l2
-
 -- entry k of a table, after the names of two tables and those before it in its own
 unfoldable pub entry_at : List ℕ → List ℕ → List ℕ → List ℕ → List ℕ → List ℕ → List ℕ → List ℕ → List ℕ → ℕ → Bool
 entry_at arena starts lens a1 s1 l1 a2 s2 l2 k =

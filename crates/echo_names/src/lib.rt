@@ -7,7 +7,7 @@ ghost use Rattle.lists.specs.Tests.{same, in_list, every};
 ghost use Rattle.echo_spec.specs.Input.{part as «part_of», names_of};
 ghost use Rattle.echo_spec.specs.Names.{byte_ok, first_ok, reserved, table_ok};
 ghost use Rattle.echo_names.specs.Groups.{total, in_table};
-ghost use Rattle.echo_names.specs.NameTables.{NameColumns, entry_at};
+ghost use Rattle.echo_names.specs.NameTables.{entry_at};
 
 // ---------------------------------------------------------------- parts of an arena
 
@@ -139,7 +139,7 @@ fn same_name(a: &[u8], b: &[u8]) -> bool
 }
 
 // The names of a table: parts of its arena, each by an entry of two columns of one length.
-#[derive(Drop)]
+#[derive(Clone, Copy)]
 pub struct NameTable<'a> {
     pub arena: &'a [u8],
     pub starts: &'a [u64],
@@ -203,40 +203,4 @@ impl<'a> NameTable<'a> {
         }
         true
     }
-}
-
-// For the crates that are not yet written over: the test of a table as a function of slices.
-pub fn table_ok(
-    arena: &[u8],
-    starts: &[u64],
-    lens: &[u64],
-    a1: &[u8],
-    s1: &[u64],
-    l1: &[u64],
-    a2: &[u8],
-    s2: &[u64],
-    l2: &[u64],
-) -> bool
-    requires { NameColumns starts.now lens.now s1.now l1.now s2.now l2.now }
-    ensures { result
-        ≡ table_ok
-        (names_of a1.now s1.now l1.now ++ names_of a2.now s2.now l2.now)
-        (names_of arena.now starts.now lens.now) }
-{
-    let table = NameTable {
-        arena,
-        starts,
-        lens,
-    };
-    let first = NameTable {
-        arena: a1,
-        starts: s1,
-        lens: l1,
-    };
-    let second = NameTable {
-        arena: a2,
-        starts: s2,
-        lens: l2,
-    };
-    table.accepted(&first, &second)
 }

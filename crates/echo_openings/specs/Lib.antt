@@ -1,3 +1,3 @@
 pub mod Openings
 pub mod NodeText
-pub mod Signed
+pub mod Placed

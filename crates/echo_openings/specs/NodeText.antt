@@ -1,5 +1,5 @@
 -- The opening of a node and the text of its pieces are the formula of its tree.
-use Prim.Native.Nat.{ℕ, zero, suc, ◌+◌, ◌-◌, ◌≤◌, ◌<◌}
+use Prim.Native.Nat.{ℕ, zero, suc, ◌+◌, ◌≤◌, ◌<◌}
 use Rattle.std.specs.Prelude.{◌≡◌, Bool, T, leb, length, get_or, take, drop}
 use Rattle.std.proofs.Math.Path.{refl, ap, sym}
 use Rattle.std.proofs.Common.{◌∙◌, subst, leb→le, ltb→lt, nltb→le, drop-cons}
@@ -12,7 +12,7 @@ use Rattle.std.proofs.Math.ListN.{length-drop, get_or-eq_default}
 use Rattle.lists.specs.Bytes.{bytes}
 use Rattle.lists.specs.Tests.{every_from, every-at, true→T, T→true, no→false}
 use Rattle.lists.specs.Build.{upto-below}
-use Rattle.reading.specs.Trees.{Name, Tree, constant, apply, Trees, none, more, store}
+use Rattle.reading.specs.Trees.{Name, Tree, constant}
 use Rattle.echo_spec.specs.Shapes.{
   Shape,
   var,
@@ -38,12 +38,9 @@ use Rattle.echo_spec.proofs.NodeLaws.{facts}
 use Rattle.echo_spec.specs.Trees.{constant_bits, variable_name, amount_of, trees_over, stores_over, tree_as, tree_step, trees_below, tree_of}
 use Rattle.echo_spec.specs.Render.{symbol_of, decimal, binary_digits, quoted}
 use Rattle.echo_lines.specs.Heads.{repeated}
-use Rattle.echo_tables.specs.declared.Form.{Form}
-use Rattle.echo_tables.specs.declared.Form.TheVariants.{Leaf, One, Two, Choice, Chain, Arguments}
 use Rattle.echo_tables.specs.Forms.{call_form, form_as}
 use Rattle.echo_tables.specs.Uses.{FormInside, form-inside}
 use Rattle.echo_tables.specs.Refused.{Each}
-use Rattle.echo_walk.specs.Operands.{OverForm}
 use Rattle.echo_walk.specs.StyleLaws.{own_below}
 use Rattle.formula_text.specs.Notation.{
   Notation,
@@ -67,6 +64,7 @@ use Rattle.formula_text.specs.Notation.{
   array_text,
 }
 use Rattle.echo_pieces.specs.Signs.{sign_text, sign_of, level_of}
+use Rattle.echo_pieces.specs.declared.Behind.TheVariants.{Nothing, Sign, Comma, Close}
 use Rattle.echo_pieces.specs.declared.Piece.{Piece}
 use Rattle.echo_pieces.specs.Pieces.{piece, behind_text, one_pieces, two_pieces, choice_pieces, store_pieces, chain_pieces, arg_pieces, pieces_of, pieces_text}
 use Rattle.echo_pieces.specs.PieceLaws.{Wanted, pieces-each, text_same}
@@ -90,49 +88,27 @@ for_two (before s) = false
 for_two named = true
 
 abbrev for_before : Notation → Bool
-for_before (between l s) = false
 for_before (before s) = true
-for_before named = false
+for_before _ = false
 
 abbrev for_name : Notation → Bool
-for_name (between l s) = false
-for_name (before s) = false
 for_name named = true
+for_name _ = false
 
 abbrev for_shape : Shape → Notation → Bool
-for_shape var x = for_name x
-for_shape const x = for_name x
 for_shape binary x = for_two x
-for_shape rotation x = for_name x
-for_shape extraction x = for_name x
 for_shape concat x = for_two x
-for_shape extension x = for_name x
-for_shape ite x = for_name x
 for_shape comparison x = for_two x
 for_shape negation x = for_before x
 for_shape connective x = for_two x
 for_shape unary x = for_before x
-for_shape Shape.select x = for_name x
-for_shape Shape.call x = for_name x
 for_shape unknown x = true
+for_shape _ x = for_name x
 
 -- a kind has it
 abbrev pub known : Shape → Bool
-known var = true
-known const = true
-known binary = true
-known rotation = true
-known extraction = true
-known concat = true
-known extension = true
-known ite = true
-known comparison = true
-known negation = true
-known connective = true
-known unary = true
-known Shape.select = true
-known Shape.call = true
 known unknown = false
+known _ = true
 
 kinds-fit : T (every_from (λ k. for_shape (shape_of k) (notation_of k)) 0 39)
 unfolding shapes notations
@@ -200,7 +176,7 @@ module _ (trees : ℕ → Tree) where
       let e : ltb l 10 ≡ true = T→true (ltb l 10) h in
       let n : l + 1 ≡ suc l = add-one l in
       let body : (Bool → List ℕ) =
-      λ t. elim t [ true ↦ [] | false ↦ 32 ∷ (bytes s ++ (32 ∷ [])) ] ++ pieces_text below (32 ∷ (bytes s ++ (32 ∷ []))) (elim t [ true ↦ piece a l 1 ∷ piece b (l + 1) 0 ∷ [] | false ↦ piece a 0 2 ∷ piece b 0 3 ∷ [] ]) in
+      λ t. elim t [ true ↦ [] | false ↦ 32 ∷ (bytes s ++ (32 ∷ [])) ] ++ pieces_text below (32 ∷ (bytes s ++ (32 ∷ []))) (elim t [ true ↦ piece a l Sign ∷ piece b (l + 1) Nothing ∷ [] | false ↦ piece a 0 Comma ∷ piece b 0 Close ∷ [] ]) in
       ap body e
       ∙ ap (λ (z : List ℕ). below l a ++ (32 ∷ z))
       (append_assoc (bytes s) (32 ∷ []) (below (l + 1) b ++ []) ∙ ap (λ (z : List ℕ). bytes s ++ (32 ∷ z)) (append-nil (below (l + 1) b) ∙ ap (λ (k : ℕ). below k b) n))
@@ -275,7 +251,7 @@ module _ (trees : ℕ → Tree) where
     args-text : (s n : ℕ) → s + suc n ≤ length side
         → pieces_text below sign (arg_pieces side s (suc n)) ≡ parted (operand_texts (operands (trees_over trees (take (suc n) (drop s side))))) ++ bytes ")"
     unfolding arg_pieces pieces_text behind_text trees_over formula operand_texts parted later bytes
-    args-text s zero h = rw (entry_first side s (omega arith), bare (get_or side s 0)) (simp (append_assoc, append-nil))
+    args-text s zero h = rw (entry_first side s (omega arith), bare (get_or side s 0)) (simp append-nil)
     args-text s (suc n) h =
         rw (entry_first side s (omega arith), bare (get_or side s 0), args-text (s + 1) n (omega arith), entry_first side (s + 1) (omega arith)) (simp append_assoc)
 
@@ -301,8 +277,8 @@ module _ (trees : ℕ → Tree) where
         let A : List ℕ = array_text a (stores_over trees n (drop s d.side)) in
         let P : List ℕ = pieces_text below sign (store_pieces d.side s n) in
         let R : List ℕ = repeated n (bytes "store(") in
-        let last : pieces_text below sign (store_pieces d.side s n ++ (piece j 0 3 ∷ [])) ≡ P ++ (formula (trees j) ++ (41 ∷ [])) =
-        text-append below sign (store_pieces d.side s n) (piece j 0 3 ∷ []) ∙ (unfold pieces_text behind_text bytes in rw (bare j, append-nil) refl) in
+        let last : pieces_text below sign (store_pieces d.side s n ++ (piece j 0 Close ∷ [])) ≡ P ++ (formula (trees j) ++ (41 ∷ [])) =
+        text-append below sign (store_pieces d.side s n) (piece j 0 Close ∷ []) ∙ (unfold pieces_text behind_text bytes in rw (bare j, append-nil) refl) in
         let e : R ++ (quoted a ++ (44 ∷ 32 ∷ (P ++ (formula (trees j) ++ (41 ∷ []))))) ≡ A ++ (44 ∷ 32 ∷ (formula (trees j) ++ (41 ∷ []))) =
         simp append_assoc at (ap (λ (z : List ℕ). z ++ (formula (trees j) ++ (41 ∷ []))) (sym (stores-text sign d.side a s n h))) in
         let X : List ℕ = P ++ (formula (trees j) ++ (41 ∷ [])) in
@@ -322,19 +298,10 @@ module _ (trees : ℕ → Tree) where
     unfolding tree_as level
     tree-level n var e f = name-level (notation_of n.kind) (kind_fits n.kind var e tt)
     tree-level n const e f = name-level (notation_of n.kind) (kind_fits n.kind const e tt)
-    tree-level n binary e f = refl
-    tree-level n rotation e f = refl
-    tree-level n extraction e f = refl
-    tree-level n concat e f = refl
-    tree-level n extension e f = refl
-    tree-level n ite e f = refl
-    tree-level n comparison e f = refl
-    tree-level n negation e f = refl
-    tree-level n connective e f = refl
-    tree-level n unary e f = refl
     tree-level n Shape.select e f = name-level (notation_of n.kind) (kind_fits n.kind Shape.select e tt)
     tree-level n Shape.call e f = name-level (notation_of n.kind) (kind_fits n.kind Shape.call e tt)
     tree-level n unknown e f = absurd f
+    tree-level n _ e f = refl
 
     -- a node of this shape that is well formed
     opened-text : (n : Node) (s : Shape) (nbits : ℕ) → shape n ≡ s → Formed ws i nbits d.array-widths d.side n s → FormInside d.side (form_as n s)
@@ -374,21 +341,8 @@ module _ (d : Dag) (nbits : ℕ) (ws bits : List ℕ) (widths : ws ≡ ext_wf_of
   own-known = by_shape (shape m) own-formed
     where
       by_shape : (s : Shape) → Formed ws i nbits d.array-widths d.side m s → T (known s)
-      by_shape var f = tt
-      by_shape const f = tt
-      by_shape binary f = tt
-      by_shape rotation f = tt
-      by_shape extraction f = tt
-      by_shape concat f = tt
-      by_shape extension f = tt
-      by_shape ite f = tt
-      by_shape comparison f = tt
-      by_shape negation f = tt
-      by_shape connective f = tt
-      by_shape unary f = tt
-      by_shape Shape.select f = tt
-      by_shape Shape.call f = tt
       by_shape unknown f = absurd f
+      by_shape _ f = tt
 
   pub node-level : level (tree_of d ws bits i) ≡ level_of m.kind
   unfolding tree_of tree_step

@@ -4,7 +4,7 @@ use Rattle.std.specs.Prelude.{◌≡◌, Bool, eqb, length, get_or, drop}
 use Rattle.std.proofs.Math.Path.{refl}
 use Rattle.std.proofs.Common.{ap, sym, ◌∙◌, add-one, length-append, drop-cons}
 use Rattle.std.proofs.Math.Bool.{true, false}
-use mathlib.Core.List.{List, [], ◌∷◌, ◌++◌, append-nil, append_assoc}
+use mathlib.Core.List.{List, [], ◌∷◌, ◌++◌, append_assoc}
 use native.Mathlib.Omega.{arith}
 use Rattle.std.proofs.Math.Dec.{ltb, ltb→lt}
 use Rattle.lists.specs.Tests.{true→T}
@@ -12,12 +12,13 @@ use Rattle.echo_tables.specs.declared.Form.{Form}
 use Rattle.echo_tables.specs.declared.Form.TheVariants.{Leaf, One, Two, Choice, Chain, Arguments}
 use Rattle.echo_tables.specs.Refused.{Each}
 use Rattle.echo_walk.specs.Operands.{Entries, OverForm}
+use Rattle.echo_pieces.specs.declared.Behind.TheVariants.{Nothing, Sign, Comma, Close, CloseComma}
 use Rattle.echo_pieces.specs.declared.Piece.{Piece}
 use Rattle.echo_pieces.specs.Pieces.{piece, behind_text, one_pieces, two_pieces, choice_pieces, store_pieces, chain_pieces, arg_pieces, pieces_of, count_of, pieces_text}
 
 -- where there is none
 abbrev pub no_piece : Piece
-no_piece = piece 0 0 0
+no_piece = piece 0 0 Nothing
 
 -- ---------------------------------------------------------------- by place
 
@@ -37,62 +38,62 @@ unfolding pieces_of count_of one_pieces two_pieces choice_pieces chain_pieces
 pieces-count l side Leaf = refl
 pieces-count l side (One a w) = by_level (eqb l 10)
   where
-    by_level : (b : Bool) → length {A = Piece} (elim b [ true ↦ piece a 10 0 ∷ [] | false ↦ piece a 0 3 ∷ [] ]) ≡ 1
+    by_level : (b : Bool) → length {A = Piece} (elim b [ true ↦ piece a 10 Nothing ∷ [] | false ↦ piece a 0 Close ∷ [] ]) ≡ 1
     by_level true = refl
     by_level false = refl
 pieces-count l side (Two a b w) = by_level (ltb l 10)
   where
-    by_level : (t : Bool) → length {A = Piece} (elim t [ true ↦ piece a l 1 ∷ piece b (l + 1) 0 ∷ [] | false ↦ piece a 0 2 ∷ piece b 0 3 ∷ [] ]) ≡ 2
+    by_level : (t : Bool) → length {A = Piece} (elim t [ true ↦ piece a l Sign ∷ piece b (l + 1) Nothing ∷ [] | false ↦ piece a 0 Comma ∷ piece b 0 Close ∷ [] ]) ≡ 2
     by_level true = refl
     by_level false = refl
 pieces-count l side (Choice a b c) = refl
-pieces-count l side (Chain j s n) = length-append (store_pieces side s n) (piece j 0 3 ∷ []) ∙ ap (λ (k : ℕ). k + 1) (stores-count side s n)
+pieces-count l side (Chain j s n) = length-append (store_pieces side s n) (piece j 0 Close ∷ []) ∙ ap (λ (k : ℕ). k + 1) (stores-count side s n)
 pieces-count l side (Arguments s n) = args_count side s n
 
 -- a pair's index, and its value
-pub store-index : (side : List ℕ) (j s n k : ℕ) → k < n + n → k % 2 ≡ 0 → get_or (chain_pieces side j s n) k no_piece ≡ piece (get_or side (s + (n + n - 2 - k)) 0) 0 2
+pub store-index : (side : List ℕ) (j s n k : ℕ) → k < n + n → k % 2 ≡ 0 → get_or (chain_pieces side j s n) k no_piece ≡ piece (get_or side (s + (n + n - 2 - k)) 0) 0 Comma
 unfolding chain_pieces store_pieces
 store-index side j s zero k h e = absurd (omega arith)
-store-index side j s (suc n) zero h e = let q : n + n ≡ suc n + suc n - 2 - 0 = omega arith in ap (λ (m : ℕ). piece (get_or side (s + m) 0) 0 2) q
+store-index side j s (suc n) zero h e = let q : n + n ≡ suc n + suc n - 2 - 0 = omega arith in ap (λ (m : ℕ). piece (get_or side (s + m) 0) 0 Comma) q
 store-index side j s (suc n) (suc zero) h e = absurd (omega arith)
 store-index side j s (suc n) (suc (suc k)) h e =
     let q : n + n - 2 - k ≡ suc n + suc n - 2 - suc (suc k) = omega arith in
-    store-index side j s n k (omega arith) (omega arith) ∙ ap (λ (m : ℕ). piece (get_or side (s + m) 0) 0 2) q
+    store-index side j s n k (omega arith) (omega arith) ∙ ap (λ (m : ℕ). piece (get_or side (s + m) 0) 0 Comma) q
 
-pub store-value : (side : List ℕ) (j s n k : ℕ) → k < n + n → (k % 2 ≡ 0 → ⊥) → get_or (chain_pieces side j s n) k no_piece ≡ piece (get_or side (s + (n + n - k)) 0) 0 4
+pub store-value : (side : List ℕ) (j s n k : ℕ) → k < n + n → (k % 2 ≡ 0 → ⊥) → get_or (chain_pieces side j s n) k no_piece ≡ piece (get_or side (s + (n + n - k)) 0) 0 CloseComma
 unfolding chain_pieces store_pieces
 store-value side j s zero k h e = absurd (omega arith)
 store-value side j s (suc n) zero h e = absurd (e refl)
-store-value side j s (suc n) (suc zero) h e = let q : n + n + 1 ≡ suc n + suc n - 1 = omega arith in ap (λ (m : ℕ). piece (get_or side (s + m) 0) 0 4) q
+store-value side j s (suc n) (suc zero) h e = let q : n + n + 1 ≡ suc n + suc n - 1 = omega arith in ap (λ (m : ℕ). piece (get_or side (s + m) 0) 0 CloseComma) q
 store-value side j s (suc n) (suc (suc k)) h e =
     let q : n + n - k ≡ suc n + suc n - suc (suc k) = omega arith in
-    store-value side j s n k (omega arith) (λ z. e (omega arith)) ∙ ap (λ (m : ℕ). piece (get_or side (s + m) 0) 0 4) q
+    store-value side j s n k (omega arith) (λ z. e (omega arith)) ∙ ap (λ (m : ℕ). piece (get_or side (s + m) 0) 0 CloseComma) q
 
-pub chain-last : (side : List ℕ) (j s n k : ℕ) → k ≡ n + n → get_or (chain_pieces side j s n) k no_piece ≡ piece j 0 3
+pub chain-last : (side : List ℕ) (j s n k : ℕ) → k ≡ n + n → get_or (chain_pieces side j s n) k no_piece ≡ piece j 0 Close
 unfolding chain_pieces store_pieces
 chain-last side j s zero k h = rw h refl
 chain-last side j s (suc n) zero h = absurd (omega arith)
 chain-last side j s (suc n) (suc zero) h = absurd (omega arith)
 chain-last side j s (suc n) (suc (suc k)) h = chain-last side j s n k (omega arith)
 
-pub arg-more : (side : List ℕ) (s n k : ℕ) → k + 1 < n → get_or (arg_pieces side s n) k no_piece ≡ piece (get_or side (s + k) 0) 0 2
+pub arg-more : (side : List ℕ) (s n k : ℕ) → k + 1 < n → get_or (arg_pieces side s n) k no_piece ≡ piece (get_or side (s + k) 0) 0 Comma
 unfolding arg_pieces
 arg-more side s zero k h = absurd (omega arith)
 arg-more side s (suc zero) k h = absurd (omega arith)
-arg-more side s (suc (suc n)) zero h = let q : s ≡ s + 0 = omega arith in ap (λ (m : ℕ). piece (get_or side m 0) 0 2) q
+arg-more side s (suc (suc n)) zero h = let q : s ≡ s + 0 = omega arith in ap (λ (m : ℕ). piece (get_or side m 0) 0 Comma) q
 arg-more side s (suc (suc n)) (suc k) h =
     let q : s + 1 + k ≡ s + suc k = omega arith in
-    arg-more side (s + 1) (suc n) k (omega arith) ∙ ap (λ (m : ℕ). piece (get_or side m 0) 0 2) q
+    arg-more side (s + 1) (suc n) k (omega arith) ∙ ap (λ (m : ℕ). piece (get_or side m 0) 0 Comma) q
 
-pub arg-last : (side : List ℕ) (s n k : ℕ) → k + 1 ≡ n → get_or (arg_pieces side s n) k no_piece ≡ piece (get_or side (s + k) 0) 0 3
+pub arg-last : (side : List ℕ) (s n k : ℕ) → k + 1 ≡ n → get_or (arg_pieces side s n) k no_piece ≡ piece (get_or side (s + k) 0) 0 Close
 unfolding arg_pieces
 arg-last side s zero k h = absurd (omega arith)
-arg-last side s (suc zero) zero h = let q : s ≡ s + 0 = omega arith in ap (λ (m : ℕ). piece (get_or side m 0) 0 3) q
+arg-last side s (suc zero) zero h = let q : s ≡ s + 0 = omega arith in ap (λ (m : ℕ). piece (get_or side m 0) 0 Close) q
 arg-last side s (suc zero) (suc k) h = absurd (omega arith)
 arg-last side s (suc (suc n)) zero h = absurd (omega arith)
 arg-last side s (suc (suc n)) (suc k) h =
     let q : s + 1 + k ≡ s + suc k = omega arith in
-    arg-last side (s + 1) (suc n) k (omega arith) ∙ ap (λ (m : ℕ). piece (get_or side m 0) 0 3) q
+    arg-last side (s + 1) (suc n) k (omega arith) ∙ ap (λ (m : ℕ). piece (get_or side m 0) 0 Close) q
 
 -- ---------------------------------------------------------------- each
 
@@ -130,12 +131,12 @@ module _ (P : ℕ → Type 0) where
   pieces-each l m side Leaf h = tt
   pieces-each l m side (One a w) h = by_level (eqb l 10)
     where
-      by_level : (b : Bool) → Each (Wanted P) (elim b [ true ↦ piece a 10 0 ∷ [] | false ↦ piece a 0 3 ∷ [] ])
+      by_level : (b : Bool) → Each (Wanted P) (elim b [ true ↦ piece a 10 Nothing ∷ [] | false ↦ piece a 0 Close ∷ [] ])
       by_level true = (record { node_is = h; level_is = omega arith }, tt)
       by_level false = (record { node_is = h; level_is = omega arith }, tt)
   pieces-each l m side (Two a b w) h = by_level (ltb l 10) refl
     where
-      by_level : (t : Bool) → ltb l 10 ≡ t → Each (Wanted P) (elim t [ true ↦ piece a l 1 ∷ piece b (l + 1) 0 ∷ [] | false ↦ piece a 0 2 ∷ piece b 0 3 ∷ [] ])
+      by_level : (t : Bool) → ltb l 10 ≡ t → Each (Wanted P) (elim t [ true ↦ piece a l Sign ∷ piece b (l + 1) Nothing ∷ [] | false ↦ piece a 0 Comma ∷ piece b 0 Close ∷ [] ])
       by_level true e =
           let z : l < 10 = ltb→lt l 10 (true→T e) in
           (record { node_is = h.0; level_is = omega arith }, (record { node_is = h.1; level_is = omega arith }, tt))

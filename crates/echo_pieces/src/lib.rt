@@ -5,8 +5,8 @@
 ghost use Rattle.std.specs.Prelude.{◌≡◌, ◌+◌, ◌^◌, ◌≤◌, ◌<◌, length, get_or, drop};
 ghost use Rattle.echo_bytes.specs.Page.{page, written};
 ghost use Rattle.echo_tables.specs.Uses.{FormInside};
-ghost use Rattle.echo_pieces.specs.Signs.{sign_of, level_of, sign_table};
-ghost use Rattle.echo_pieces.specs.Pieces.{behind_text, one_pieces, two_pieces, choice_pieces, chain_pieces, arg_pieces, pieces_of, count_of};
+ghost use Rattle.echo_pieces.specs.Signs.{sign_of, level_of};
+ghost use Rattle.echo_pieces.specs.Pieces.{piece, behind_text, one_pieces, two_pieces, choice_pieces, chain_pieces, arg_pieces, pieces_of, count_of};
 ghost use Rattle.echo_pieces.specs.PieceLaws.{no_piece};
 
 use echo_bytes::Place;
@@ -15,171 +15,139 @@ use lent::get;
 
 // ---------------------------------------------------------------- signs
 
-// The length of the table of signs.
-pub const SIGNS: usize = 585;
+// The level of a kind, and what is written of it by itself.
+struct Notation(u64, &'static [u8]);
 
-// For each kind a cell of 15 bytes: how long its sign is, its level, the sign, and zeros.
-const TABLE: [u8; SIGNS] = *b"\x01\x0b(\0\0\0\0\0\0\0\0\0\0\0\0\
-    \x01\x0b(\0\0\0\0\0\0\0\0\0\0\0\0\
-    \x03\x08 + \0\0\0\0\0\0\0\0\0\0\
-    \x03\x08 - \0\0\0\0\0\0\0\0\0\0\
-    \x03\x09 * \0\0\0\0\0\0\0\0\0\0\
-    \x03\x09 / \0\0\0\0\0\0\0\0\0\0\
-    \x03\x09 % \0\0\0\0\0\0\0\0\0\0\
-    \x06\x04 band \0\0\0\0\0\0\0\
-    \x05\x02 bor \0\0\0\0\0\0\0\0\
-    \x06\x03 bxor \0\0\0\0\0\0\0\
-    \x04\x07 << \0\0\0\0\0\0\0\0\0\
-    \x04\x07 >> \0\0\0\0\0\0\0\0\0\
-    \x07\x0bbvashr(\0\0\0\0\0\0\
-    \x0d\x0brotate_right(\
-    \x08\x0bextract(\0\0\0\0\0\
-    \x07\x0bconcat(\0\0\0\0\0\0\
-    \x0c\x0bzero_extend(\0\
-    \x0c\x0bsign_extend(\0\
-    \x04\x0bite(\0\0\0\0\0\0\0\0\0\
-    \x04\x05 == \0\0\0\0\0\0\0\0\0\
-    \x04\x05 != \0\0\0\0\0\0\0\0\0\
-    \x03\x06 < \0\0\0\0\0\0\0\0\0\0\
-    \x04\x06 <= \0\0\0\0\0\0\0\0\0\
-    \x03\x06 > \0\0\0\0\0\0\0\0\0\0\
-    \x04\x06 >= \0\0\0\0\0\0\0\0\0\
-    \x06\x0bbvslt(\0\0\0\0\0\0\0\
-    \x06\x0bbvsle(\0\0\0\0\0\0\0\
-    \x06\x0bbvsgt(\0\0\0\0\0\0\0\
-    \x06\x0bbvsge(\0\0\0\0\0\0\0\
-    \x01\x0a!\0\0\0\0\0\0\0\0\0\0\0\0\
-    \x05\x01 and \0\0\0\0\0\0\0\0\
-    \x04\x00 or \0\0\0\0\0\0\0\0\0\
-    \x01\x0a~\0\0\0\0\0\0\0\0\0\0\0\0\
-    \x01\x0a-\0\0\0\0\0\0\0\0\0\0\0\0\
-    \x0c\x0brotate_left(\0\
-    \x07\x0bbvsdiv(\0\0\0\0\0\0\
-    \x07\x0bbvsrem(\0\0\0\0\0\0\
-    \x01\x0b(\0\0\0\0\0\0\0\0\0\0\0\0\
-    \x01\x0b(\0\0\0\0\0\0\0\0\0\0\0\0";
+// For each kind from 0 to 36.
+static NOTATIONS: [Notation; 37] = [
+    Notation(11, b"("),
+    Notation(11, b"("),
+    Notation(8, b" + "),
+    Notation(8, b" - "),
+    Notation(9, b" * "),
+    Notation(9, b" / "),
+    Notation(9, b" % "),
+    Notation(4, b" band "),
+    Notation(2, b" bor "),
+    Notation(3, b" bxor "),
+    Notation(7, b" << "),
+    Notation(7, b" >> "),
+    Notation(11, b"bvashr("),
+    Notation(11, b"rotate_right("),
+    Notation(11, b"extract("),
+    Notation(11, b"concat("),
+    Notation(11, b"zero_extend("),
+    Notation(11, b"sign_extend("),
+    Notation(11, b"ite("),
+    Notation(5, b" == "),
+    Notation(5, b" != "),
+    Notation(6, b" < "),
+    Notation(6, b" <= "),
+    Notation(6, b" > "),
+    Notation(6, b" >= "),
+    Notation(11, b"bvslt("),
+    Notation(11, b"bvsle("),
+    Notation(11, b"bvsgt("),
+    Notation(11, b"bvsge("),
+    Notation(10, b"!"),
+    Notation(1, b" and "),
+    Notation(0, b" or "),
+    Notation(10, b"~"),
+    Notation(10, b"-"),
+    Notation(11, b"rotate_left("),
+    Notation(11, b"bvsdiv("),
+    Notation(11, b"bvsrem("),
+];
 
-// The table, for the entry point to hold and to lend. Ruled out: two levels exchanged; the arithmetic shift as `>>`.
-pub fn sign_table() -> [u8; SIGNS]
-    ensures { result ≡ sign_table }
-{
-    TABLE
-}
-
-// The sign of a kind, a part of the table. Ruled out: the sign of another kind; a sign with its level before it.
-pub fn sign<'a>(signs: &'a [u8], kind: u8) -> &'a [u8]
-    requires signs_value { signs.now ≡ sign_table }
-    requires kind_bound { kind < 39 }
+// The sign of a kind; one past the last has its bracket alone. Ruled out: the sign of another kind; the arithmetic shift as `>>`.
+pub fn sign(kind: u8) -> &'static [u8]
     ensures { result.now ≡ sign_of kind }
 {
-    let cell = 15 * (kind as usize);
-    let n = signs[cell] as usize;
-    let at = cell + 2;
-    &signs[at..at + n]
+    let i = kind as usize;
+    if i < NOTATIONS.len() {
+        NOTATIONS[i].1
+    } else {
+        b"("
+    }
 }
 
-// The level of a kind: 0 to 9 between operands, 10 before one, 11 for what is closed in itself. Ruled out: the sign's length; 0 for a select.
-pub fn level(signs: &[u8], kind: u8) -> u64
-    requires signs_value { signs.now ≡ sign_table }
-    requires kind_bound { kind < 39 }
+// The level of a kind: 0 to 9 between operands, 10 before one, 11 for what is closed in itself. Ruled out: two levels exchanged; 0 for a select.
+pub fn level(kind: u8) -> u64
     ensures { result ≡ level_of kind }
 {
-    let at = 15 * (kind as usize) + 1;
-    signs[at] as u64
+    let i = kind as usize;
+    if i < NOTATIONS.len() {
+        NOTATIONS[i].0
+    } else {
+        11
+    }
 }
 
 // ---------------------------------------------------------------- operands
 
 // What is written behind an operand.
-const NOTHING: u64 = 0;
-
-const SIGN: u64 = 1;
-
-const COMMA: u64 = 2;
-
-const CLOSE: u64 = 3;
-
-const CLOSE_COMMA: u64 = 4;
+#[derive(Clone, Copy, Debug, PartialEq, Eq)]
+pub enum Behind {
+    Nothing,
+    // the operator's sign
+    Sign,
+    Comma,
+    Close,
+    CloseComma,
+}
 
 // An operand: its node, the level that may stand there without brackets, and what is written behind it.
-#[derive(Clone, Copy)]
+#[derive(Clone, Copy, Debug, PartialEq, Eq)]
 pub struct Piece {
     pub node: u64,
     pub level: u64,
-    pub behind: u64,
+    pub behind: Behind,
 }
 
+impl Piece {
+    fn new(node: u64, level: u64, behind: Behind) -> Piece
+        ensures { result ≡ piece node level behind }
+    {
+        Piece {
+            node,
+            level,
+            behind,
+        }
+    }
+}
+
+#[tactic(auto, unfolding(crate::specs::Pieces::one_pieces))]
 fn one_piece(level: u64, a: u64) -> Piece
     ensures { result ≡ get_or (one_pieces level a) 0 no_piece }
 {
     if level == 10 {
-        return Piece {
-            node: a,
-            level: 10,
-            behind: NOTHING,
-        };
+        return Piece::new(a, 10, Behind::Nothing);
     }
-    Piece {
-        node: a,
-        level: 0,
-        behind: CLOSE,
-    }
+    Piece::new(a, 0, Behind::Close)
 }
 
+#[tactic(auto, unfolding(crate::specs::Pieces::two_pieces))]
 fn two_piece(level: u64, a: u64, b: u64, k: u64) -> Piece
     requires { k < 2 }
     ensures { result ≡ get_or (two_pieces level a b) k no_piece }
 {
-    if level < 10 {
-        if k == 0 {
-            return Piece {
-                node: a,
-                level: level,
-                behind: SIGN,
-            };
-        }
-        return Piece {
-            node: b,
-            level: level + 1,
-            behind: NOTHING,
-        };
-    }
-    if k == 0 {
-        return Piece {
-            node: a,
-            level: 0,
-            behind: COMMA,
-        };
-    }
-    Piece {
-        node: b,
-        level: 0,
-        behind: CLOSE,
+    match (level < 10, k) {
+        (true, 0) => Piece::new(a, level, Behind::Sign),
+        (true, _) => Piece::new(b, level + 1, Behind::Nothing),
+        (false, 0) => Piece::new(a, 0, Behind::Comma),
+        (false, _) => Piece::new(b, 0, Behind::Close),
     }
 }
 
+#[tactic(auto, unfolding(crate::specs::Pieces::choice_pieces))]
 fn choice_piece(a: u64, b: u64, c: u64, k: u64) -> Piece
     requires { k < 3 }
     ensures { result ≡ get_or (choice_pieces a b c) k no_piece }
 {
-    if k == 0 {
-        return Piece {
-            node: a,
-            level: 0,
-            behind: COMMA,
-        };
-    }
-    if k == 1 {
-        return Piece {
-            node: b,
-            level: 0,
-            behind: COMMA,
-        };
-    }
-    Piece {
-        node: c,
-        level: 0,
-        behind: CLOSE,
+    match k {
+        0 => Piece::new(a, 0, Behind::Comma),
+        1 => Piece::new(b, 0, Behind::Comma),
+        _ => Piece::new(c, 0, Behind::Close),
     }
 }
 
@@ -190,45 +158,27 @@ fn chain_piece(side: &[u64], j: u64, s: u64, n: u64, k: u64) -> Piece
 {
     let m = n + n;
     if k == m {
-        return Piece {
-            node: j,
-            level: 0,
-            behind: CLOSE,
-        };
+        return Piece::new(j, 0, Behind::Close);
     }
     if k % 2 == 0 {
-        return Piece {
-            node: get(side, s + (m - 2 - k)),
-            level: 0,
-            behind: COMMA,
-        };
+        return Piece::new(get(side, s + (m - 2 - k)), 0, Behind::Comma);
     }
-    Piece {
-        node: get(side, s + (m - k)),
-        level: 0,
-        behind: CLOSE_COMMA,
-    }
+    Piece::new(get(side, s + (m - k)), 0, Behind::CloseComma)
 }
 
 fn arg_piece(side: &[u64], s: u64, n: u64, k: u64) -> Piece
     requires { (k < n) × (s + n ≤ length side.now) }
     ensures { result ≡ get_or (arg_pieces side.now s n) k no_piece }
 {
+    let node = get(side, s + k);
     if k + 1 == n {
-        return Piece {
-            node: get(side, s + k),
-            level: 0,
-            behind: CLOSE,
-        };
+        return Piece::new(node, 0, Behind::Close);
     }
-    Piece {
-        node: get(side, s + k),
-        level: 0,
-        behind: COMMA,
-    }
+    Piece::new(node, 0, Behind::Comma)
 }
 
 // How many operands a form has. Ruled out: a chain's pairs counted once; a chain without its index.
+#[tactic(auto, unfolding(crate::specs::Pieces::count_of))]
 pub fn count(f: Form) -> u64
     requires { count_of f < 2 ^ 64 }
     ensures { result ≡ count_of f }
@@ -244,16 +194,13 @@ pub fn count(f: Form) -> u64
 }
 
 // Operand k of a form, by the level of its operator. Ruled out: the operator's own level for the right operand; a chain's first pair first.
+#[tactic(auto, unfolding(crate::specs::Pieces::pieces_of, crate::specs::Pieces::count_of))]
 pub fn operand(f: Form, side: &[u64], level: u64, k: u64) -> Piece
     requires { (k < count_of f) × FormInside side.now f }
     ensures { result ≡ get_or (pieces_of level side.now f) k no_piece }
 {
     match f {
-        Form::Leaf => Piece {
-            node: 0,
-            level: 0,
-            behind: NOTHING,
-        },
+        Form::Leaf => Piece::new(0, 0, Behind::Nothing),
         Form::One(a, _) => one_piece(level, a),
         Form::Two(a, b, _) => two_piece(level, a, b, k),
         Form::Choice(a, b, c) => choice_piece(a, b, c, k),
@@ -262,17 +209,16 @@ pub fn operand(f: Form, side: &[u64], level: u64, k: u64) -> Piece
     }
 }
 
-// What a number says, behind an operand of a kind. Ruled out: a comma without its blank; a bracket that is not closed.
-pub fn push_behind(signs: &[u8], kind: u8, behind: u64, p: Place, out: &mut [u8]) -> Place
-    requires signs_value { signs.now ≡ sign_table }
-    requires kind_bound { kind < 39 }
+// What is written behind an operand of a kind. Ruled out: a comma without its blank; a bracket that is not closed.
+#[tactic(auto, unfolding(crate::specs::Pieces::behind_text, lists::specs::Bytes::bytes))]
+pub fn push_behind(kind: u8, behind: Behind, p: Place, out: &mut [u8]) -> Place
     ensures { page result out.new ≡ written (page p out.old) (behind_text (sign_of kind) behind) }
 {
     match behind {
-        0 => p,
-        1 => p.word(out, sign(signs, kind)),
-        2 => p.word(out, b", "),
-        3 => p.byte(out, b')'),
-        _ => p.word(out, b"), "),
+        Behind::Nothing => p,
+        Behind::Sign => p.word(out, sign(kind)),
+        Behind::Comma => p.word(out, b", "),
+        Behind::Close => p.byte(out, b')'),
+        Behind::CloseComma => p.word(out, b"), "),
     }
 }

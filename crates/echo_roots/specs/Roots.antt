@@ -5,8 +5,8 @@ use Rattle.lists.specs.Bytes.{bytes}
 use Rattle.echo_spec.specs.Input.{Dag}
 use Rattle.echo_spec.specs.Trees.{trees_over, tree_of}
 use Rattle.echo_spec.specs.Render.{term, assertions_text}
-use Rattle.lent.specs.Arrays.{Slice}
-use Rattle.echo_walk.specs.Ready.{Fine}
+use Rattle.echo_walk.specs.declared.Walk.{Walk}
+use Rattle.echo_walk.specs.Walks.{Fine}
 
 -- one assertion, over the texts of nodes
 unfoldable pub root_text : (ℕ → List ℕ) → ℕ → List ℕ
@@ -17,8 +17,8 @@ roots_text g [] = []
 roots_text g (r ∷ rs) = root_text g r ++ roots_text g rs
 
 -- each of them may be written
-pub record AllFine (B N F : List Slice) (roots : List ℕ) : Type 0 where
-  pub at : (k : ℕ) → k < length roots → Fine B N F (get_or roots k 0)
+pub record AllFine (W : Walk) (roots : List ℕ) : Type 0 where
+  pub at : (k : ℕ) → k < length roots → Fine W (get_or roots k 0)
 
 -- the roots' texts are the assertions
 pub roots-are : (g : ℕ → List ℕ) (d : Dag) (ws bits roots : List ℕ) → ((k : ℕ) → k < length roots → g (get_or roots k 0) ≡ term (tree_of d ws bits (get_or roots k 0)))

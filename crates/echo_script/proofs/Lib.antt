@@ -1,2 +1,2 @@
-pub mod Printing
 pub mod Checking
+pub mod Printing

@@ -1,13 +1,13 @@
 -- Use counts that saturate at two: after counting the nodes us from nothing, entry i is min (count i us) 2.
-use Prim.Native.Nat.{ℕ, zero, suc, ◌+◌, ◌-◌, ◌/◌, ◌≤◌, ◌<◌, min}
-use Rattle.std.specs.Prelude.{◌≡◌, refl, List, [], ◌∷◌, ◌++◌, Bool, true, false, ◌&&◌, ◌||◌, not, ◌≢◌, leb, eqb, get_or, set, drop, replicate}
-use Rattle.std.proofs.Common.{sym, ◌∙◌, length-set, drop_of_length-le, drop-cons, get_or-set_same, get_or-set_other, eq-eqb, ne_eqb, eqb-true, le-leb, leb-true, leb-false}
+use Prim.Native.Nat.{ℕ, zero, suc, ◌+◌, ◌-◌, ◌≤◌, ◌<◌, min}
+use Rattle.std.specs.Prelude.{◌≡◌, refl, List, [], ◌∷◌, ◌++◌, Bool, true, false, ◌&&◌, ◌||◌, leb, eqb, get_or, set, drop, replicate}
+use Rattle.std.proofs.Common.{sym, ◌∙◌, length-set, drop_of_length-le, drop-cons, get_or-set_same, get_or-set_other, eqb-true, le-leb, leb-true, leb-false}
 use native.Mathlib.Omega.{arith}
 use Rattle.std.proofs.Math.Numerals.{add-one}
 use Rattle.std.proofs.Math.ListN.{length}
 use Rattle.std.proofs.lemmas.List.{length-replicate, get_or-replicate}
 use Rattle.std.proofs.Math.Seq.{set_out}
-use Rattle.std.proofs.lemmas.Bool.{eqb-false, lt-leb, not-true, not-false}
+use Rattle.std.proofs.lemmas.Bool.{eqb-false, lt-leb}
 use Rattle.lists.specs.Tests.{every_from}
 use Rattle.echo_spec.specs.Shapes.{is_leaf}
 use Rattle.echo_spec.specs.Input.{Node, shape, no_node, node_at, nodes_of}
@@ -18,7 +18,7 @@ use Rattle.lent.specs.Records.{nodes-length, nodes-at}
 
 -- one use more, saturating at two
 abbrev pub more : ℕ → ℕ
-more c = elim (eqb c 0) [ true ↦ 1 | false ↦ 2 ]
+more c = min (c + 1) 2
 
 -- one more use of node i; a node past the table is not counted
 unfoldable pub bumped : List ℕ → ℕ → List ℕ
@@ -35,14 +35,6 @@ once_in uses ns i = is_leaf (shape (get_or ns i no_node)) || leb (get_or uses i 
 
 -- ---------------------------------------------------------------- one use
 
-pub bump-none : (uses : List ℕ) (i : ℕ) → get_or uses i 0 ≡ 0 → set uses i 1 ≡ bumped uses i
-unfolding bumped
-bump-none uses i h = rw (eq-eqb (get_or uses i 0) 0 h, bumped, more) refl
-
-pub bump-some : (uses : List ℕ) (i : ℕ) → (get_or uses i 0 ≡ 0 → ⊥) → set uses i 2 ≡ bumped uses i
-unfolding bumped
-bump-some uses i h = rw (ne_eqb (get_or uses i 0) 0 h, bumped, more) refl
-
 pub bump-past : (uses : List ℕ) (i : ℕ) → length uses ≤ i → uses ≡ bumped uses i
 unfolding bumped
 bump-past uses i h = sym (set_out uses i (more (get_or uses i 0)) h)
@@ -53,17 +45,7 @@ length-bumped uses i = length-set uses i (more (get_or uses i 0))
 
 bumped-same : (uses : List ℕ) (i : ℕ) → i < length uses → get_or (bumped uses i) i 0 ≡ min (get_or uses i 0 + 1) 2
 unfolding bumped
-bumped-same uses i h = go (eqb (get_or uses i 0) 0) refl
-  where
-    go : (b : Bool) → eqb (get_or uses i 0) 0 ≡ b → get_or (bumped uses i) i 0 ≡ min (get_or uses i 0 + 1) 2
-    go true e =
-        let z : get_or uses i 0 ≡ 0 = eqb-true (get_or uses i 0) 0 e in
-        let s : get_or (set uses i 1) i 0 ≡ 1 = get_or-set_same uses i 1 0 h in
-        rw (← bump-none uses i z, s) (omega arith)
-    go false e =
-        let z : get_or uses i 0 ≢ 0 = eqb-false (get_or uses i 0) 0 e in
-        let s : get_or (set uses i 2) i 0 ≡ 2 = get_or-set_same uses i 2 0 h in
-        rw (← bump-some uses i z, s) (omega arith)
+bumped-same uses i h = get_or-set_same uses i (more (get_or uses i 0)) 0 h
 
 bumped-other : (uses : List ℕ) (x i : ℕ) → (x ≡ i → ⊥) → get_or (bumped uses x) i 0 ≡ get_or uses i 0
 unfolding bumped
@@ -105,17 +87,6 @@ counted_zeros n us i h =
     counted-at (replicate n 0) us i (rw length-replicate h) (omega arith) in
     rw e (rw z (omega arith))
 
--- ---------------------------------------------------------------- one element further along a list
-
-module _ (uses us : List ℕ) (k : ℕ) {whole : List ℕ} (e : counted uses (drop k us) ≡ whole) where
-  pub counted_next : {uses' : List ℕ} → k < length us → uses' ≡ bumped uses (get_or us k 0) → counted uses' (drop (k + 1) us) ≡ whole
-  unfolding counted
-  counted_next h q = rw (q, add-one) (rw (drop-cons us k 0 h) at e)
-
-  pub counted-end : length us ≤ k → uses ≡ whole
-  unfolding counted
-  counted-end h = rw (drop_of_length-le us h) at e
-
 -- ---------------------------------------------------------------- the nodes
 
 at-node : (s : List ℕ) (i : ℕ) → i < length (nodes_of s) → get_or (nodes_of s) i no_node ≡ node_at s i
@@ -146,21 +117,27 @@ pub once-first : (uses s : List ℕ) → once_from uses s 0 ≡ every_from (once
 unfolding once_from
 once-first uses s = let z : length (nodes_of s) - 0 ≡ length (nodes_of s) = omega arith in rw (once_from, z) refl
 
+-- the test of node i, by its record
+pub once-here : (uses s : List ℕ) (i : ℕ) {r : Bool} {m : Node} → i < length (nodes_of s) → m ≡ node_at s i → r ≡ is_leaf (shape m) || leb (get_or uses i 0) 1
+    → r ≡ once_in uses (nodes_of s) i
+unfolding once_in
+once-here uses s i h p q = rw (q, p, ← at-node s i h) refl
+
 module _ (uses s : List ℕ) (i : ℕ) {whole : Bool} (e : once_from uses s i ≡ whole) where
   once-step : {r : Bool} {m : Node} → i < length (nodes_of s) → m ≡ node_at s i → r ≡ is_leaf (shape m) || leb (get_or uses i 0) 1
       → r && once_from uses s (i + 1) ≡ whole
-  unfolding once_from once_in
+  unfolding once_from
   once-step h p q =
       let a : length (nodes_of s) - i ≡ suc (length (nodes_of s) - (i + 1)) = omega arith in
-      rw (q, p, ← at-node s i h, add-one) (rw (a, add-one) at e)
+      rw (once-here uses s i h p q, add-one) (rw (a, add-one) at e)
 
   pub once-pass : {r : Bool} {m : Node} → i < length (nodes_of s) → m ≡ node_at s i → r ≡ is_leaf (shape m) || leb (get_or uses i 0) 1
-      → not r ≡ false → once_from uses s (i + 1) ≡ whole
-  once-pass {r} h p q t = rw (not-false r t) at (once-step h p q)
+      → r ≡ true → once_from uses s (i + 1) ≡ whole
+  once-pass h p q t = rw t at (once-step h p q)
 
   pub once-fail : {r : Bool} {m : Node} → i < length (nodes_of s) → m ≡ node_at s i → r ≡ is_leaf (shape m) || leb (get_or uses i 0) 1
-      → not r ≡ true → false ≡ whole
-  once-fail {r} h p q t = rw (not-true r t) at (once-step h p q)
+      → r ≡ false → false ≡ whole
+  once-fail h p q t = rw t at (once-step h p q)
 
   pub once-end : length (nodes_of s) ≤ i → true ≡ whole
   unfolding once_from
@@ -178,15 +155,19 @@ leb-min n = go (leb n 1) refl
     go true e = let h : n ≤ 1 = leb-true n 1 e in le-leb (min n 2) 1 (omega arith)
     go false e = let h : 1 < n = leb-false n 1 e in lt-leb (min n 2) 1 (omega arith)
 
--- what `unshared` puts together: the operands' uses and then the roots', counted from nothing, and the test
-pub guard : (s side roots : List ℕ) {operands all : List ℕ} {r : Bool} → length s ≤ 34816
-    → operands ≡ counted (replicate 2048 0) (uses_of_all side (nodes_of s)) → all ≡ counted operands roots
-    → r ≡ every_from (once_in all (nodes_of s)) 0 (length (nodes_of s)) → r ≡ unshared (nodes_of s) side roots
-unfolding unshared used_once once_in
-guard s side roots {operands} {all} h e f q =
-    let l : length (nodes_of s) ≡ length s / 17 = nodes-length s in
-    let us : List ℕ = uses_of_all side (nodes_of s) ++ roots in
-    let g : all ≡ counted (replicate 2048 0) us = rw (counted-append, ← e) f in
-    q
-    ∙ every_from-same (once_in all (nodes_of s)) (used_once (nodes_of s) us) 0 (length (nodes_of s))
-    (λ k a b. rw (g, counted_zeros 2048 us k (omega arith), leb-min) refl)
+-- the counts of all uses, from nothing, and the test of them
+module _ (s side roots : List ℕ) (small : length s ≤ 34816) {all : List ℕ}
+    (e : all ≡ counted (replicate 2048 0) (uses_of_all side (nodes_of s) ++ roots)) where
+  pub once_is : (j : ℕ) → j < length (nodes_of s) → once_in all (nodes_of s) j ≡ used_once (nodes_of s) (uses_of_all side (nodes_of s) ++ roots) j
+  unfolding once_in used_once
+  once_is j l =
+      let us : List ℕ = uses_of_all side (nodes_of s) ++ roots in
+      let n = nodes-length s in
+      rw (e, counted_zeros 2048 us j (omega arith), leb-min) refl
+
+  pub guard : {r : Bool} → r ≡ every_from (once_in all (nodes_of s)) 0 (length (nodes_of s)) → r ≡ unshared (nodes_of s) side roots
+  unfolding unshared
+  guard q =
+      q
+      ∙ every_from-same (once_in all (nodes_of s)) (used_once (nodes_of s) (uses_of_all side (nodes_of s) ++ roots)) 0 (length (nodes_of s))
+      (λ k a b. once_is k (omega arith))

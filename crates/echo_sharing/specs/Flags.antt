@@ -1,89 +1,73 @@
--- A table with a byte for each node, 1 where a test holds and 0 elsewhere, and the table of the operators that are used twice or more.
-use Prim.Native.Nat.{ℕ, ◌+◌, ◌/◌, ◌≤◌, ◌<◌}
-use Rattle.std.specs.Prelude.{◌≡◌, Bool, true, false, ◌||◌, ◌≢◌, leb, eqb}
-use Rattle.std.proofs.Math.Path.{refl}
-use Rattle.std.proofs.Common.{sym, ap, ◌∙◌, arith, eqb-true, get_or-set_same, get_or-set_other}
-use mathlib.Core.List.{List, ◌++◌}
-use Rattle.std.proofs.Math.Bool.{not, cond}
+-- A table that has for each node whether a test holds, and the table of the operators that are used twice or more.
+use Rattle.std.specs.Prelude.{ℕ, ◌+◌, ◌≤◌, ◌<◌, ◌≡◌, refl, List, ◌++◌, Bool, true, false, ◌&&◌, not, ◌≢◌, ltb, eqb, length, get_or, set, replicate, Option, Some, None}
+use Rattle.std.specs.Option.{unwrap_or}
+use Rattle.std.proofs.Common.{sym, ap, ◌∙◌, arith, zero-le, eqb-true, le-ltb, lt-ltb, get_or-set_same, get_or-set_other}
+use Rattle.std.proofs.Math.Bool.{and-false}
+use Rattle.std.proofs.Math.Decide.{dec_lt}
+use Rattle.std.proofs.Math.ListN.{get_or-eq_default}
 use Rattle.std.proofs.lemmas.Bool.{eqb-false}
-use lib.ListN.{length, get_or, set, replicate}
-use Rattle.echo_spec.specs.Shapes.{is_leaf}
-use Rattle.echo_spec.specs.Input.{Node, shape, no_node, node_at, nodes_of}
+use Rattle.std.proofs.lemmas.List.{length-replicate, get_or-replicate}
+use Rattle.lists.specs.Tests.{every-at, true→T, T→true}
+use Rattle.echo_spec.specs.Input.{Node, nodes_of}
 use Rattle.echo_spec.specs.Sharing.{uses_of_all, used_once, unshared}
-use Rattle.lists.specs.Tests.{every_from}
-use Rattle.lent.specs.Records.{nodes-length, nodes-at}
-use Rattle.echo_sharing.specs.Counts.{counted, counted-append, counted_zeros, once_in, leb-min, guard}
+use Rattle.echo_sharing.specs.Counts.{counted, once_in, once_is}
 
--- of the first n nodes
-pub record Flags (p : ℕ → Bool) (n : ℕ) (t : List ℕ) : Type 0 where
-  pub at : (j : ℕ) → j < n → get_or t j 0 ≡ cond (p j) 1 0
+-- for which the test holds
+pub record Flags (p : ℕ → Bool) (t : List Bool) : Type 0 where
+  pub at : (j : ℕ) → get_or t j false ≡ p j
 
--- 1 where the test of the counts that were lent fails, for the first i nodes; the others keep their counts
-pub record Kept (lent : List ℕ) (ns : List Node) (i : ℕ) (t : List ℕ) : Type 0 where
-  pub size : length t ≡ length lent
-  pub flags : Flags (λ j. not (once_in lent ns j)) i t
-  pub rest : (j : ℕ) → i ≤ j → get_or t j 0 ≡ get_or lent j 0
+-- the operators that are used twice or more
+abbrev pub shared_of : List Node → List ℕ → List ℕ → ℕ → Bool
+shared_of ns side roots j = ltb j (length ns) && not (used_once ns (uses_of_all side ns ++ roots) j)
 
--- is there an operator that is used twice or more, and if so the table of them
-pub record SharedIn (ns : List Node) (side roots : List ℕ) (some : Bool) (t : List ℕ) : Type 0 where
-  pub is : some ≡ not (unshared ns side roots)
-  pub flags : some ≡ true → Flags (λ j. not (used_once ns (uses_of_all side ns ++ roots) j)) (length ns) t
+-- the table of them, where there are some
+abbrev pub SharedIn : List Node → List ℕ → List ℕ → Option (List Bool) → Type 0
+SharedIn ns side roots None = unshared ns side roots ≡ true
+SharedIn ns side roots (Some t) = (unshared ns side roots ≡ false) × Flags (shared_of ns side roots) t
 
 -- ---------------------------------------------------------------- laws
 
--- the test, by the flag
-pub flag_is : {p : ℕ → Bool} {n : ℕ} {t : List ℕ} → Flags p n t → (j : ℕ) → j < n → eqb (get_or t j 0) 1 ≡ p j
-flag_is {p} h j l = rw (h.at j l) (one-is (p j))
-  where
-    one-is : (b : Bool) → eqb (cond b 1 0) 1 ≡ b
-    one-is true = refl
-    one-is false = refl
+-- one test more, of a table of which the first i were made
+module _ (p : ℕ → Bool) where
+  pub flags-none : (n : ℕ) → Flags (λ j. ltb j 0 && p j) (replicate n false)
+  flags-none n = record { at = λ j. by_place j (dec_lt j n) ∙ rw (le-ltb j 0 zero-le) refl }
+    where
+      by_place : (j : ℕ) → Dec (j < n) → get_or (replicate n false) j false ≡ false
+      by_place j (yes l) = get_or-replicate n j false false l
+      by_place j (no l) = get_or-eq_default (replicate n false) false (rw length-replicate (omega arith))
 
--- one flag more
-pub flags-more : (p : ℕ → Bool) (t : List ℕ) (i v : ℕ) → i < length t → v ≡ cond (p i) 1 0 → Flags p i t → Flags p (i + 1) (set t i v)
-flags-more p t i v l e h = record { at = λ j m. by_place j m (eqb j i) refl }
-  where
-    by_place : (j : ℕ) → j < i + 1 → (b : Bool) → eqb j i ≡ b → get_or (set t i v) j 0 ≡ cond (p j) 1 0
-    by_place j m true q = let z : j ≡ i = eqb-true j i q in rw (z, get_or-set_same t i v 0 l) e
-    by_place j m false q = let z : j ≢ i = eqb-false j i q in rw (get_or-set_other t i j v 0 z) (h.at j (omega arith))
+  pub flags-more : {t : List Bool} {i : ℕ} {v : Bool} → i < length t → v ≡ p i → Flags (λ j. ltb j i && p j) t → Flags (λ j. ltb j (i + 1) && p j) (set t i v)
+  flags-more {t} {i} {v} l e h = record { at = λ j. by_place j (eqb j i) refl }
+    where
+      one : (j : ℕ) → (j ≡ i → ⊥) → Dec (j < i) → ltb j i ≡ ltb j (i + 1)
+      one j z (yes m) = let n : j < i + 1 = omega arith in rw (lt-ltb j i m, lt-ltb j (i + 1) n) refl
+      one j z (no m) = let k : i ≤ j = omega arith in let n : i + 1 ≤ j = omega arith in rw (le-ltb j i k, le-ltb j (i + 1) n) refl
 
-pub kept-none : (lent : List ℕ) (ns : List Node) → Kept lent ns 0 lent
-kept-none lent ns = record { size = refl; flags = record { at = λ j m. absurd (omega arith) }; rest = λ j m. refl }
-
-module _ (s : List ℕ) {lent t : List ℕ} {i : ℕ} (h : Kept lent (nodes_of s) i t) (l : i < length (nodes_of s)) (w : length (nodes_of s) ≤ length lent) where
-  pub kept_more : {m : Node} {r : Bool} (v : ℕ) → m ≡ node_at s i → r ≡ is_leaf (shape m) || leb (get_or t i 0) 1 → v ≡ cond (not r) 1 0 → Kept lent (nodes_of s) (i + 1) (set t i v)
-  unfolding once_in
-  kept_more {m} {r} v p q e =
-      let n : get_or (nodes_of s) i no_node ≡ node_at s i = nodes-at s no_node i (omega (arith, nodes-length s)) in
-      let f : v ≡ cond (not (once_in lent (nodes_of s) i)) 1 0 = rw (e, q, p, n, h.rest i (omega arith)) refl in
-      record {
-        size = let z = h.size in rw lib.ListN.length-set z;
-        flags = flags-more (λ j. not (once_in lent (nodes_of s) j)) t i v (omega (arith, h.size)) f h.flags;
-        rest = λ j g. rw (get_or-set_other t i j v 0 (λ z. let y : j ≡ i = z in omega arith)) (h.rest j (omega arith));
-      }
-
-pub kept-all : {lent t : List ℕ} {ns : List Node} {i : ℕ} → Kept lent ns i t → length ns ≤ i → Flags (λ j. not (once_in lent ns j)) (length ns) t
-kept-all h l = record { at = λ j m. h.flags.at j (omega arith) }
+      by_place : (j : ℕ) (b : Bool) → eqb j i ≡ b → get_or (set t i v) j false ≡ (ltb j (i + 1) && p j)
+      by_place j true q =
+          let z : j ≡ i = eqb-true j i q in
+          let m : i < i + 1 = omega arith in
+          rw (z, get_or-set_same t i v false l, lt-ltb i (i + 1) m) e
+      by_place j false q =
+          let z : j ≢ i = eqb-false j i q in
+          get_or-set_other t i j v false z ∙ h.at j ∙ ap (λ (b : Bool). b && p j) (one j z (dec_lt j i))
 
 -- what `shared_nodes` puts together
-module _ (s side roots : List ℕ) (small : length s ≤ 34816) {operands all : List ℕ}
-    (e : operands ≡ counted (replicate 2048 0) (uses_of_all side (nodes_of s))) (f : all ≡ counted operands roots) where
-  once_is : (j : ℕ) → j < length (nodes_of s) → once_in all (nodes_of s) j ≡ used_once (nodes_of s) (uses_of_all side (nodes_of s) ++ roots) j
-  unfolding once_in used_once
-  once_is j l =
-      let us : List ℕ = uses_of_all side (nodes_of s) ++ roots in
-      let n = nodes-length s in
-      let g : all ≡ counted (replicate 2048 0) us = rw (counted-append, ← e) f in
-      rw (g, counted_zeros 2048 us j (omega arith), leb-min) refl
+module _ (s side roots : List ℕ) (small : length s ≤ 34816) {all : List ℕ}
+    (e : all ≡ counted (replicate 2048 0) (uses_of_all side (nodes_of s) ++ roots)) where
+  pub shared-flags : {t : List Bool} → Flags (λ j. ltb j (length (nodes_of s)) && not (once_in all (nodes_of s) j)) t → Flags (shared_of (nodes_of s) side roots) t
+  shared-flags h = record { at = λ j. h.at j ∙ by_place j (dec_lt j (length (nodes_of s))) }
+    where
+      by_place : (j : ℕ) → Dec (j < length (nodes_of s)) → (ltb j (length (nodes_of s)) && not (once_in all (nodes_of s) j)) ≡ shared_of (nodes_of s) side roots j
+      by_place j (yes l) = ap (λ (b : Bool). ltb j (length (nodes_of s)) && not b) (once_is s side roots small e j l)
+      by_place j (no l) = let k : length (nodes_of s) ≤ j = omega arith in rw (le-ltb j (length (nodes_of s)) k) refl
 
-  -- the test of the counts that passed, or did not
-  module _ {r : Bool} (q : r ≡ every_from (once_in all (nodes_of s)) 0 (length (nodes_of s))) where
-    pub shared-none : r ≡ true → {t : List ℕ} → SharedIn (nodes_of s) side roots false t
-    shared-none y =
-        let u : unshared (nodes_of s) side roots ≡ true = sym (guard s side roots small e f q) ∙ y in
-        record { is = rw u refl; flags = λ z. let w : ◌≡◌ {A = ℕ} 0 1 = ap (λ (b : Bool). cond b 1 0) z in absurd (omega arith) }
-
-    pub shared-some : r ≡ false → {t : List ℕ} → Flags (λ j. not (once_in all (nodes_of s) j)) (length (nodes_of s)) t → SharedIn (nodes_of s) side roots true t
-    shared-some y h =
-        let u : unshared (nodes_of s) side roots ≡ false = sym (guard s side roots small e f q) ∙ y in
-        record { is = rw u refl; flags = λ z. record { at = λ j l. h.at j l ∙ ap (λ (b : Bool). cond (not b) 1 0) (once_is j l) } }
+-- where no operator is shared, the table without one is that of them
+pub shared-or_none : (ns : List Node) (side roots : List ℕ) (o : Option (List Bool)) → SharedIn ns side roots o → Flags (shared_of ns side roots) (unwrap_or o (replicate 2048 false))
+unfolding unshared
+shared-or_none ns side roots (Some t) h = h.1
+shared-or_none ns side roots None h = record { at = λ j. (flags-none (λ k. true) 2048).at j ∙ rw (le-ltb j 0 zero-le) (sym (none j (dec_lt j (length ns)))) }
+  where
+    none : (j : ℕ) → Dec (j < length ns) → shared_of ns side roots j ≡ false
+    none j (yes l) = rw (T→true (used_once ns (uses_of_all side ns ++ roots) j) (every-at (used_once ns (uses_of_all side ns ++ roots)) 0 (length ns) (true→T h) j zero-le (omega arith)), and-false (ltb j (length ns))) refl
+    none j (no l) = let k : length ns ≤ j = omega arith in rw (le-ltb j (length ns) k) refl

@@ -4,7 +4,7 @@
 // limit on nodes, where the Rust has one for each node.
 #![tactic(auto)]
 
-ghost use Rattle.std.specs.Prelude.{◌≡◌, ◌||◌, not, cond, [], ◌∷◌, ◌*◌, ◌≤◌, min, leb, length, take, drop, replicate};
+ghost use Rattle.std.specs.Prelude.{◌≡◌, ◌||◌, ◌&&◌, not, [], ◌∷◌, ◌++◌, ◌*◌, ◌≤◌, leb, ltb, false, length, take, drop, get_or};
 ghost use Rattle.lists.specs.Tests.{every_from};
 ghost use Rattle.echo_spec.specs.Shapes.{shape_of, is_leaf};
 ghost use Rattle.echo_spec.specs.Input.{shape, nodes_of};
@@ -13,16 +13,15 @@ ghost use Rattle.lent.specs.Records.{node_of};
 ghost use Rattle.echo_sharing.specs.Counts.{bumped, counted, once_in};
 ghost use Rattle.echo_sharing.specs.Flags.{Flags, SharedIn};
 
-use blast_kernel::codes::{
-    BINARY, CALL, COMPARISON, CONCAT, CONNECTIVE, CONST, EXTENSION, EXTRACTION, ITE, NEGATION,
-    ROTATION, SELECT, UNARY, VAR,
-};
-use lent::Node;
+use blast_kernel::Shape;
+use lent::{Node, node_at, node_count};
 use refusals::MAX_NODES;
 
 // ---------------------------------------------------------------- counting
 
-// One more use of node i, saturating at two. A node past the table is not counted.
+// One more use of node i, saturating at two. A node past the table is not counted. (Two stores, since with one that is computed from the count each
+// use of a node waits for the one before it.)
+#[tactic(auto, unfolding(crate::specs::Counts::bumped))]
 fn bump(uses: &mut [u8], i: u64)
     ensures { uses.new ≡ bumped uses.old i }
 {
@@ -37,91 +36,60 @@ fn bump(uses: &mut [u8], i: u64)
 }
 
 // One more use of each node of a list.
+#[tactic(auto, unfolding(crate::specs::Counts::counted))]
 fn bump_each(uses: &mut [u8], us: &[u64])
     ensures { uses.new ≡ counted uses.old us.now }
 {
-    let mut k = 0;
-    while k < us.len() {
-        bump(uses, us[k]);
-        k += 1;
+    for i in us {
+        bump(uses, *i);
     }
 }
 
-// The n side entries from s on, or as many as there are.
-fn stretch<'a>(side: &'a [u64], s: u64, n: u64) -> &'a [u64]
+// The n side entries from s on, or as many as there are. Ruled out: the entries from the one after s; no entries where there are fewer than n.
+pub fn stretch<'a>(side: &'a [u64], s: u64, n: u64) -> &'a [u64]
     ensures { result.now ≡ take n (drop s side.now) }
 {
-    let m = side.len();
-    let a = s as usize;
-    let l = n as usize;
-    if a > m {
-        return &side[0..0];
-    }
-    if l > m - a {
-        return &side[a..m];
-    }
-    &side[a..a + l]
+    let from = (s as usize).min(side.len());
+    let rest = &side[from..];
+    let to = (n as usize).min(rest.len());
+    &rest[..to]
 }
 
-fn bump_side(uses: &mut [u8], side: &[u64], s: u64, n: u64)
-    ensures { uses.new ≡ counted uses.old (take n (drop s side.now)) }
+// The side entries of n stores from s on, two for each. More stores than entries have no more than all of them, so that the product fits.
+// Ruled out: one entry for each; a product that wraps.
+pub fn stores<'a>(side: &'a [u64], s: u64, n: u64) -> &'a [u64]
+    ensures { result.now ≡ take (2 * n) (drop s side.now) }
 {
-    bump_each(uses, stretch(side, s, n));
-}
-
-// Two side entries for each store. More stores than entries read no more than all of them, so that the product fits.
-fn pairs(side: &[u64], n: u64) -> u64
-    ensures { result ≡ 2 * min n (length side.now) }
-{
-    let m = side.len() as u64;
-    if n < m { 2 * n } else { 2 * m }
+    let most = side.len() as u64;
+    stretch(side, s, 2 * n.min(most))
 }
 
 // ---------------------------------------------------------------- the operands of a node
 
-fn bump_two(uses: &mut [u8], a: u64, b: u64)
-    ensures { uses.new ≡ counted uses.old (a ∷ b ∷ []) }
-{
-    bump(uses, a);
-    bump(uses, b);
-}
-
-fn bump_three(uses: &mut [u8], a: u64, b: u64, c: u64)
-    ensures { uses.new ≡ counted uses.old (a ∷ b ∷ c ∷ []) }
-{
-    bump_two(uses, a, b);
-    bump(uses, c);
-}
-
-// One more use of a select's index, and of two side entries for each store: the store's index and its value.
-fn bump_select(uses: &mut [u8], side: &[u64], index: u64, s: u64, n: u64)
-    ensures { uses.new ≡ counted uses.old (index ∷ take (2 * n) (drop s side.now)) }
-{
-    bump(uses, index);
-    bump_side(uses, side, s, pairs(side, n));
-}
-
 // One more use of each operand of a node that is itself a node, by the node's shape.
+#[tactic(auto, unfolding(echo_spec::specs::Sharing::uses_as, crate::specs::Counts::counted))]
 fn bump_node(uses: &mut [u8], side: &[u64], node: Node)
     ensures { uses.new ≡ counted uses.old (uses_as side.now (node_of node) (shape (node_of node))) }
 {
-    let s = blast_kernel::codes::shape(node.kind);
-    match s {
-        VAR => {}
-        CONST => {}
-        BINARY => bump_two(uses, node.a, node.b),
-        ROTATION => bump_two(uses, node.a, node.b),
-        EXTRACTION => bump(uses, node.c),
-        CONCAT => bump_two(uses, node.a, node.b),
-        EXTENSION => bump(uses, node.a),
-        ITE => bump_three(uses, node.a, node.b, node.c),
-        COMPARISON => bump_two(uses, node.a, node.b),
-        NEGATION => bump(uses, node.a),
-        CONNECTIVE => bump_two(uses, node.a, node.b),
-        UNARY => bump(uses, node.a),
-        SELECT => bump_select(uses, side, node.b, node.c, node.d),
-        CALL => bump_side(uses, side, node.c, node.d),
-        _ => {}
+    match Shape::from(node.kind) {
+        Shape::Var => {}
+        Shape::Const => {}
+        Shape::Binary => bump_each(uses, &[node.a, node.b]),
+        Shape::Rotation => bump_each(uses, &[node.a, node.b]),
+        Shape::Extraction => bump(uses, node.c),
+        Shape::Concat => bump_each(uses, &[node.a, node.b]),
+        Shape::Extension => bump(uses, node.a),
+        Shape::Ite => bump_each(uses, &[node.a, node.b, node.c]),
+        Shape::Comparison => bump_each(uses, &[node.a, node.b]),
+        Shape::Negation => bump(uses, node.a),
+        Shape::Connective => bump_each(uses, &[node.a, node.b]),
+        Shape::Unary => bump(uses, node.a),
+        Shape::Select => {
+            bump(uses, node.b);
+            bump_each(uses, stores(side, node.c, node.d));
+        }
+        Shape::Call => bump_each(uses, stretch(side, node.c, node.d)),
+        Shape::Unknown => {}
     }
 }
 
@@ -129,41 +97,26 @@ fn bump_node(uses: &mut [u8], side: &[u64], node: Node)
 pub fn count_operands(uses: &mut [u8], nodes: &[u8], side: &[u64])
     ensures { uses.new ≡ counted uses.old (uses_of_all side.now (nodes_of nodes.now)) }
 {
-    let n = lent::node_count(nodes);
-    let mut i = 0;
-    while i < n {
-        bump_node(uses, side, lent::node_at(nodes, i));
-        i += 1;
+    for i in 0..node_count(nodes) {
+        bump_node(uses, side, node_at(nodes, i));
     }
 }
 
-fn count_roots(uses: &mut [u8], roots: &[u64])
-    ensures { uses.new ≡ counted uses.old roots.now }
+// And those of the roots.
+fn count_uses(uses: &mut [u8], nodes: &[u8], side: &[u64], roots: &[u64])
+    ensures { uses.new ≡ counted uses.old (uses_of_all side.now (nodes_of nodes.now) ++ roots.now) }
 {
+    count_operands(uses, nodes, side);
     bump_each(uses, roots);
 }
 
 // ---------------------------------------------------------------- the test
 
-// Is a node of this kind a variable or a constant?
-fn is_leaf(kind: u8) -> bool
-    ensures { result ≡ is_leaf (shape_of kind) }
-{
-    let s = blast_kernel::codes::shape(kind);
-    match s {
-        VAR => true,
-        CONST => true,
-        _ => false,
-    }
-}
-
+// May a node of this kind be used so often: a variable and a constant may, and the others once.
 fn used_once(kind: u8, count: u8) -> bool
     ensures { result ≡ is_leaf (shape_of kind) || leb count 1 }
 {
-    if is_leaf(kind) {
-        return true;
-    }
-    count <= 1
+    Shape::from(kind).is_leaf() || count <= 1
 }
 
 // Is no operator node used twice? Ruled out: a constant used twice refused; the last node left out.
@@ -171,14 +124,11 @@ pub fn no_shared(uses: &[u8], nodes: &[u8]) -> bool
     requires { length (nodes_of nodes.now) ≤ length uses.now }
     ensures { result ≡ every_from (once_in uses.now (nodes_of nodes.now)) 0 (length (nodes_of nodes.now)) }
 {
-    let n = lent::node_count(nodes);
-    let mut i = 0;
-    while i < n {
-        let node = lent::node_at(nodes, i);
+    for i in 0..node_count(nodes) {
+        let node = node_at(nodes, i);
         if !used_once(node.kind, uses[i]) {
             return false;
         }
-        i += 1;
     }
     true
 }
@@ -191,46 +141,42 @@ pub fn unshared(nodes: &[u8], side: &[u64], roots: &[u64]) -> bool
     ensures { result ≡ «Unshared-of» (nodes_of nodes.now) side.now roots.now }
 {
     let mut uses = [0u8; MAX_NODES];
-    count_operands(&mut uses, nodes, side);
-    count_roots(&mut uses, roots);
+    count_uses(&mut uses, nodes, side, roots);
     no_shared(&uses, nodes)
 }
 
 // ---------------------------------------------------------------- the table of shared operators
 
-// 0 for what is used once at most, 1 for the rest.
-fn flag(once: bool) -> u8
-    ensures { result ≡ cond (not once) 1 0 }
+// For each node whether it is an operator that is used twice or more. Past the nodes none is.
+fn shared_table(uses: &[u8; MAX_NODES], nodes: &[u8]) -> [bool; MAX_NODES]
+    requires { length (nodes_of nodes.now) ≤ 2048 }
+    ensures { Flags (λ j. ltb j (length (nodes_of nodes.now)) && not (once_in uses.now (nodes_of nodes.now) j)) result }
 {
-    if once { 0 } else { 1 }
-}
-
-// 1 for each operator node that is used twice or more, in place of the counts.
-fn keep_shared(uses: &mut [u8], nodes: &[u8])
-    requires { length (nodes_of nodes.now) ≤ length uses.old }
-    ensures { Flags (λ j. not (once_in uses.old (nodes_of nodes.now) j)) (length (nodes_of nodes.now)) uses.new }
-{
-    let n = lent::node_count(nodes);
-    let mut i = 0;
-    while i < n {
-        let node = lent::node_at(nodes, i);
-        let f = flag(used_once(node.kind, uses[i]));
-        uses[i] = f;
-        i += 1;
+    let mut shared = [false; MAX_NODES];
+    for i in 0..node_count(nodes) {
+        let node = node_at(nodes, i);
+        shared[i] = !used_once(node.kind, uses[i]);
     }
+    shared
 }
 
-// Is some operator node used twice or more, and which are. The table is 0 at first; where there is none it may hold anything.
+// Which operator nodes are used twice or more, where some are.
 // Ruled out: a node that is reached twice and used once taken for shared; a call without arguments left out; the table of another problem.
-pub fn shared_nodes(nodes: &[u8], side: &[u64], roots: &[u64], table: &mut [u8; MAX_NODES]) -> bool
-    requires { (length nodes.now ≤ 34816) × (table.old ≡ replicate 2048 0) }
-    ensures { SharedIn (nodes_of nodes.now) side.now roots.now result table.new }
+pub fn shared_nodes(nodes: &[u8], side: &[u64], roots: &[u64]) -> Option<[bool; MAX_NODES]>
+    requires { length nodes.now ≤ 34816 }
+    ensures { SharedIn (nodes_of nodes.now) side.now roots.now result }
 {
-    count_operands(table, nodes, side);
-    count_roots(table, roots);
-    if no_shared(table, nodes) {
-        return false;
+    let mut uses = [0u8; MAX_NODES];
+    count_uses(&mut uses, nodes, side, roots);
+    if no_shared(&uses, nodes) {
+        return None;
     }
-    keep_shared(table, nodes);
-    true
+    Some(shared_table(&uses, nodes))
+}
+
+// Is x a node that is shared, by the table of them. Ruled out: the node after it; the last node past the end.
+pub fn flagged(shared: &[bool], x: u64) -> bool
+    ensures { result ≡ get_or shared.now x false }
+{
+    shared.get(x as usize).copied().unwrap_or(false)
 }

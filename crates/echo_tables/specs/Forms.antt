@@ -21,7 +21,6 @@ use Rattle.echo_spec.specs.Shapes.{
 }
 use Rattle.echo_spec.specs.Input.{Node}
 use Rattle.echo_spec.specs.Walk.{Operand, vector, formula, levels, operands_as}
-use Rattle.blast_kernel.specs.Codes.{code_of, shape_coded, in-arm, NoneOf, past-arms}
 use Rattle.echo_tables.specs.declared.Form.{Form}
 use Rattle.echo_tables.specs.declared.Form.TheVariants.{Leaf, One, Two, Choice, Chain, Arguments}
 
@@ -56,13 +55,6 @@ form_operands side (Chain j s n) = levels n (drop s side) ++ (vector j ∷ [])
 form_operands side (Arguments s n) = map vector (take n (drop s side))
 
 -- ---------------------------------------------------------------- laws
-
--- an arm of a match on the code of a shape
-pub arm : {A : Type 0} {x : A} {r : ℕ} (F : Shape → A) (s : Shape) → r ≡ code_of s → (k : ℕ) → r ≡ k → x ≡ F (shape_coded k) → x ≡ F s
-arm F s e k f h = h ∙ ap F (sym (in-arm s e f))
-
-pub arm-past : {A : Type 0} {x : A} {r : ℕ} (F : Shape → A) (s : Shape) → r ≡ code_of s → NoneOf 14 r → x ≡ F unknown → x ≡ F s
-arm-past F s e t h = h ∙ ap F (sym (past-arms s e t))
 
 pub call-leaf : (s : ℕ) {n : ℕ} → n ≡ 0 → Leaf ≡ call_form s n
 unfolding call_form

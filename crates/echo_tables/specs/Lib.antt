@@ -2,5 +2,7 @@ pub mod Found
 pub mod Steps
 pub mod Forms
 pub mod Refused
-pub mod Asked
+pub mod Marks
 pub mod Uses
+pub mod Filling
+pub mod Asked

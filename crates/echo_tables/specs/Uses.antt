@@ -8,6 +8,8 @@ use borrow.Author.Tests.{not-true, not-false}
 use Rattle.std.proofs.Math.ListN.{get_or}
 use Rattle.std.proofs.Math.Seq.{get_or-drop}
 use Rattle.echo_spec.specs.Refusals.{unless, ◌or_else◌}
+use Rattle.refusals.specs.declared.EchoError.{EchoError}
+use Rattle.refusals.specs.Numbers.{error_number, error-number}
 use Rattle.echo_spec.specs.Shapes.{
   Shape,
   var,
@@ -32,21 +34,15 @@ use Rattle.echo_spec.specs.Widths.{index_width_of, value_width_of, ext_wf_of}
 use Rattle.echo_spec.specs.NodeLaws.{Pairs, Formed}
 use Rattle.echo_spec.proofs.NodeLaws.{facts}
 use Rattle.echo_spec.specs.Walk.{asked_as, asked, Operand, vector, levels, walk_all, sort_ok, walk}
-use Rattle.lent.specs.Arrays.{Slice, problem_at, dag_at}
-use Rattle.blast_kernel.specs.Codes.{code_of, code-small}
 use Rattle.echo_tables.specs.declared.Form.{Form}
 use Rattle.echo_tables.specs.declared.Form.TheVariants.{Leaf, One, Two, Choice, Chain, Arguments}
 use Rattle.echo_tables.specs.Forms.{call_form, form_as, form_operands, form-operands}
+use Rattle.lent.specs.declared.Problem.{Problem as Lent}
+use Rattle.lent.specs.Lent.{problem_at, dag_at}
+use Rattle.echo_tables.specs.declared.Mark.{Mark}
+use Rattle.echo_tables.specs.Marks.{use_of}
+use Rattle.echo_tables.specs.Filling.{Measured, MarkedTo, Marking}
 use Rattle.echo_tables.specs.Refused.{Each, operands_of, refused_at, all_same, operands-low, walk_is}
-use Rattle.echo_tables.specs.Asked.{MarkedTo, Marking}
-
--- has the node with this number in the table a shape that is a Bool
-abbrev pub bool_number : ℕ → Bool
-bool_number c = leb 8 (c % 16) && leb (c % 16) 10
-
--- node x where a Bool is wanted, or a bit-vector: 3 where it has the other sort, else what its number says
-unfoldable pub use_of : List ℕ → ℕ → Bool → ℕ
-use_of t x w = unless (sort_ok w (bool_number (get_or t x 0))) 3 or_else (get_or t x 0 / 16)
 
 -- the side entries that a form names are there
 abbrev pub FormInside : List ℕ → Form → Type 0
@@ -81,52 +77,17 @@ module _ (m n : ℕ) {r whole : ℕ} (e : (m or_else n) ≡ whole) (is : r ≡ m
   pub goes_on : r ≤ 0 → n ≡ whole
   goes_on h = let z : m ≡ 0 = omega arith in rw z at e
 
+-- a check that refuses ends a list of checks, and one that passes leaves the rest
+pub else_stops : (e : EchoError) (m n : ℕ) → error_number e ≡ m → error_number e ≡ (m or_else n)
+else_stops e m n h = stops m n refl h (omega (arith, error-number e))
+
+pub else_goes : (m n : ℕ) {r : ℕ} → 0 ≡ m → r ≡ n → r ≡ (m or_else n)
+else_goes m n z e = rw (← z) e
+
 pub walk-append : (below : ℕ → Bool → ℕ) (os ps : List Operand) → walk_all below (os ++ ps) ≡ (walk_all below os or_else walk_all below ps)
 unfolding walk_all
 walk-append below [] ps = refl
 walk-append below (o ∷ os) ps = rw (walk-append below os ps) (else-assoc (below o.node o.bool) (walk_all below os) (walk_all below ps))
-
--- ---------------------------------------------------------------- a use
-
-module _ (t : List ℕ) (x : ℕ) (w : Bool) {c : ℕ} (is : c ≡ get_or t x 0) {b : Bool} (has : b ≡ bool_number c) {k : Bool} (ok : k ≡ sort_ok w b) where
-  sort-is : sort_ok w (bool_number (get_or t x 0)) ≡ k
-  sort-is = rw (← is, ← has) (sym ok)
-
-  pub use-sort : not k ≡ true → 3 ≡ use_of t x w
-  unfolding use_of
-  use-sort h = rw (sort-is, not-true k h) refl
-
-  pub use-own : not k ≡ false → c / 16 ≡ use_of t x w
-  unfolding use_of
-  use-own h = rw (sort-is, not-false k h) (ap (λ (m : ℕ). m / 16) is)
-
-bool-coded : (s : Shape) → (leb 8 (code_of s) && leb (code_of s) 10) ≡ is_bool s
-unfolding code_of is_bool
-bool-coded var = refl
-bool-coded const = refl
-bool-coded binary = refl
-bool-coded rotation = refl
-bool-coded extraction = refl
-bool-coded concat = refl
-bool-coded extension = refl
-bool-coded ite = refl
-bool-coded comparison = refl
-bool-coded negation = refl
-bool-coded connective = refl
-bool-coded unary = refl
-bool-coded select = refl
-bool-coded call = refl
-bool-coded unknown = refl
-
--- a node whose number is in the table is refused as the walk refuses it
-module _ (d : Dag) (ws : List ℕ) (nbits : ℕ) (widths : ws ≡ ext_wf_of nbits d.array-widths d.side d.nodes) (counted : length ws ≡ length d.nodes) where
-  pub use-walks : (t : List ℕ) (i : ℕ) → MarkedTo d ws i t → i ≤ length d.nodes → (j : ℕ) (w : Bool) → j < i → use_of t j w ≡ walk d ws j w
-  unfolding use_of
-  use-walks t i m l j w h =
-      let s : Shape = shape (get_or d.nodes j no_node) in
-      let code : get_or t j 0 % 16 ≡ code_of s = omega (arith, m.at j h, code-small s) in
-      let own : get_or t j 0 / 16 ≡ refused_at d ws j = omega (arith, m.at j h, code-small s) in
-      rw (code, own, bool-coded s) (sym (walk_is d ws nbits widths counted j (omega arith) w))
 
 -- ---------------------------------------------------------------- operands in a list, and in pairs
 
@@ -190,12 +151,20 @@ module _ (below : ℕ → Bool → ℕ) where
           sym (else-assoc (below (get_or side (s + (m + m)) 0) false) (below (get_or side (s + (m + m) + 1) 0) false) (walk_all below (levels m (drop s side))))
           ∙ (rw (o, get_or-drop s side (m + m) 0, get_or-drop s side (m + m + 1) 0, p) at e)
 
-      module _ {r : ℕ} (is : r ≡ (below (get_or side (s + (m + m)) 0) false or_else below (get_or side (s + (m + m) + 1) 0) false)) where
-        pub pair-stops : 0 < r → r ≡ whole
-        pair-stops = stops _ _ pair-opens is
+      -- its index, its value, and the pairs before it
+      module _ {r : ℕ} (index : r ≡ below (get_or side (s + (m + m)) 0) false) where
+        both : (r or_else below (get_or side (s + (m + m) + 1) 0) false or_else walk_all below (levels m (drop s side))) ≡ whole
+        both = rw (index, else-assoc (below (get_or side (s + (m + m)) 0) false) (below (get_or side (s + (m + m) + 1) 0) false) (walk_all below (levels m (drop s side)))) pair-opens
 
-        pub pair-passes : r ≤ 0 → walk_all below (levels (n - 1) (drop s side)) ≡ whole
-        pair-passes = goes_on _ _ pair-opens is
+        pub index-stops : 0 < r → r ≡ whole
+        index-stops = stops r _ both refl
+
+        module _ (z : r ≤ 0) {q : ℕ} (value : q ≡ below (get_or side (s + (m + m) + 1) 0) false) where
+          pub value-stops : 0 < q → q ≡ whole
+          value-stops = stops _ _ (goes_on r _ both refl z) value
+
+          pub pair-passes : q ≤ 0 → walk_all below (levels (n - 1) (drop s side)) ≡ whole
+          pair-passes = goes_on _ _ (goes_on r _ both refl z) value
 
     pub pairs_end : n ≤ 0 → 0 ≡ whole
     unfolding walk_all levels
@@ -265,20 +234,28 @@ pub node-inside : (nbits : ℕ) (arrays : ArrayWidths) (side : List ℕ) (ns : L
     → FormInside side (form_as (get_or ns i no_node) (shape (get_or ns i no_node)))
 node-inside nbits arrays side ns i h = form-inside (ext_wf_of nbits arrays side ns) i nbits arrays side (get_or ns i no_node) (shape (get_or ns i no_node)) (facts nbits arrays side ns i h).form
 
--- ---------------------------------------------------------------- node i, where the table is filled up to it
+-- ---------------------------------------------------------------- node i, where the marks are made up to it
 
-module _ (b n : List Slice) {ws entry first codes : List ℕ} {i : ℕ} {m : Node} (h : Marking b n ws entry first codes i m) {f : Form} (is : f ≡ form_as m (shape m)) where
+-- a node whose mark is made is refused as the walk refuses it
+module _ (d : Dag) (ws : List ℕ) (nbits : ℕ) (widths : ws ≡ ext_wf_of nbits d.array-widths d.side d.nodes) (counted : length ws ≡ length d.nodes) where
+  pub use-walks : (t : List Mark) (i : ℕ) → MarkedTo d ws i t → i ≤ length d.nodes → (j : ℕ) (w : Bool) → j < i → use_of t j w ≡ walk d ws j w
+  unfolding use_of
+  use-walks t i m l j w h =
+      let k = m.at j h in
+      rw (k.shaped, k.refused) (sym (walk_is d ws nbits widths counted j (omega arith) w))
+
+module _ (p : Lent) {ws : List ℕ} {t : List Mark} {i : ℕ} {m : Node} (measured : Measured p ws) (h : Marking p ws t i m) {f : Form} (is : f ≡ form_as m (shape m)) where
   abbrev d : Dag
-  d = dag_at b n
+  d = dag_at p
 
   abbrev nbits : ℕ
-  nbits = length (problem_at b n).bits
+  nbits = length (problem_at p).bits
 
   form-is : f ≡ form_as (get_or d.nodes i no_node) (shape (get_or d.nodes i no_node))
   form-is = is ∙ ap (λ (x : Node). form_as x (shape x)) h.node
 
   pub marking-inside : FormInside d.side f
-  marking-inside = rw form-is (node-inside nbits d.array-widths d.side d.nodes i (rw (← h.measured.widths, h.measured.counted) h.here))
+  marking-inside = rw form-is (node-inside nbits d.array-widths d.side d.nodes i (rw (← measured.widths, measured.counted) h.here))
 
   module _ {a : ℕ} (asks : a ≡ asked_as d ws i m (shape m)) where
     asks-own : a ≡ asked d ws i
@@ -289,12 +266,12 @@ module _ (b n : List Slice) {ws entry first codes : List ℕ} {i : ℕ} {m : Nod
     unfolding refused_at
     marking-asked = stops (asked d ws i) (walk_all (walk d ws) (operands_of d i)) refl asks-own
 
-    pub marking-operands : a ≤ 0 → {r : ℕ} → r ≡ walk_all (use_of codes) (form_operands d.side f) → r ≡ refused_at d ws i
+    pub marking-operands : a ≤ 0 → {r : ℕ} → r ≡ walk_all (use_of t) (form_operands d.side f) → r ≡ refused_at d ws i
     unfolding refused_at
     marking-operands z e =
         let own : Node = get_or d.nodes i no_node in
-        let same = use-walks d ws nbits h.measured.widths h.measured.counted codes i h.filled (omega (arith, h.here)) in
-        e ∙ ap (λ (g : Form). walk_all (use_of codes) (form_operands d.side g)) form-is
-        ∙ ap (walk_all (use_of codes)) (form-operands d.side own (shape own))
-        ∙ all_same (use_of codes) (walk d ws) i same (operands_of d i) (operands-low d ws nbits h.measured.widths h.measured.counted i h.here)
+        let same = use-walks d ws nbits measured.widths measured.counted t i h.filled (omega (arith, h.here)) in
+        e ∙ ap (λ (g : Form). walk_all (use_of t) (form_operands d.side g)) form-is
+        ∙ ap (walk_all (use_of t)) (form-operands d.side own (shape own))
+        ∙ all_same (use_of t) (walk d ws) i same (operands_of d i) (operands-low d ws nbits measured.widths measured.counted i h.here)
         ∙ goes_on (asked d ws i) (walk_all (walk d ws) (operands_of d i)) refl asks-own z

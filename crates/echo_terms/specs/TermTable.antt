@@ -1,22 +1,16 @@
 -- Counts of terms, held at the largest number of 64 bits, in a table that is filled node by node.
-use Rattle.std.specs.Prelude.{ℕ, zero, suc, ◌+◌, ◌/◌, ◌-◌, ◌≤◌, ◌<◌, min, ◌≡◌, refl, List, [], ◌∷◌, ◌++◌, map, Bool, ◌≢◌, length, take, drop, get_or, set, replicate}
-use Rattle.std.proofs.Common.{ap, ◌∙◌, drop_of_length-le, drop-cons, get_or-set_other}
-use Rattle.std.proofs.Math.Path.{sym, subst}
-use Rattle.std.proofs.Math.Bool.{true, false}
-use native.Mathlib.Omega.{arith}
-use Rattle.std.proofs.Math.Numerals.{add-one}
-use Rattle.std.proofs.Math.Dec.{T, eqb, eqb→eq, eqb_refl}
-use Rattle.std.proofs.Math.ListN.{length-set}
+use Rattle.std.specs.Prelude.{ℕ, zero, suc, ◌+◌, ◌*◌, ◌≤◌, ◌<◌, min, ◌≡◌, refl, List, [], ◌∷◌, Bool, true, false, eqb, length, take, drop, get_or, set, replicate}
+use Rattle.std.specs.List.{fold}
+use Rattle.std.proofs.Common.{ap, sym, ◌∙◌, arith, add-one, eqb-true, length-set, get_or-set_same, get_or-set_other}
+use Rattle.std.proofs.lemmas.Bool.{eqb-false}
 use Rattle.std.proofs.lemmas.List.{length-replicate}
-use Rattle.std.proofs.Math.Seq.{get_or-set_same}
-use Rattle.lists.specs.Tests.{true→T}
 use Rattle.lists.specs.Build.{upto}
 use Rattle.echo_spec.specs.Input.{ArrayWidths, Node, shape, no_node, largest, node_at, nodes_of}
 use Rattle.echo_spec.specs.Widths.{ext_wf_of}
 use Rattle.echo_spec.specs.Walk.{Operand, vector, levels, operands_as}
 use Rattle.lent.specs.Records.{nodes-length, nodes-at}
 use Rattle.echo_tables.specs.declared.Form.{Form}
-use Rattle.echo_tables.specs.declared.Form.TheVariants.{Leaf, One, Two, Choice, Chain, Arguments}
+use Rattle.echo_tables.specs.declared.Form.TheVariants.{Chain, Arguments}
 use Rattle.echo_tables.specs.Forms.{form_as, form_operands, form-operands}
 use Rattle.echo_tables.specs.Uses.{FormInside, node-inside}
 use Rattle.sizes.specs.Sums.{sum_over, sum-append, sum-map}
@@ -47,34 +41,16 @@ pub record Countable (nodes side : List ℕ) : Type 0 where
 
 -- ---------------------------------------------------------------- a list of nodes
 
-counted_none : (t : List ℕ) (c : ℕ) → c ≤ largest → c ≡ counted t c []
+-- as a loop over it has it
+pub counted-fold : (t : List ℕ) (c : ℕ) (xs : List ℕ) → c ≤ largest → fold (λ s x. held (s + entry t x)) c xs ≡ counted t c xs
 unfolding counted sum_over
-counted_none t c h = omega arith
-
-counted-more : (t : List ℕ) (c x : ℕ) (xs : List ℕ) {r : ℕ} → r ≡ held (c + entry t x) → counted t r xs ≡ counted t c (x ∷ xs)
-unfolding counted sum_over
-counted-more t c x xs e = omega arith
-
--- from place k on
-module _ (t : List ℕ) (c : ℕ) (xs : List ℕ) (k : ℕ) {whole : ℕ} (e : counted t c (drop k xs) ≡ whole) where
-  pub counted_next : k < length xs → {a r : ℕ} → a ≡ entry t (get_or xs k 0) → r ≡ held (c + a) → counted t r (drop (k + 1) xs) ≡ whole
-  counted_next h p q = counted-more t c (get_or xs k 0) (drop (k + 1) xs) (q ∙ ap (λ (n : ℕ). held (c + n)) p) ∙ rw add-one (rw (drop-cons xs k 0 h) at e)
-
-  pub counted-end : length xs ≤ k → c ≤ largest → c ≡ whole
-  counted-end h l = counted_none t c l ∙ (rw (drop_of_length-le xs h) at e)
-
--- no pair, or some from place s on
-module _ (t side : List ℕ) (c s n : ℕ) where
-  pub pairs-none : n ≡ 0 → c ≤ largest → c ≡ counted t c (take (n + n) (drop s side))
-  pairs-none e h = rw e (counted_none t c h)
-
-  pub pairs-some : {r : ℕ} → r ≡ counted t c (take (s + (n + n) - s) (drop s side)) → r ≡ counted t c (take (n + n) (drop s side))
-  pairs-some e = let z : s + (n + n) - s ≡ n + n = omega arith in rw z at e
+counted-fold t c [] h = omega arith
+counted-fold t c (x ∷ xs) h = let e = counted-fold t (held (c + entry t x)) xs (omega arith) in omega arith
 
 -- ---------------------------------------------------------------- a form
 
 -- the sum of the entries of n pairs, in the order of the side entries
-pairs-sum : (f : ℕ → ℕ) (n : ℕ) (side : List ℕ) → n + n ≤ length side → sum_over (λ (o : Operand). f o.node) (levels n side) ≡ sum_over f (take (n + n) side)
+pairs-sum : (f : ℕ → ℕ) (n : ℕ) (side : List ℕ) → n + n ≤ length side → sum_over (λ (o : Operand). f o.node) (levels n side) ≡ sum_over f (take (2 * n) side)
 unfolding levels sum_over
 pairs-sum f zero side h = refl
 pairs-sum f (suc n) [] h = absurd (omega arith)
@@ -82,44 +58,21 @@ pairs-sum f (suc n) (x ∷ []) h = absurd (omega arith)
 pairs-sum f (suc n) (x ∷ v ∷ side) h =
     let a = pairs-sum f n side (omega arith) in
     let b = sum-append (λ (o : Operand). f o.node) (levels n side) (vector x ∷ vector v ∷ []) in
-    let e : suc n + suc n ≡ suc (suc (n + n)) = omega arith in
+    let e : 2 * suc n ≡ suc (suc (2 * n)) = omega arith in
     rw e (omega arith)
 
-module _ (t : List ℕ) (c : ℕ) (side : List ℕ) {f : Form} where
-  -- in the arm of a match on a form
-  pub leaf-sum : f ≡ Leaf → c ≤ largest → c ≡ form_sum t c side f
-  unfolding form_sum sum_over
-  leaf-sum q h = rw q (omega arith)
-
-  pub one-sum : {a : ℕ} {w : Bool} → f ≡ One a w → {x r : ℕ} → x ≡ entry t a → r ≡ held (c + x) → r ≡ form_sum t c side f
-  unfolding form_sum sum_over
-  one-sum q p e = rw q (omega arith)
-
-  pub two-sum : {a b : ℕ} {w : Bool} → f ≡ Two a b w → {x y s r : ℕ} → x ≡ entry t a → s ≡ held (c + x) → y ≡ entry t b → r ≡ held (s + y)
-      → r ≡ form_sum t c side f
-  unfolding form_sum sum_over
-  two-sum q p e p' e' = rw q (omega arith)
-
-  pub choice-sum : {a b d : ℕ} → f ≡ Choice a b d → {x y z s s' r : ℕ} → x ≡ entry t a → s ≡ held (c + x) → y ≡ entry t b → s' ≡ held (s + y)
-      → z ≡ entry t d → r ≡ held (s' + z) → r ≡ form_sum t c side f
-  unfolding form_sum sum_over
-  choice-sum q p e p' e' p'' e'' = rw q (omega arith)
-
-  pub chain-sum : {j s n : ℕ} → f ≡ Chain j s n → n + n ≤ length (drop s side) → {x k r : ℕ} → x ≡ entry t j → k ≡ held (c + x)
-      → r ≡ counted t k (take (n + n) (drop s side)) → r ≡ form_sum t c side f
+module _ (t : List ℕ) (c : ℕ) (side : List ℕ) (s n : ℕ) where
+  -- a chain's index, and then its stores
+  pub chain-sum : (j : ℕ) → n + n ≤ length (drop s side) → counted t (counted t c (j ∷ [])) (take (2 * n) (drop s side)) ≡ form_sum t c side (Chain j s n)
   unfolding form_sum counted sum_over
-  chain-sum {j} {s} {n} q h p e g =
+  chain-sum j h =
       let a = pairs-sum (entry t) n (drop s side) h in
       let b = sum-append (λ (o : Operand). entry t o.node) (levels n (drop s side)) (vector j ∷ []) in
-      rw q (omega arith)
+      omega arith
 
-  pub arguments-sum : {s n : ℕ} → f ≡ Arguments s n → {r : ℕ} → r ≡ counted t c (take (s + n - s) (drop s side)) → r ≡ form_sum t c side f
+  pub arguments-sum : counted t c (take n (drop s side)) ≡ form_sum t c side (Arguments s n)
   unfolding form_sum counted
-  arguments-sum {s} {n} q e =
-      let z : s + n - s ≡ n = omega arith in
-      let a = sum-map (λ (o : Operand). entry t o.node) vector (take n (drop s side)) in
-      let e' = rw z at e in
-      rw q (omega arith)
+  arguments-sum = let a = sum-map (λ (o : Operand). entry t o.node) vector (take n (drop s side)) in omega arith
 
 -- ---------------------------------------------------------------- the table
 
@@ -171,12 +124,9 @@ module _ {t side nodes : List ℕ} {i : ℕ} (c : Countable nodes side) (f : Fil
         by_place : x ≡ held (count_step side (nodes_of nodes) (counts_below side (nodes_of nodes) i) i) → (j : ℕ) (b : Bool) → eqb j i ≡ b
             → entry (set t i x) j ≡ held (counts_below side (nodes_of nodes) (suc i) j)
         by_place value j true p =
-            let q : j ≡ i = eqb→eq j i (true→T p) in
             let g : entry (set t i x) i ≡ x = get_or-set_same t i x 1 (omega (arith, f.long, c.within, nodes-length nodes)) in
-            rw (p, upto) (ap (entry (set t i x)) q ∙ g ∙ value)
-        by_place value j false p =
-            let far : j ≢ i = λ q. subst T p (subst (λ (y : ℕ). T (eqb j y)) q (eqb_refl j)) in
-            rw (p, upto) (get_or-set_other t i j x 1 far ∙ f.at j)
+            rw (p, upto) (ap (entry (set t i x)) (eqb-true j i p) ∙ g ∙ value)
+        by_place value j false p = rw (p, upto) (get_or-set_other t i j x 1 (eqb-false j i p) ∙ f.at j)
 
 pub filled-sum : {t side nodes : List ℕ} {n : ℕ} → Filled t side nodes n → n ≡ length (nodes_of nodes) → (roots : List ℕ) {r : ℕ} → r ≡ counted t 0 roots
     → r ≡ held (sum_over (counts_below side (nodes_of nodes) (length (nodes_of nodes))) roots)
@@ -184,15 +134,3 @@ unfolding counted
 filled-sum {t} {side} {nodes} {n} f e roots q =
     let a = sums-held t (counts_below side (nodes_of nodes) n) f.at (λ (x : ℕ). x) 0 roots in
     rw (← e) (omega arith)
-
--- ---------------------------------------------------------------- single entries
-
-pub entry_in : (t : List ℕ) (i : ℕ) → i < length t → get_or t i 0 ≡ entry t i
-entry_in [] i h = absurd (omega arith)
-entry_in (x ∷ t) zero h = refl
-entry_in (x ∷ t) (suc i) h = entry_in t i (omega arith)
-
-pub entry_past : (t : List ℕ) (i : ℕ) → length t ≤ i → 1 ≡ entry t i
-entry_past [] i h = refl
-entry_past (x ∷ t) zero h = absurd (omega arith)
-entry_past (x ∷ t) (suc i) h = entry_past t i (omega arith)

@@ -1,37 +1,18 @@
 -- The laws of heads: what is known of a node that passes, by its shape.
-use Prim.Native.Nat.{ℕ, suc, ◌+◌, ◌-◌, ◌*◌, ◌/◌, ◌%◌, ◌≤◌, ◌<◌}
+use Prim.Native.Nat.{ℕ, ◌+◌, ◌-◌, ◌%◌, ◌≤◌, ◌<◌}
 use mathlib.Core.Path.{◌≡◌, refl, sym, ap, ◌∙◌, subst}
-use mathlib.Core.Bool.{Bool, true, false, ◌||◌, not}
+use mathlib.Core.Bool.{Bool, true, false}
 use mathlib.Core.List.{List, [], ◌∷◌, ◌++◌}
 use mathlib.Core.Option.{Option, none, some}
 use native.Mathlib.Omega.{arith}
-use lib.Dec.{T, leb, ltb, eqb, ltb→lt, leb→le, nltb→le, eqb→eq}
-use lib.ListN.{length, get_or, take, drop, get_or-eq_default}
+use lib.Dec.{T, leb, ltb, eqb, ltb→lt, leb→le, eqb→eq}
+use lib.ListN.{length, get_or, take, drop}
 use Rattle.lists.specs.Bytes.{bytes}
-use Rattle.lists.specs.Tests.{every, every_from, every-at, and_0, and-1, or-not, true→T}
+use Rattle.lists.specs.Tests.{every, and_0, and-1}
 use Rattle.lists.specs.Build.{find-bound}
-use Rattle.echo_spec.specs.Shapes.{
-  Shape,
-  var,
-  const,
-  binary,
-  rotation,
-  extraction,
-  concat,
-  extension,
-  ite,
-  comparison,
-  negation,
-  connective,
-  unary,
-  select,
-  call,
-  unknown,
-  shapes,
-  shape_of,
-}
-use Rattle.echo_spec.specs.Input.{array_widths, Node, shape, nodes_of, part, names_of, Dag, dag_of, fits64, name_table, aname_table, fname_table}
-use Rattle.echo_spec.specs.Refusals.{unless, ◌or_else◌}
+use Rattle.echo_spec.specs.Shapes.{Shape, var, const, rotation, extraction, extension, select, call, unknown, shapes, is_leaf}
+use Rattle.echo_spec.specs.Input.{array_widths, Node, shape, nodes_of, part, names_of, Dag, dag_of, fits64, name_table}
+use Rattle.echo_spec.specs.Refusals.{unless}
 use Rattle.echo_spec.specs.Widths.{width_at, wf_as, node_wf}
 use Rattle.echo_spec.specs.WidthLaws.{Sized, sized, bin-operands}
 use Rattle.echo_spec.specs.Tables.{find_node}
@@ -39,18 +20,20 @@ use Rattle.echo_spec.specs.Trees.{constant_bits, bits_value, amount_of, variable
 use Rattle.echo_spec.specs.Walk.{variable_ok, rotation_ok, call_ok, asked_as, asked}
 use Rattle.echo_spec.specs.Accepted.{unless-passed, or_else-passed}
 use Rattle.echo_spec.specs.Render.{symbol_of, binary_digits, quoted, operator_text}
-use Rattle.blast_kernel.specs.Codes.{code_of}
-use Rattle.echo_tables.specs.declared.Found.{Found}
-use Rattle.echo_tables.specs.declared.Found.TheVariants.{At, Nothing}
-use Rattle.echo_tables.specs.Found.{found_of, entered, entered-found}
-use Rattle.echo_spec.specs.ColumnLaws.{Aligned}
-use Rattle.lent.specs.Arrays.{Slice, problem_at, dag_at}
+use Rattle.blast_kernel.specs.Kinds.{shape_in}
+use Rattle.blast_kernel.specs.declared.Shape as code
+use Rattle.blast_kernel.specs.declared.Shape.TheVariants as codes
+use Rattle.std.specs.Prelude.{Option as Maybe, Some, None}
+use Rattle.echo_tables.specs.declared.Mark.{Mark}
+use Rattle.echo_tables.specs.Found.{found_of, found_none, found_some}
+use Rattle.echo_walk.proofs.Laws.{shape-is}
+use Rattle.echo_walk.specs.declared.Walk.{Walk}
 use Rattle.echo_names.specs.NameTables.{length-names_of, get_or-names_of}
 use Rattle.echo_lines.specs.Heads.{repeated, call_head}
 use Rattle.echo_bytes.specs.Page.{Page, written}
 use Rattle.echo_bytes.specs.Laws.{written_then}
 use Rattle.echo_walk.specs.Texts.{head_as, head_of}
-use Rattle.echo_walk.specs.Ready.{widths_in, entries_in, code_in, node_within, head_found_at, indexed_head, Ready, Taken, Constant, Operator}
+use Rattle.echo_walk.specs.Walks.{problem_in, dag_in, widths_in, mark_in, node_within, head_found_at, indexed_head, Taken, Constant}
 
 -- ---------------------------------------------------------------- names
 
@@ -63,254 +46,243 @@ variable-name : (d : Dag) (i k : ℕ) → find_node d.var_node i ≡ some k → 
 unfolding variable_name
 variable-name d i k e = rw (e, variable_name) refl
 
-module _ (B N F : List Slice) (Y : List ℕ) (ready : Ready B N F Y) (i : ℕ) where
+module _ (W : Walk) (i : ℕ) where
   -- a variable has an entry
-  entry_of : Taken B N F i var → (k : ℕ) × (find_node (problem_at B N).var_node i ≡ some k)
+  entry_of : Taken W i var → (k : ℕ) × (find_node (problem_in W).var_node i ≡ some k)
   unfolding asked_as dag_of variable_ok
-  entry_of p = by-entry (find_node (problem_at B N).var_node i) refl (unless-passed (variable_ok (dag_at B N) i (node_within B N i)) 3 p.taken)
+  entry_of p = by-entry (find_node (problem_in W).var_node i) refl (unless-passed (variable_ok (dag_in W) i (node_within W i)) 3 p.taken)
     where
-      by-entry : (o : Option ℕ) → find_node (problem_at B N).var_node i ≡ o
-          → T (elim o [ none ↦ false | some k ↦ eqb (get_or (problem_at B N).var_width k 0) (node_within B N i).a ]) → (k : ℕ) × (find_node (problem_at B N).var_node i ≡ some k)
+      by-entry : (o : Option ℕ) → find_node (problem_in W).var_node i ≡ o
+          → T (elim o [ none ↦ false | some k ↦ eqb (get_or (problem_in W).var_width k 0) (node_within W i).a ]) → (k : ℕ) × (find_node (problem_in W).var_node i ≡ some k)
       by-entry none e h = absurd h
       by-entry (some k) e h = (k, e)
 
   -- r is what was looked up of it
-  module _ (p : Taken B N F i var) (r : Found) (e : found_of r ≡ entered (get_or (entries_in F) i 0)) where
-    entry-is : found_of r ≡ some (entry_of p).0
-    entry-is = e ∙ entered-found (find_node (problem_at B N).var_node i) (ready.entered i p.here) ∙ (entry_of p).1
+  module _ (p : Taken W i var) (r : Maybe ℕ) (e : r ≡ get_or W.entries.now i None) where
+    entry-is : r ≡ found_of (find_node (problem_in W).var_node i)
+    entry-is = e ∙ W.ready.entered i p.here
 
-    pub entry-there : {A : Type 0} → r ≡ Nothing → A
-    entry-there q = absurd (no_place (entry_of p).0 (sym (ap found_of q) ∙ entry-is))
+    pub entry-there : {A : Type 0} → r ≡ None → A
+    entry-there q = absurd (no_place (entry_of p).0 (sym (found_none (find_node (problem_in W).var_node i) (sym q ∙ entry-is)) ∙ (entry_of p).1))
       where
         no_place : (k : ℕ) → none ≡ some k → ⊥
         no_place k z = let y : ◌≡◌ {A = ℕ} 0 1 = cc in omega arith
 
-    module _ {k : ℕ} (q : r ≡ At k) where
-      own-entry : find_node (problem_at B N).var_node i ≡ some k
-      own-entry = (entry_of p).1 ∙ sym entry-is ∙ ap found_of q
+    module _ {k : ℕ} (q : r ≡ Some k) where
+      own-entry : find_node (problem_in W).var_node i ≡ some k
+      own-entry = found_some (find_node (problem_in W).var_node i) (sym q ∙ entry-is)
 
-      pub entry-inside : k < length (problem_at B N).name_start
+      pub entry-inside : k < length (problem_in W).name_start
       unfolding find_node dag_of
       entry-inside =
-          let b : k < 0 + length (problem_at B N).var_node = (find-bound (λ x. eqb x i) 0 (problem_at B N).var_node k own-entry).1 in
-          omega (arith, ready.aligned.var_node)
+          let b : k < 0 + length (problem_in W).var_node = (find-bound (λ x. eqb x i) 0 (problem_in W).var_node k own-entry).1 in
+          omega (arith, W.ready.aligned.var_node)
 
-      pub name-of-var : {x : List ℕ} → x ≡ get_or (names_of (problem_at B N).names (problem_at B N).name_start (problem_at B N).name_len) k [] → x ≡ variable_name (dag_at B N) i
+      pub name-of-var : {x : List ℕ} → x ≡ get_or (names_of (problem_in W).names (problem_in W).name_start (problem_in W).name_len) k [] → x ≡ variable_name (dag_in W) i
       unfolding dag_of
-      name-of-var ex = ex ∙ sym (variable-name (dag_at B N) i k own-entry)
+      name-of-var ex = ex ∙ sym (variable-name (dag_in W) i k own-entry)
 
-      pub head-of-var : {x : List ℕ} → x ≡ get_or (names_of (problem_at B N).names (problem_at B N).name_start (problem_at B N).name_len) k []
-          → {g h : Page} (P : Page) → g ≡ written P (32 ∷ 124 ∷ x) → h ≡ written g (124 ∷ []) → h ≡ written P (32 ∷ head_found_at B N F i var)
+      pub head-of-var : {x : List ℕ} → x ≡ get_or (names_of (problem_in W).names (problem_in W).name_start (problem_in W).name_len) k []
+          → {g h : Page} (P : Page) → g ≡ written P (32 ∷ 124 ∷ x) → h ≡ written g (124 ∷ []) → h ≡ written P (32 ∷ head_found_at W i var)
       unfolding head_as dag_of quoted bytes
       head-of-var {x} ex P v w =
           written_then P (32 ∷ 124 ∷ x) (124 ∷ []) v w ∙ ap (λ (m : List ℕ). written P (32 ∷ quoted m)) (name-of-var ex)
 
-  pub array-inside : Taken B N F i select → {m : Node} → m ≡ node_within B N i → m.a < length (problem_at B N).aname_start
+  pub array-inside : Taken W i select → {m : Node} → m ≡ node_within W i → m.a < length (problem_in W).aname_start
   unfolding asked_as dag_of
   array-inside p e =
-      let l = ltb→lt (node_within B N i).a (length (names_of (problem_at B N).anames (problem_at B N).aname_start (problem_at B N).aname_len)) (unless-passed (ltb (node_within B N i).a (length (names_of (problem_at B N).anames (problem_at B N).aname_start (problem_at B N).aname_len))) 0 p.taken) in
+      let l = ltb→lt (node_within W i).a (length (names_of (problem_in W).anames (problem_in W).aname_start (problem_in W).aname_len)) (unless-passed (ltb (node_within W i).a (length (names_of (problem_in W).anames (problem_in W).aname_start (problem_in W).aname_len))) 0 p.taken) in
       rw e (rw length-names_of at l)
 
-  pub head-of-select : {m : Node} → m ≡ node_within B N i → {x : List ℕ} → x ≡ get_or (names_of (problem_at B N).anames (problem_at B N).aname_start (problem_at B N).aname_len) m.a []
-      → {q : Page} (P : Page) → q ≡ written P (bytes "(select " ++ (repeated m.d (bytes "(store ") ++ quoted x)) → q ≡ written P (head_found_at B N F i select)
+  pub head-of-select : {m : Node} → m ≡ node_within W i → {x : List ℕ} → x ≡ get_or (names_of (problem_in W).anames (problem_in W).aname_start (problem_in W).aname_len) m.a []
+      → {q : Page} (P : Page) → q ≡ written P (bytes "(select " ++ (repeated m.d (bytes "(store ") ++ quoted x)) → q ≡ written P (head_found_at W i select)
   unfolding head_as dag_of
   head-of-select e ex P w = w ∙ rw (ex, e) refl
 
-  pub function-inside : Taken B N F i call → {m : Node} → m ≡ node_within B N i → m.a < length (problem_at B N).fname_start
+  pub function-inside : Taken W i call → {m : Node} → m ≡ node_within W i → m.a < length (problem_in W).fname_start
   unfolding asked_as dag_of
   function-inside p e =
-      let a = or_else-passed (unless (ltb (node_within B N i).a (length (names_of (problem_at B N).fnames (problem_at B N).fname_start (problem_at B N).fname_len))) 1) (unless (call_ok (dag_at B N) (widths_in F) (node_within B N i)) 7) p.taken in
-      let l = ltb→lt (node_within B N i).a (length (names_of (problem_at B N).fnames (problem_at B N).fname_start (problem_at B N).fname_len)) (unless-passed (ltb (node_within B N i).a (length (names_of (problem_at B N).fnames (problem_at B N).fname_start (problem_at B N).fname_len))) 0 a.0) in
+      let a = or_else-passed (unless (ltb (node_within W i).a (length (names_of (problem_in W).fnames (problem_in W).fname_start (problem_in W).fname_len))) 1) (unless (call_ok (dag_in W) (widths_in W) (node_within W i)) 7) p.taken in
+      let l = ltb→lt (node_within W i).a (length (names_of (problem_in W).fnames (problem_in W).fname_start (problem_in W).fname_len)) (unless-passed (ltb (node_within W i).a (length (names_of (problem_in W).fnames (problem_in W).fname_start (problem_in W).fname_len))) 0 a.0) in
       rw e (rw length-names_of at l)
 
-  pub head-of-call : {m : Node} → m ≡ node_within B N i → {x : List ℕ} → x ≡ get_or (names_of (problem_at B N).fnames (problem_at B N).fname_start (problem_at B N).fname_len) m.a []
-      → {q : Page} (P : Page) → q ≡ written P (call_head m.d (quoted x)) → q ≡ written P (head_found_at B N F i call)
+  pub head-of-call : {m : Node} → m ≡ node_within W i → {x : List ℕ} → x ≡ get_or (names_of (problem_in W).fnames (problem_in W).fname_start (problem_in W).fname_len) m.a []
+      → {q : Page} (P : Page) → q ≡ written P (call_head m.d (quoted x)) → q ≡ written P (head_found_at W i call)
   unfolding head_as dag_of
   head-of-call e ex P w = w ∙ rw (ex, e) refl
 
-  pub node-inside : {s : Shape} → Taken B N F i s → i < length (nodes_of (problem_at B N).nodes)
+  pub node-inside : {s : Shape} → Taken W i s → i < length (nodes_of (problem_in W).nodes)
   unfolding dag_of
-  node-inside p = omega (arith, p.here, ready.counted)
+  node-inside p = omega (arith, p.here, W.ready.counted)
 
   -- a rotation's amount is a node below it, a constant, and the width is from 1 to 65,536
-  amount-ok : Taken B N F i rotation → T (rotation_ok (dag_at B N) (widths_in F) i (node_within B N i))
+  amount-ok : Taken W i rotation → T (rotation_ok (dag_in W) (widths_in W) i (node_within W i))
   unfolding asked_as
-  amount-ok p = unless-passed (rotation_ok (dag_at B N) (widths_in F) i (node_within B N i)) 4 p.taken
+  amount-ok p = unless-passed (rotation_ok (dag_in W) (widths_in W) i (node_within W i)) 4 p.taken
 
-  amount-below : Taken B N F i rotation → (node_within B N i).b < i
+  amount-below : Taken W i rotation → (node_within W i).b < i
   unfolding wf_as
-  amount-below p = (bin-operands (widths_in F) i p.here (node_within B N i).a (node_within B N i).b p.formed).1
+  amount-below p = (bin-operands (widths_in W) i p.here (node_within W i).a (node_within W i).b p.formed).1
 
-  pub amount-inside : Taken B N F i rotation → {m : Node} → m ≡ node_within B N i → m.b < length (nodes_of (problem_at B N).nodes)
+  pub amount-inside : Taken W i rotation → {m : Node} → m ≡ node_within W i → m.b < length (nodes_of (problem_in W).nodes)
   amount-inside p e = rw e (omega (arith, amount-below p, node-inside p))
 
-  amount-sized : Taken B N F i rotation → T (wf_as (length (problem_at B N).bits) (array_widths (problem_at B N)) (problem_at B N).side (take (node_within B N i).b (widths_in F)) (node_within B N (node_within B N i).b) (shape (node_within B N (node_within B N i).b)))
+  amount-sized : Taken W i rotation → T (wf_as (length (problem_in W).bits) (array_widths (problem_in W)) (problem_in W).side (take (node_within W i).b (widths_in W)) (node_within W (node_within W i).b) (shape (node_within W (node_within W i).b)))
   unfolding dag_of node_wf
   amount-sized p =
-      let b : ℕ = (node_within B N i).b in
-      let l : b < length (widths_in F) = omega (arith, amount-below p, p.here) in
-      let z : Sized (length (problem_at B N).bits) (array_widths (problem_at B N)) (problem_at B N).side (widths_in F) b (node_within B N b) =
-      subst (λ (ws : List ℕ). Sized (length (problem_at B N).bits) (array_widths (problem_at B N)) (problem_at B N).side ws b (node_within B N b)) (sym ready.widths)
-      (sized (length (problem_at B N).bits) (array_widths (problem_at B N)) (problem_at B N).side (nodes_of (problem_at B N).nodes) b (rw ready.widths at l)) in
+      let b : ℕ = (node_within W i).b in
+      let l : b < length (widths_in W) = omega (arith, amount-below p, p.here) in
+      let z : Sized (length (problem_in W).bits) (array_widths (problem_in W)) (problem_in W).side (widths_in W) b (node_within W b) =
+      subst (λ (ws : List ℕ). Sized (length (problem_in W).bits) (array_widths (problem_in W)) (problem_in W).side ws b (node_within W b)) (sym W.ready.widths)
+      (sized (length (problem_in W).bits) (array_widths (problem_in W)) (problem_in W).side (nodes_of (problem_in W).nodes) b (rw W.ready.widths at l)) in
       z.wf
 
-  amount-const : Taken B N F i rotation → shape (node_within B N (node_within B N i).b) ≡ const
+  amount-const : Taken W i rotation → shape (node_within W (node_within W i).b) ≡ const
   unfolding rotation_ok dag_of shapes
   amount-const p =
-      let k = and-1 (leb (width_at (widths_in F) i) 65536) _ (and-1 (ltb 0 (width_at (widths_in F) i)) _ (amount-ok p)) in
-      rw (eqb→eq (node_within B N (node_within B N i).b).kind 1 k) refl
+      let k = and-1 (leb (width_at (widths_in W) i) 65536) _ (and-1 (ltb 0 (width_at (widths_in W) i)) _ (amount-ok p)) in
+      rw (eqb→eq (node_within W (node_within W i).b).kind 1 k) refl
 
-  pub rotation-ready : Taken B N F i rotation → {m : Node} → m ≡ node_within B N i → {a : Node} → a ≡ node_within B N m.b → {w : ℕ} → w ≡ get_or (widths_in F) i 0
-      → (a.a + a.b ≤ length (problem_at B N).bits) × (0 < w) × (w ≤ 65536)
+  pub rotation-ready : Taken W i rotation → {m : Node} → m ≡ node_within W i → {a : Node} → a ≡ node_within W m.b → {w : ℕ} → w ≡ get_or (widths_in W) i 0
+      → (a.a + a.b ≤ length (problem_in W).bits) × (0 < w) × (w ≤ 65536)
   unfolding rotation_ok wf_as
   rotation-ready p {m} e {a} f {w} q =
       let r = amount-ok p in
-      let c : T (wf_as (length (problem_at B N).bits) (array_widths (problem_at B N)) (problem_at B N).side (take (node_within B N i).b (widths_in F)) (node_within B N (node_within B N i).b) const) = subst (λ (s : Shape). T (wf_as (length (problem_at B N).bits) (array_widths (problem_at B N)) (problem_at B N).side (take (node_within B N i).b (widths_in F)) (node_within B N (node_within B N i).b) s)) (amount-const p) (amount-sized p) in
-      let x : Node = node_within B N (node_within B N i).b in
-      let g : a ≡ x = f ∙ ap (λ (z : Node). node_within B N z.b) e in (
-        rw g (leb→le (x.a + x.b) (length (problem_at B N).bits) (and-1 (fits64 x.b) _ (and-1 (ltb 0 x.b) _ c))),
-        rw q (ltb→lt 0 (width_at (widths_in F) i) (and_0 (ltb 0 (width_at (widths_in F) i)) _ r)),
-        rw q (leb→le (width_at (widths_in F) i) 65536 (and_0 (leb (width_at (widths_in F) i) 65536) _ (and-1 (ltb 0 (width_at (widths_in F) i)) _ r))),
+      let c : T (wf_as (length (problem_in W).bits) (array_widths (problem_in W)) (problem_in W).side (take (node_within W i).b (widths_in W)) (node_within W (node_within W i).b) const) = subst (λ (s : Shape). T (wf_as (length (problem_in W).bits) (array_widths (problem_in W)) (problem_in W).side (take (node_within W i).b (widths_in W)) (node_within W (node_within W i).b) s)) (amount-const p) (amount-sized p) in
+      let x : Node = node_within W (node_within W i).b in
+      let g : a ≡ x = f ∙ ap (λ (z : Node). node_within W z.b) e in (
+        rw g (leb→le (x.a + x.b) (length (problem_in W).bits) (and-1 (fits64 x.b) _ (and-1 (ltb 0 x.b) _ c))),
+        rw q (ltb→lt 0 (width_at (widths_in W) i) (and_0 (ltb 0 (width_at (widths_in W) i)) _ r)),
+        rw q (leb→le (width_at (widths_in W) i) 65536 (and_0 (leb (width_at (widths_in W) i) 65536) _ (and-1 (ltb 0 (width_at (widths_in W) i)) _ r))),
       )
 
-  pub head-of-rotation : {m : Node} → m ≡ node_within B N i → {a : Node} → a ≡ node_within B N m.b → {w : ℕ} → w ≡ get_or (widths_in F) i 0
-      → {k : ℕ} → k ≡ bits_value (take a.b (drop a.a (problem_at B N).bits)) % w → {q : Page} (P : Page) → q ≡ written P (bytes "(" ++ operator_text (symbol_of m.kind) (k ∷ []))
-      → q ≡ written P (head_found_at B N F i rotation)
+  pub head-of-rotation : {m : Node} → m ≡ node_within W i → {a : Node} → a ≡ node_within W m.b → {w : ℕ} → w ≡ get_or (widths_in W) i 0
+      → {k : ℕ} → k ≡ bits_value (take a.b (drop a.a (problem_in W).bits)) % w → {q : Page} (P : Page) → q ≡ written P (bytes "(" ++ operator_text (symbol_of m.kind) (k ∷ []))
+      → q ≡ written P (head_found_at W i rotation)
   unfolding head_as amount_of dag_of constant_bits
   head-of-rotation {m} e {a} f {w} g {k} h P r =
-      let x : a ≡ node_within B N (node_within B N i).b = f ∙ ap (λ (z : Node). node_within B N z.b) e in
+      let x : a ≡ node_within W (node_within W i).b = f ∙ ap (λ (z : Node). node_within W z.b) e in
       r ∙ rw (h, g, x, e) refl
 
--- ---------------------------------------------------------------- kinds that have a symbol
-
-abbrev pub last_shape : Shape → Bool
-last_shape var = false
-last_shape const = false
-last_shape binary = false
-last_shape rotation = false
-last_shape extraction = false
-last_shape concat = false
-last_shape extension = false
-last_shape ite = false
-last_shape comparison = false
-last_shape negation = false
-last_shape connective = false
-last_shape unary = false
-last_shape select = true
-last_shape call = true
-last_shape unknown = true
-
-kinds-small : T (every_from (λ k. last_shape (shape_of k) || ltb k 37) 0 39)
-unfolding shapes
-kinds-small = tt
-
-pub kind-small : (k : ℕ) {s : Shape} → shape_of k ≡ s → T (not (last_shape s)) → k < 37
-unfolding shapes
-kind-small k {s} e h = by_size (ltb k 39) refl
-  where
-    by_size : (b : Bool) → ltb k 39 ≡ b → k < 37
-    by_size true q =
-        let t = every-at (λ k. last_shape (shape_of k) || ltb k 37) 0 39 kinds-small k (omega arith) (omega (arith, ltb→lt k 39 (true→T q))) in
-        ltb→lt k 37 (or-not (last_shape (shape_of k)) (ltb k 37) t (rw e h))
-    by_size false q =
-        let z : shape_of k ≡ unknown = get_or-eq_default shapes unknown (nltb→le k 39 (rw q tt)) in
-        absurd (subst (λ (x : Shape). T (not (last_shape x))) (sym e ∙ z) h)
+true-not-false : true ≡ false → ⊥
+true-not-false h = let y : ◌≡◌ {A = ℕ} 0 1 = cc in omega arith
 
 -- ---------------------------------------------------------------- the head of node i
 
-module _ (B N F : List Slice) (Y : List ℕ) (ready : Ready B N F Y) (i : ℕ) (here : i < length (widths_in F)) (free : asked (dag_at B N) (widths_in F) i ≡ 0) where
-  pub node-here : i < length (nodes_of (problem_at B N).nodes)
+module _ (W : Walk) (i : ℕ) (here : i < length (widths_in W)) (free : asked (dag_in W) (widths_in W) i ≡ 0) where
+  pub node-here : i < length (nodes_of (problem_in W).nodes)
   unfolding dag_of
-  node-here = omega (arith, ready.counted)
+  node-here = omega (arith, W.ready.counted)
 
-  formed-as : (s : Shape) → shape (node_within B N i) ≡ s → T (wf_as (length (problem_at B N).bits) (array_widths (problem_at B N)) (problem_at B N).side (take i (widths_in F)) (node_within B N i) s)
+  -- the node's shape, from that of its mark
+  pub shape-at : {r : code.Shape} → r ≡ (mark_in W i).shape → shape (node_within W i) ≡ shape_in r
+  shape-at e = sym (shape-is W i here) ∙ ap shape_in (sym e)
+
+  -- and from the mark that was looked up
+  pub shape-of : {m : Mark} → m ≡ mark_in W i → {r : code.Shape} → m.shape ≡ r → shape (node_within W i) ≡ shape_in r
+  shape-of q e = shape-at (sym e ∙ ap (λ (m : Mark). m.shape) q)
+
+  -- a leaf that is no variable is a constant
+  pub const-found : T (is_leaf (shape (node_within W i))) → {m : Mark} → m ≡ mark_in W i → (m.shape ≡ codes.Var → ⊥) → shape (node_within W i) ≡ const
+  unfolding is_leaf
+  const-found l {m} q f = shape-of q (second m.shape (subst (λ (s : Shape). T (is_leaf s)) (shape-of q refl) l) f)
+    where
+      second : (r : code.Shape) → T (is_leaf (shape_in r)) → (r ≡ codes.Var → ⊥) → r ≡ codes.Const
+      second codes.Var h g = absurd (g refl)
+      second codes.Const h g = refl
+      second codes.Binary h g = absurd h
+      second codes.Rotation h g = absurd h
+      second codes.Extraction h g = absurd h
+      second codes.Concat h g = absurd h
+      second codes.Extension h g = absurd h
+      second codes.Ite h g = absurd h
+      second codes.Comparison h g = absurd h
+      second codes.Negation h g = absurd h
+      second codes.Connective h g = absurd h
+      second codes.Unary h g = absurd h
+      second codes.Select h g = absurd h
+      second codes.Call h g = absurd h
+      second codes.Unknown h g = absurd h
+
+  formed-as : (s : Shape) → shape (node_within W i) ≡ s → T (wf_as (length (problem_in W).bits) (array_widths (problem_in W)) (problem_in W).side (take i (widths_in W)) (node_within W i) s)
   unfolding dag_of node_wf
   formed-as s e =
-      let z : Sized (length (problem_at B N).bits) (array_widths (problem_at B N)) (problem_at B N).side (widths_in F) i (node_within B N i) =
-      subst (λ (ws : List ℕ). Sized (length (problem_at B N).bits) (array_widths (problem_at B N)) (problem_at B N).side ws i (node_within B N i)) (sym ready.widths)
-      (sized (length (problem_at B N).bits) (array_widths (problem_at B N)) (problem_at B N).side (nodes_of (problem_at B N).nodes) i (rw ready.widths at here)) in
-      subst (λ (x : Shape). T (wf_as (length (problem_at B N).bits) (array_widths (problem_at B N)) (problem_at B N).side (take i (widths_in F)) (node_within B N i) x)) e z.wf
+      let z : Sized (length (problem_in W).bits) (array_widths (problem_in W)) (problem_in W).side (widths_in W) i (node_within W i) =
+      subst (λ (ws : List ℕ). Sized (length (problem_in W).bits) (array_widths (problem_in W)) (problem_in W).side ws i (node_within W i)) (sym W.ready.widths)
+      (sized (length (problem_in W).bits) (array_widths (problem_in W)) (problem_in W).side (nodes_of (problem_in W).nodes) i (rw W.ready.widths at here)) in
+      subst (λ (x : Shape). T (wf_as (length (problem_in W).bits) (array_widths (problem_in W)) (problem_in W).side (take i (widths_in W)) (node_within W i) x)) e z.wf
 
-  pub passed-as : {s : Shape} → shape (node_within B N i) ≡ s → Taken B N F i s
+  pub passed-as : {s : Shape} → shape (node_within W i) ≡ s → Taken W i s
   unfolding asked dag_of
   passed-as {s} e = record {
     here = here;
     shaped = e;
     formed = formed-as s e;
-    taken = subst (λ (x : Shape). asked_as (dag_at B N) (widths_in F) i (node_within B N i) x ≡ 0) e free;
+    taken = subst (λ (x : Shape). asked_as (dag_in W) (widths_in W) i (node_within W i) x ≡ 0) e free;
   }
 
-  pub constant-as : shape (node_within B N i) ≡ const → Constant B N i
+  pub constant-as : shape (node_within W i) ≡ const → Constant W i
   unfolding wf_as
   constant-as e = record {
     here = node-here;
-    within = (leb→le ((node_within B N i).a + (node_within B N i).b) (length (problem_at B N).bits) (and-1 (fits64 (node_within B N i).b) _ (and-1 (ltb 0 (node_within B N i).b) _ (formed-as const e))));
-    binary = ready.binary;
+    within = (leb→le ((node_within W i).a + (node_within W i).b) (length (problem_in W).bits) (and-1 (fits64 (node_within W i).b) _ (and-1 (ltb 0 (node_within W i).b) _ (formed-as const e))));
+    binary = W.ready.binary;
   }
 
-  pub operator-as : {s : Shape} → shape (node_within B N i) ≡ s → T (not (last_shape s)) → Operator B N Y i
-  operator-as e h = record { here = node-here; symbol = kind-small (node_within B N i).kind e h; symbols = ready.symbols }
-
   -- the head by the shape is the head
-  pub head_in : {s : Shape} → shape (node_within B N i) ≡ s → {q : Page} (P : Page) {h : List ℕ} → h ≡ head_found_at B N F i s → q ≡ written P (32 ∷ h)
-      → q ≡ written P (32 ∷ head_of (dag_at B N) (widths_in F) (problem_at B N).bits i)
+  pub head_in : {s : Shape} → shape (node_within W i) ≡ s → {q : Page} (P : Page) {h : List ℕ} → h ≡ head_found_at W i s → q ≡ written P (32 ∷ h)
+      → q ≡ written P (32 ∷ head_of (dag_in W) (widths_in W) (problem_in W).bits i)
   unfolding head_of dag_of
-  head_in {s} e P f w = w ∙ ap (λ (t : List ℕ). written P (32 ∷ t)) (f ∙ ap (head_found_at B N F i) (sym e))
+  head_in {s} e P f w = w ∙ ap (λ (t : List ℕ). written P (32 ∷ t)) (f ∙ ap (head_found_at W i) (sym e))
 
   -- behind a blank
-  pub head-after : {s : Shape} → shape (node_within B N i) ≡ s → {q r : Page} (P : Page) {h : List ℕ} → h ≡ head_found_at B N F i s → q ≡ written P (32 ∷ []) → r ≡ written q h
-      → r ≡ written P (32 ∷ head_of (dag_at B N) (widths_in F) (problem_at B N).bits i)
+  pub head-after : {s : Shape} → shape (node_within W i) ≡ s → {q r : Page} (P : Page) {h : List ℕ} → h ≡ head_found_at W i s → q ≡ written P (32 ∷ []) → r ≡ written q h
+      → r ≡ written P (32 ∷ head_of (dag_in W) (widths_in W) (problem_in W).bits i)
   head-after e P {h} f v w = head_in e P f (written_then P (32 ∷ []) h v w)
 
-  pub const-head : shape (node_within B N i) ≡ const → {q : Page} (P : Page) → q ≡ written P (bytes " #b" ++ binary_digits (constant_bits (problem_at B N).bits (node_within B N i)))
-      → q ≡ written P (32 ∷ head_of (dag_at B N) (widths_in F) (problem_at B N).bits i)
+  pub const-head : shape (node_within W i) ≡ const → {q : Page} (P : Page) → q ≡ written P (bytes " #b" ++ binary_digits (constant_bits (problem_in W).bits (node_within W i)))
+      → q ≡ written P (32 ∷ head_of (dag_in W) (widths_in W) (problem_in W).bits i)
   unfolding head_as bytes
   const-head e P w = head_in e P refl w
 
-  pub extraction-head : indexed_head true (node_within B N i) ≡ head_found_at B N F i extraction
+  pub extraction-head : indexed_head true (node_within W i) ≡ head_found_at W i extraction
   unfolding head_as indexed_head
   extraction-head = refl
 
-  pub extension-head : indexed_head false (node_within B N i) ≡ head_found_at B N F i extension
+  pub extension-head : indexed_head false (node_within W i) ≡ head_found_at W i extension
   unfolding head_as indexed_head
   extension-head = refl
 
-  -- the shapes that have no arm of their own; r is the shape's code
-  plain-as : (s : Shape) {r : ℕ} → shape (node_within B N i) ≡ s → r ≡ code_of s
-      → 1 < code_of s → (r ≡ 3 → ⊥) → (r ≡ 4 → ⊥) → (r ≡ 6 → ⊥) → (r ≡ 12 → ⊥) → (r ≡ 13 → ⊥)
-      → T (not (last_shape s)) × (bytes "(" ++ symbol_of (node_within B N i).kind ≡ head_found_at B N F i s)
-  unfolding code_of head_as wf_as
-  plain-as var f e a c g h j k = absurd (omega arith)
-  plain-as const f e a c g h j k = absurd (omega arith)
-  plain-as binary f e a c g h j k = (tt, refl)
-  plain-as rotation f e a c g h j k = absurd (c e)
-  plain-as extraction f e a c g h j k = absurd (g e)
-  plain-as concat f e a c g h j k = (tt, refl)
-  plain-as extension f e a c g h j k = absurd (h e)
-  plain-as ite f e a c g h j k = (tt, refl)
-  plain-as comparison f e a c g h j k = (tt, refl)
-  plain-as negation f e a c g h j k = (tt, refl)
-  plain-as connective f e a c g h j k = (tt, refl)
-  plain-as unary f e a c g h j k = (tt, refl)
-  plain-as select f e a c g h j k = absurd (j e)
-  plain-as call f e a c g h j k = absurd (k e)
-  plain-as unknown f e a c g h j k = absurd (formed-as unknown f)
+  -- the shapes that have no arm of their own
+  plain-as : (s : code.Shape) → shape (node_within W i) ≡ shape_in s → is_leaf (shape_in s) ≡ false
+      → (s ≡ codes.Rotation → ⊥) → (s ≡ codes.Extraction → ⊥) → (s ≡ codes.Extension → ⊥) → (s ≡ codes.Select → ⊥) → (s ≡ codes.Call → ⊥)
+      → bytes "(" ++ symbol_of (node_within W i).kind ≡ head_found_at W i (shape_in s)
+  unfolding is_leaf head_as wf_as
+  plain-as codes.Var f a c g h j k = absurd (true-not-false a)
+  plain-as codes.Const f a c g h j k = absurd (true-not-false a)
+  plain-as codes.Binary f a c g h j k = refl
+  plain-as codes.Rotation f a c g h j k = absurd (c refl)
+  plain-as codes.Extraction f a c g h j k = absurd (g refl)
+  plain-as codes.Concat f a c g h j k = refl
+  plain-as codes.Extension f a c g h j k = absurd (h refl)
+  plain-as codes.Ite f a c g h j k = refl
+  plain-as codes.Comparison f a c g h j k = refl
+  plain-as codes.Negation f a c g h j k = refl
+  plain-as codes.Connective f a c g h j k = refl
+  plain-as codes.Unary f a c g h j k = refl
+  plain-as codes.Select f a c g h j k = absurd (j refl)
+  plain-as codes.Call f a c g h j k = absurd (k refl)
+  plain-as codes.Unknown f a c g h j k = absurd (formed-as unknown f)
 
-  module _ {r : ℕ} (e : r ≡ code_of (shape (node_within B N i))) (a : 1 < code_of (shape (node_within B N i))) (c : r ≡ 3 → ⊥) (g : r ≡ 4 → ⊥) (h : r ≡ 6 → ⊥) (j : r ≡ 12 → ⊥)
-      (k : r ≡ 13 → ⊥) where
-    pub plain-operator : Operator B N Y i
-    plain-operator = operator-as refl (plain-as (shape (node_within B N i)) refl e a c g h j k).0
-
-    pub plain-head : {q : Page} (P : Page) → q ≡ written P (bytes " (" ++ symbol_of (node_within B N i).kind) → q ≡ written P (32 ∷ head_of (dag_at B N) (widths_in F) (problem_at B N).bits i)
+  module _ (inner : is_leaf (shape (node_within W i)) ≡ false) (r : code.Shape) (e : r ≡ (mark_in W i).shape)
+      (c : r ≡ codes.Rotation → ⊥) (g : r ≡ codes.Extraction → ⊥) (h : r ≡ codes.Extension → ⊥) (j : r ≡ codes.Select → ⊥) (k : r ≡ codes.Call → ⊥) where
+    pub plain-head : {q : Page} (P : Page) → q ≡ written P (bytes " (" ++ symbol_of (node_within W i).kind) → q ≡ written P (32 ∷ head_of (dag_in W) (widths_in W) (problem_in W).bits i)
     unfolding bytes
-    plain-head P w = head_in refl P (plain-as (shape (node_within B N i)) refl e a c g h j k).1 w
+    plain-head P w = head_in (shape-at e) P (plain-as r (shape-at e) (ap is_leaf (sym (shape-at e)) ∙ inner) c g h j k) w
 
 -- ---------------------------------------------------------------- the record that was read is the node's
 
-pub symbol-of : {B N : List Slice} {Y : List ℕ} {i : ℕ} → Operator B N Y i → {m : Node} → m ≡ node_within B N i → m.kind < 37
-symbol-of o e = rw e o.symbol
-
-pub constant-inside : {B N : List Slice} {i : ℕ} → Constant B N i → {m : Node} → m ≡ node_within B N i → (m.a + m.b ≤ length (problem_at B N).bits) × T (every (λ b. leb b 1) (problem_at B N).bits)
+pub constant-inside : {W : Walk} {i : ℕ} → Constant W i → {m : Node} → m ≡ node_within W i → (m.a + m.b ≤ length (problem_in W).bits) × T (every (λ b. leb b 1) (problem_in W).bits)
 constant-inside c e = (rw e c.within, c.binary)
 
 module _ {m x : Node} (e : m ≡ x) where
@@ -329,9 +301,6 @@ module _ {m x : Node} (e : m ≡ x) where
   pub head-of-one : {b : Bool} → b ≡ false → {q : Page} (P : Page) → q ≡ written P (bytes "(" ++ operator_text (symbol_of m.kind) (m.b ∷ [])) → q ≡ written P (indexed_head b x)
   unfolding indexed_head
   head-of-one f P w = w ∙ rw (f, e) refl
-
-pub rotation-symbol : (B N F : List Slice) (Y : List ℕ) → Ready B N F Y → (i : ℕ) → Taken B N F i rotation → {m : Node} → m ≡ node_within B N i → m.kind < 37
-rotation-symbol B N F Y r i p e = rw e (kind-small (node_within B N i).kind p.shaped tt)
 
 -- ---------------------------------------------------------------- parts of the bits, from s to s + w
 

@@ -1,8 +1,8 @@
 -- The operands of a form by the places where they stand: what holds of each.
 use Prim.Native.Nat.{ℕ, zero, suc, ◌+◌, ◌-◌, ◌≤◌, ◌<◌}
-use Rattle.std.specs.Prelude.{◌≡◌, refl, ltb, length, get_or, take, drop}
-use Rattle.std.proofs.Common.{sym, ◌∙◌, subst, arith, ltb→lt, length-drop, get_or-drop}
-use mathlib.Core.List.{List, [], ◌∷◌, ◌++◌, map}
+use Rattle.std.specs.Prelude.{◌≡◌, length, get_or, take, drop}
+use Rattle.std.proofs.Common.{subst, arith, ltb→lt, length-drop, get_or-drop}
+use mathlib.Core.List.{List, [], ◌∷◌, map}
 use Rattle.echo_spec.specs.NodeLaws.{Low}
 use Rattle.echo_spec.specs.Walk.{Operand, vector, levels}
 use Rattle.echo_tables.specs.declared.Form.{Form}

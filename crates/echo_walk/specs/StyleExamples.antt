@@ -1,5 +1,5 @@
 -- Computed: M2's root plain, and with node 2 written as its name.
-use Rattle.std.specs.Prelude.{ℕ, ◌≡◌, refl, List, [], ◌∷◌, get_or}
+use Rattle.std.specs.Prelude.{ℕ, ◌≡◌, refl, false, eqb, List, [], ◌∷◌}
 use Rattle.lists.specs.Bytes.{bytes}
 use Rattle.lists.specs.Build.{upto, find_from}
 use Rattle.echo_spec.specs.Shapes.{shapes}
@@ -40,10 +40,10 @@ five = 1 ∷ 0 ∷ 1 ∷ 0 ∷ 0 ∷ 0 ∷ 0 ∷ 0 ∷ []
 abbrev pub widths : List ℕ
 widths = 8 ∷ 8 ∷ 8 ∷ 1 ∷ []
 
-pub plain-text : text_in (planned (λ _. 0) (plain m2 widths five)) 3 ≡ bytes "(= (bvadd |x| #b00000101) |x|)"
+pub plain-text : text_in (planned (λ _. false) (plain m2 widths five)) 3 ≡ bytes "(= (bvadd |x| #b00000101) |x|)"
 unfolding text_in text_step planned plain head_of head_as form_as form_text two_text one_text upto find_from find_node variable_name part names_of shapes constant_bits binary_digits quoted symbol_of symbols bytes
 plain-text = refl
 
-pub named-text : text_in (planned (λ i. get_or (0 ∷ 0 ∷ 1 ∷ []) i 0) (plain m2 widths five)) 3 ≡ bytes "(= |d2| |x|)"
+pub named-text : text_in (planned (λ i. eqb i 2) (plain m2 widths five)) 3 ≡ bytes "(= |d2| |x|)"
 unfolding text_in text_step planned plain head_of head_as form_as form_text two_text one_text upto find_from find_node variable_name part names_of shapes constant_bits binary_digits quoted symbol_of symbols named decimal decimal_digits bytes
 named-text = refl

@@ -1,6 +1,6 @@
 -- Laws of styles: a node's text from its head and its form, and the plain style's text as the text of the node's tree.
-use Prim.Native.Nat.{ℕ, zero, suc, ◌+◌, ◌-◌, ◌≤◌, ◌<◌}
-use Rattle.std.specs.Prelude.{◌≡◌, Bool, true, false, eqb, length, take, drop}
+use Prim.Native.Nat.{ℕ, zero, suc, ◌+◌, ◌<◌}
+use Rattle.std.specs.Prelude.{◌≡◌, Bool, true, false, length, take, drop}
 use Rattle.std.proofs.Math.Path.{refl, ap, sym}
 use Rattle.std.proofs.Common.{◌∙◌, arith, add-one, drop-cons}
 use mathlib.Core.List.{List, [], ◌∷◌, ◌++◌, append_assoc, append-nil}
@@ -32,14 +32,14 @@ use Rattle.echo_spec.specs.Trees.{constant_bits, amount_of, variable_name, trees
 use Rattle.echo_spec.specs.Walk.{operands_as}
 use Rattle.echo_spec.specs.Render.{symbol_of, binary_digits, quoted, operator_text, call_text, term, terms, stores}
 use Rattle.echo_lines.specs.Heads.{repeated, call_head}
-use Rattle.lent.specs.Arrays.{Slice, problem_at, dag_at}
 use Rattle.echo_tables.specs.declared.Form.{Form}
 use Rattle.echo_tables.specs.declared.Form.TheVariants.{Leaf, One, Two, Choice, Chain, Arguments}
 use Rattle.echo_tables.specs.Forms.{call_form, form_as, form-operands}
 use Rattle.echo_tables.specs.Uses.{form-inside}
 use Rattle.echo_walk.specs.Operands.{Entries, OverForm, over-form, low-each}
 use Rattle.echo_walk.specs.Texts.{head_as, head_of, one_text, two_text, choice_text, levels_text, args_text, form_text, Style, text_step, texts_below, text_in, plain, named, planned}
-use Rattle.echo_walk.specs.Ready.{widths_in, plan_in, style_at, text_at, Ready, Plain}
+use Rattle.echo_walk.specs.declared.Walk.{Walk}
+use Rattle.echo_walk.specs.Walks.{problem_in, dag_in, widths_in, plan_in, style_at, text_at, Plain}
 
 -- the operands of a form are nodes below i
 abbrev pub FormBelow : ℕ → List ℕ → Form → Type 0
@@ -215,10 +215,10 @@ module _ (d : Dag) (nbits : ℕ) (ws bits : List ℕ) (widths : ws ≡ ext_wf_of
   pub plain-is : (i : ℕ) → i < length ws → text_in (plain d ws bits) i ≡ term (tree_of d ws bits i)
   plain-is i h = plain-upto (suc i) i (omega arith) h
 
--- ---------------------------------------------------------------- plans
+-- ---------------------------------------------------------------- names
 
-module _ (plan : ℕ → ℕ) (s : Style) where
-  module _ (i : ℕ) (e : eqb (plan i) 1 ≡ false) where
+module _ (plan : ℕ → Bool) (s : Style) where
+  module _ (i : ℕ) (e : plan i ≡ false) where
     pub planned-head : (planned plan s).head i ≡ s.head i
     unfolding planned
     planned-head = rw (e, planned)
@@ -227,7 +227,7 @@ module _ (plan : ℕ → ℕ) (s : Style) where
     unfolding planned
     planned-form = rw (e, planned)
 
-  module _ (i : ℕ) (e : eqb (plan i) 1 ≡ true) where
+  module _ (i : ℕ) (e : plan i ≡ true) where
     pub named-head : (planned plan s).head i ≡ named i
     unfolding planned
     named-head = rw (e, planned)
@@ -236,16 +236,16 @@ module _ (plan : ℕ → ℕ) (s : Style) where
     unfolding planned
     named-form = rw (e, planned)
 
-  -- without a plan nothing changes
-  pub planned-none : ((i : ℕ) → eqb (plan i) 1 ≡ false) → planned plan s ≡ s
+  -- without a name nothing changes
+  pub planned-none : ((i : ℕ) → plan i ≡ false) → planned plan s ≡ s
   unfolding planned
   planned-none h = λ k. record { side = s.side; head = λ i. planned-head i (h i) k; form = λ i. planned-form i (h i) k }
 
--- with no plan the walk writes the plain text
-pub text-plain : (B N F : List Slice) (Y : List ℕ) → Ready B N F Y → Plain F → (i : ℕ) → i < length (widths_in F)
-    → text_at B N F i ≡ term (tree_of (dag_at B N) (widths_in F) (problem_at B N).bits i)
-text-plain B N F Y ready p i h =
-    let d : Dag = dag_at B N in
-    let ws : List ℕ = widths_in F in
-    let own : style_at B N F ≡ plain d ws (problem_at B N).bits = planned-none (plan_in F) (plain d ws (problem_at B N).bits) (λ i. rw (p.plan i) refl) in
-    ap (λ (s : Style). text_in s i) own ∙ plain-is d (length (problem_at B N).bits) ws (problem_at B N).bits ready.widths i h
+-- with no names the walk writes the plain text
+pub text-plain : (W : Walk) → Plain W → (i : ℕ) → i < length (widths_in W)
+    → text_at W i ≡ term (tree_of (dag_in W) (widths_in W) (problem_in W).bits i)
+text-plain W p i h =
+    let d : Dag = dag_in W in
+    let ws : List ℕ = widths_in W in
+    let own : style_at W ≡ plain d ws (problem_in W).bits = planned-none (plan_in W) (plain d ws (problem_in W).bits) p.plan in
+    ap (λ (s : Style). text_in s i) own ∙ plain-is d (length (problem_in W).bits) ws (problem_in W).bits W.ready.widths i h

@@ -1,5 +1,5 @@
 -- What the walk writes of a node. The head of a term is all its text before its operands, and its form says what operands follow.
-use Rattle.std.specs.Prelude.{ℕ, zero, suc, ◌+◌, true, false, List, [], ◌∷◌, ◌++◌, eqb, get_or}
+use Rattle.std.specs.Prelude.{ℕ, zero, suc, ◌+◌, Bool, true, false, List, [], ◌∷◌, ◌++◌, get_or}
 use Rattle.lists.specs.Bytes.{bytes}
 use Rattle.lists.specs.Build.{upto}
 use Rattle.echo_spec.specs.Shapes.{
@@ -115,10 +115,10 @@ plain d ws bits = record {
 unfoldable pub named : ℕ → List ℕ
 named i = bytes "|d" ++ (decimal i ++ bytes "|")
 
--- a node whose plan is 1 is its name
-unfoldable pub planned : (ℕ → ℕ) → Style → Style
+-- a node that has a name is that
+unfoldable pub planned : (ℕ → Bool) → Style → Style
 planned plan s = record {
   side = s.side;
-  head = λ i. elim (eqb (plan i) 1) [ true ↦ named i | false ↦ s.head i ];
-  form = λ i. elim (eqb (plan i) 1) [ true ↦ Leaf | false ↦ s.form i ];
+  head = λ i. elim (plan i) [ true ↦ named i | false ↦ s.head i ];
+  form = λ i. elim (plan i) [ true ↦ Leaf | false ↦ s.form i ];
 }

@@ -1,33 +1,46 @@
 -- The number and the positions of what `fewest_roots` answers, and what is known on the way to it.
-use Rattle.std.specs.Prelude.{ℕ, ◌<◌, ◌≡◌, List, [], ◌∷◌, true, length, get_or}
+use Rattle.std.specs.Prelude.{ℕ, ◌<◌, ◌≡◌, List, [], ◌∷◌, true, length, get_or, Option, Some, None, Result, Ok, Err}
 use Rattle.echo_spec.specs.Input.{Problem, Dag, nodes_of, dag_of}
 use Rattle.echo_spec.specs.Names.{names_ok}
 use Rattle.echo_spec.specs.Sharing.{unshared}
 use Rattle.echo_spec.specs.Walk.{walk_roots}
+use Rattle.refusals.specs.declared.EchoError.{EchoError}
+use Rattle.refusals.specs.Numbers.{error_number}
 use Rattle.echo_script.specs.Prepared.{WellFormed}
 use Rattle.fewest.specs.Fewest.{FewestAnswer}
 use Rattle.fewest.specs.Refused.{FirstRefused}
 use Rattle.fewest_roots.specs.declared.Fewest.{Fewest}
-use Rattle.fewest_roots.specs.declared.Fewest.TheVariants.{NoRoot, OneRoot, TwoRoots}
+use Rattle.fewest_roots.specs.declared.FewestRoots.{FewestRoots}
+use Rattle.fewest_roots.specs.declared.FewestRoots.TheVariants.{Empty, One, Two}
+
+-- 0 where nothing is refused
+abbrev pub refusal_number : Option EchoError → ℕ
+refusal_number None = 0
+refusal_number (Some e) = error_number e
+
+abbrev pub roots_positions : FewestRoots → List ℕ
+roots_positions Empty = []
+roots_positions (One k) = k ∷ []
+roots_positions (Two j k) = j ∷ k ∷ []
 
 abbrev pub number : Fewest → ℕ
-number (NoRoot n) = n
-number (OneRoot n k) = n
-number (TwoRoots n j k) = n
+number f = refusal_number f.refusal
 
 abbrev pub positions : Fewest → List ℕ
-positions (NoRoot n) = []
-positions (OneRoot n k) = k ∷ []
-positions (TwoRoots n j k) = j ∷ k ∷ []
+positions f = roots_positions f.roots
 
 abbrev pub answered : Fewest → FewestAnswer
-answered r = record { number = number r; positions = positions r }
+answered f = record { number = number f; positions = positions f }
 
--- the first root that is refused, or 0 where none is
-abbrev pub Walked : Dag → List ℕ → List ℕ → Fewest → Type 0
-Walked d ws roots (NoRoot n) = (n ≡ 0) × ((j : ℕ) → j < length roots → walk_roots d ws (get_or roots j 0 ∷ []) ≡ 0)
-Walked d ws roots (OneRoot n k) = FirstRefused d ws roots n k
-Walked d ws roots (TwoRoots n j k) = ⊥
+-- a refusal before the list is known has none
+abbrev pub told : Result Fewest EchoError → FewestAnswer
+told (Ok f) = answered f
+told (Err e) = record { number = error_number e; positions = [] }
+
+-- the first root that is refused, with its refusal; none where none is
+abbrev pub Walked : Dag → List ℕ → List ℕ → Option (ℕ × EchoError) → Type 0
+Walked d ws roots None = (j : ℕ) → j < length roots → walk_roots d ws (get_or roots j 0 ∷ []) ≡ 0
+Walked d ws roots (Some r) = FirstRefused d ws roots (error_number r.1) r.0
 
 -- well formed, its names allowed, and no operator shared
 pub record Apart (p : Problem) (ws : List ℕ) : Type 0 where

@@ -1,134 +1,109 @@
-// The fewest roots that still refuse (document 02, L14): the entry point `fewest_roots` over the same inputs as `echo_ext` and no output.
+// The fewest roots that still refuse: the entry point `fewest_roots`, of the same problem as `echo_ext` and no output.
 #![tactic(auto)]
 
-ghost use Rattle.std.specs.Prelude.{◌≡◌, ◌<◌, length};
-ghost use Rattle.lent.specs.Arrays.{problem_at, dag_at};
-ghost use Rattle.lent.specs.Lent.{problem_of};
-ghost use Rattle.echo_tables.specs.Asked.{Refusable};
+ghost use Rattle.std.specs.Prelude.{◌≡◌, Some};
+ghost use Rattle.lent.specs.Lent.{problem_at, dag_at};
+ghost use Rattle.echo_tables.specs.Filling.{Refusable};
 ghost use Rattle.echo_script.specs.Prepared.{WellFormed};
 ghost use Rattle.fewest.specs.Fewest.{fewest_roots_answer};
-ghost use Rattle.fewest_roots.specs.Answered.{answered, Walked, Apart};
+ghost use Rattle.fewest_roots.specs.Answered.{answered, told, Walked, Apart};
 
-use fewest_sharing::Sharing;
-use lent::{BYTES, NODES, NUMBERS, ROOTS, SIDE, node_count};
-use refusals::{MAX_ENTRIES, MAX_NODES, NAME, SHARED};
+use echo_checks::names_ok;
+use echo_script::{Tables, measure};
+use echo_tables::{Mark, roots_told};
+use fewest_sharing::{Sharing, shared_roots};
+use lent::Problem;
+use refusals::{EchoError, MAX_ENTRIES, MAX_NODES};
 
-// What is told of a problem: the printer's number with endless room, 0 too, and the positions of the roots that still give it. The number
-// and the list are `answered`'s.
-#[derive(Clone, Copy)]
-pub enum Fewest {
-    NoRoot(u64),
-    OneRoot(u64, usize),
-    TwoRoots(u64, usize, usize),
+// What is told of a problem: the refusal that the printer has with endless room, or none, and the roots that still give it.
+#[derive(Clone, Copy, Debug, PartialEq, Eq)]
+pub struct Fewest {
+    pub refusal: Option<EchoError>,
+    pub roots: FewestRoots,
 }
 
-// The first root that is refused, by the table of refusals; or 0 and no root.
-fn first_refused(
-    bytes: &[&[u8]; BYTES],
-    numbers: &[&[u64]; NUMBERS],
-    ws: &[u64],
-    codes: &[u64; MAX_NODES],
-    roots: &[u64],
-) -> Fewest
-    requires { Refusable bytes.now numbers.now ws.now codes.now }
-    ensures { Walked (dag_at bytes.now numbers.now) ws.now roots.now result }
+// The roots by their positions.
+#[derive(Clone, Copy, Debug, PartialEq, Eq)]
+pub enum FewestRoots {
+    Empty,
+    One(usize),
+    Two(usize, usize),
+}
+
+// A refusal, and the roots that still give it.
+fn because(refusal: EchoError, roots: FewestRoots) -> Fewest
+    ensures { result ≡ record { refusal = Some refusal; roots = roots } }
 {
-    let mut left = roots.len();
-    while left > 0 {
-        let k = roots.len() - left;
-        let next = k + 1;
-        let e = echo_tables::roots_refused(bytes, numbers, ws, codes, &roots[k..next]);
-        if e > 0 {
-            return Fewest::OneRoot(e, k);
-        }
-        left -= 1;
+    Fewest {
+        refusal: Some(refusal),
+        roots,
     }
-    Fewest::NoRoot(0)
+}
+
+// The first root that is refused by the marks, and why.
+fn first_refused(problem: &Problem, ws: &[u64], marks: &[Mark]) -> Option<(usize, EchoError)>
+    requires { Refusable problem.now ws.now marks.now }
+    ensures { Walked (dag_at problem.now) ws.now problem.now.roots.now result }
+{
+    let roots = problem.roots;
+    for (k, x) in roots.iter().enumerate() {
+        if let Err(refusal) = roots_told(problem, ws, marks, &[*x]) {
+            return Some((k, refusal));
+        }
+    }
+    None
 }
 
 // From the declared variables on: the names are allowed and no operator is shared.
-fn from_declared(bytes: &[&[u8]; BYTES], numbers: &[&[u64]; NUMBERS], ws: &[u64]) -> Fewest
-    requires { Apart (problem_at bytes.now numbers.now) ws.now }
-    ensures { answered result ≡ fewest_roots_answer (problem_at bytes.now numbers.now) }
+fn from_declared(problem: &Problem, ws: &[u64]) -> Result<Fewest, EchoError>
+    requires { Apart (problem_at problem.now) ws.now }
+    ensures { told result ≡ fewest_roots_answer (problem_at problem.now) }
 {
-    let mut entries = [0u64; MAX_NODES];
-    let mut codes = [0u64; MAX_NODES];
-    let mut first = [0u64; MAX_ENTRIES];
-    let d = echo_script::fill(bytes, numbers, ws, &mut entries, &mut codes, &mut first);
-    if d > 0 {
-        return Fewest::NoRoot(d);
-    }
-    first_refused(bytes, numbers, ws, &codes, numbers[ROOTS])
+    let mut tables = Tables::new();
+    let mut first = [None; MAX_ENTRIES];
+    tables.fill(problem, ws, &mut first)?;
+    Ok(match first_refused(problem, ws, &tables.marks) {
+        None => Fewest {
+            refusal: None,
+            roots: FewestRoots::Empty,
+        },
+        Some((k, refusal)) => because(refusal, FewestRoots::One(k)),
+    })
 }
 
 // From the names on: the nodes are well formed and of these widths.
-fn from_names(bytes: &[&[u8]; BYTES], numbers: &[&[u64]; NUMBERS], ws: &[u64]) -> Fewest
-    requires { WellFormed (problem_at bytes.now numbers.now) ws.now }
-    ensures { answered result ≡ fewest_roots_answer (problem_at bytes.now numbers.now) }
+fn from_names(problem: &Problem, ws: &[u64]) -> Result<Fewest, EchoError>
+    requires { WellFormed (problem_at problem.now) ws.now }
+    ensures { told result ≡ fewest_roots_answer (problem_at problem.now) }
 {
-    if !echo_checks::names_ok(bytes, numbers) {
-        return Fewest::NoRoot(NAME);
+    if !names_ok(problem) {
+        return Err(EchoError::Name);
     }
-    match fewest_sharing::shared_roots(bytes[NODES], numbers[SIDE], numbers[ROOTS]) {
-        Sharing::Unshared => from_declared(bytes, numbers, ws),
-        Sharing::Operands => Fewest::NoRoot(SHARED),
-        Sharing::One(k) => Fewest::OneRoot(SHARED, k),
-        Sharing::Two(j, k) => Fewest::TwoRoots(SHARED, j, k),
+    match shared_roots(problem.nodes, problem.side, problem.roots) {
+        Sharing::Unshared => from_declared(problem, ws),
+        Sharing::Operands => Err(EchoError::Shared),
+        Sharing::One(k) => Ok(because(EchoError::Shared, FewestRoots::One(k))),
+        Sharing::Two(j, k) => Ok(because(EchoError::Shared, FewestRoots::Two(j, k))),
     }
 }
 
-// The fewest roots of a lent problem: every check but the one for room, each made once.
-fn fewest_of(bytes: &[&[u8]; BYTES], numbers: &[&[u64]; NUMBERS]) -> Fewest
-    ensures { answered result ≡ fewest_roots_answer (problem_at bytes.now numbers.now) }
+// The fewest roots of a problem, or a refusal that has no list: every check but the one for room, each made once.
+fn fewest_of(problem: &Problem) -> Result<Fewest, EchoError>
+    ensures { told result ≡ fewest_roots_answer (problem_at problem.now) }
 {
     let mut ws = [0u64; MAX_NODES];
-    let e = echo_script::measure(bytes, numbers, &mut ws);
-    if e > 0 {
-        return Fewest::NoRoot(e);
-    }
-    let n = node_count(bytes[NODES]);
-    from_names(bytes, numbers, &ws[..n])
+    let n = measure(problem, &mut ws)?;
+    from_names(problem, &ws[..n])
 }
 
-// THE FEWEST ROOTS with which the problem is still refused by the number that `echo_ext` answers with endless room, which is told too. A
-// problem that is accepted, or refused with 8, 9 or 12, has no list.
-pub fn fewest_roots<'a>(
-    nodes: &'a [u8],
-    bits: &'a [u8],
-    side: &'a [u64],
-    roots: &'a [u64],
-    names: &'a [u8],
-    name_start: &'a [u64],
-    name_len: &'a [u64],
-    var_node: &'a [u64],
-    var_width: &'a [u64],
-    anames: &'a [u8],
-    aname_start: &'a [u64],
-    aname_len: &'a [u64],
-    index_width: &'a [u64],
-    value_width: &'a [u64],
-    fnames: &'a [u8],
-    fname_start: &'a [u64],
-    fname_len: &'a [u64],
-    func_width: &'a [u64],
-) -> Fewest
-    ensures { answered result ≡ fewest_roots_answer (problem_of nodes.now bits.now side.now roots.now names.now name_start.now name_len.now var_node.now var_width.now anames.now aname_start.now aname_len.now index_width.now value_width.now fnames.now fname_start.now fname_len.now func_width.now) }
+// THE FEWEST ROOTS with which the problem is still refused as `echo_ext` refuses it with endless room, which is told too. A problem that is
+// accepted, or refused for its encoding, a limit or an array's width, has no list. Ruled out: the last root that is refused for the first;
+// a list for a refusal that no root is needed for.
+pub fn fewest_roots(problem: &Problem) -> Fewest
+    ensures { answered result ≡ fewest_roots_answer (problem_at problem.now) }
 {
-    let bytes = [nodes, bits, names, anames, fnames];
-    let numbers = [
-        side,
-        roots,
-        name_start,
-        name_len,
-        var_node,
-        var_width,
-        aname_start,
-        aname_len,
-        index_width,
-        value_width,
-        fname_start,
-        fname_len,
-        func_width,
-    ];
-    fewest_of(&bytes, &numbers)
+    match fewest_of(problem) {
+        Ok(fewest) => fewest,
+        Err(refusal) => because(refusal, FewestRoots::Empty),
+    }
 }

@@ -1,17 +1,16 @@
-// The fewest roots by which an operator is shared (document 02, L14): none beside the operands, one that an operand uses too, or the two
+// The fewest roots by which an operator is shared: none beside the operands, one that an operand uses too, or the two
 // first positions of one node.
 #![tactic(auto)]
 
-ghost use Rattle.std.specs.Prelude.{◌≡◌, false, ◌≤◌, ◌<◌, length, get_or};
+ghost use Rattle.std.specs.Prelude.{◌≡◌, ◌≤◌, ◌<◌, length};
 ghost use Rattle.echo_spec.specs.Input.{nodes_of};
-ghost use Rattle.echo_spec.specs.Sharing.{unshared};
-ghost use Rattle.fewest_sharing.specs.Found.{flagged as «is-flagged», used_too, First, Partner, PairOf, Shares, Flagged};
+ghost use Rattle.fewest_sharing.specs.Found.{used_too, First, Partner, PairOf, Shares, Flagged};
 
-use lent::node_count;
+use echo_sharing::flagged;
 use refusals::MAX_NODES;
 
 // Which roots share an operator, by their positions.
-#[derive(Clone, Copy)]
+#[derive(Clone, Copy, Debug, PartialEq, Eq)]
 pub enum Sharing {
     // No operator is shared, with all roots.
     Unshared,
@@ -21,86 +20,57 @@ pub enum Sharing {
     Two(usize, usize),
 }
 
-// Is x one of n nodes, and flagged as shared.
-fn flagged(flags: &[u8; MAX_NODES], n: usize, x: u64) -> bool
-    requires { n ≤ 2048 }
-    ensures { result ≡ «is-flagged» flags.now n x }
+// Is x a node that is shared, and used by an operand.
+fn used_too(shared: &[bool; MAX_NODES], uses: &[u8; MAX_NODES], x: u64) -> bool
+    ensures { result ≡ used_too shared.now uses.now x }
 {
-    let k = x as usize;
-    if k >= n {
-        return false;
-    }
-    flags[k] == 1
+    flagged(shared, x) && uses.get(x as usize).copied().unwrap_or(0) > 0
 }
 
-// Is x flagged, and used by an operand.
-fn used_too(flags: &[u8; MAX_NODES], uses: &[u8; MAX_NODES], n: usize, x: u64) -> bool
-    requires { n ≤ 2048 }
-    ensures { result ≡ used_too flags.now uses.now n x }
+// The first position whose root an operand uses too.
+fn first_used(roots: &[u64], shared: &[bool; MAX_NODES], uses: &[u8; MAX_NODES]) -> Option<usize>
+    ensures { First (used_too shared.now uses.now) roots.now result }
 {
-    let k = x as usize;
-    if k >= n {
-        return false;
-    }
-    if flags[k] != 1 {
-        return false;
-    }
-    uses[k] > 0
-}
-
-// The first position whose root an operand uses too, or the number of roots.
-fn first_used(roots: &[u64], flags: &[u8; MAX_NODES], uses: &[u8; MAX_NODES], n: usize) -> usize
-    requires { n ≤ 2048 }
-    ensures { First (used_too flags.now uses.now n) roots.now result }
-{
-    let mut k = 0;
-    while k < roots.len() {
-        if used_too(flags, uses, n, roots[k]) {
-            return k;
+    for (k, x) in roots.iter().enumerate() {
+        if used_too(shared, uses, *x) {
+            return Some(k);
         }
-        k += 1;
     }
-    k
+    None
 }
 
-// The next position of the root at position j, where that is flagged; or the number of roots.
-fn partner(roots: &[u64], flags: &[u8; MAX_NODES], n: usize, j: usize) -> usize
-    requires { (n ≤ 2048) × (j < length roots.now) }
-    ensures { Partner flags.now n roots.now j result }
+// The next position of the root at position j, where that is shared.
+fn partner(roots: &[u64], shared: &[bool; MAX_NODES], j: usize) -> Option<usize>
+    requires { j < length roots.now }
+    ensures { Partner shared.now roots.now j result }
 {
     let x = roots[j];
-    if !flagged(flags, n, x) {
-        return roots.len();
+    if !flagged(shared, x) {
+        return None;
     }
-    let mut k = j + 1;
-    while k < roots.len() {
+    for k in j + 1..roots.len() {
         if roots[k] == x {
-            return k;
+            return Some(k);
         }
-        k += 1;
     }
-    k
+    None
 }
 
-// The first position of a flagged root that is there again, and the next after it.
-fn first_pair(roots: &[u64], flags: &[u8; MAX_NODES], n: usize) -> Sharing
-    requires { n ≤ 2048 }
-    ensures { PairOf flags.now n roots.now result }
+// The first position of a shared root that is there again, and the next after it.
+fn first_pair(roots: &[u64], shared: &[bool; MAX_NODES]) -> Option<(usize, usize)>
+    ensures { PairOf shared.now roots.now result }
 {
-    let mut j = 0;
-    while j < roots.len() {
-        let k = partner(roots, flags, n, j);
-        if k < roots.len() {
-            return Sharing::Two(j, k);
+    for j in 0..roots.len() {
+        if let Some(k) = partner(roots, shared, j) {
+            return Some((j, k));
         }
-        j += 1;
     }
-    Sharing::Unshared
+    None
 }
 
 // The fewest roots, where the roots share an operator; the operators that are shared are flagged.
-fn among_roots(nodes: &[u8], side: &[u64], roots: &[u64], flags: &[u8; MAX_NODES]) -> Sharing
-    requires { Flagged nodes.now side.now roots.now flags.now }
+fn among_roots(nodes: &[u8], side: &[u64], roots: &[u64], shared: &[bool; MAX_NODES]) -> Sharing
+    requires { Flagged nodes.now side.now roots.now shared.now }
     ensures { Shares (nodes_of nodes.now) side.now roots.now result }
 {
     let mut uses = [0u8; MAX_NODES];
@@ -108,12 +78,13 @@ fn among_roots(nodes: &[u8], side: &[u64], roots: &[u64], flags: &[u8; MAX_NODES
     if !echo_sharing::no_shared(&uses, nodes) {
         return Sharing::Operands;
     }
-    let n = node_count(nodes);
-    let k = first_used(roots, flags, &uses, n);
-    if k < roots.len() {
+    if let Some(k) = first_used(roots, shared, &uses) {
         return Sharing::One(k);
     }
-    first_pair(roots, flags, n)
+    match first_pair(roots, shared) {
+        Some((j, k)) => Sharing::Two(j, k),
+        None => Sharing::Unshared,
+    }
 }
 
 // The fewest roots by which an operator is shared. Ruled out: two positions where one suffices; the last position of a node for its
@@ -122,9 +93,8 @@ pub fn shared_roots(nodes: &[u8], side: &[u64], roots: &[u64]) -> Sharing
     requires { length nodes.now ≤ 34816 }
     ensures { Shares (nodes_of nodes.now) side.now roots.now result }
 {
-    let mut flags = [0u8; MAX_NODES];
-    if !echo_sharing::shared_nodes(nodes, side, roots, &mut flags) {
-        return Sharing::Unshared;
+    match echo_sharing::shared_nodes(nodes, side, roots) {
+        None => Sharing::Unshared,
+        Some(shared) => among_roots(nodes, side, roots, &shared),
     }
-    among_roots(nodes, side, roots, &flags)
 }

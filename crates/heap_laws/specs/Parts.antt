@@ -1,9 +1,9 @@
 -- The hash of a part of a list, from place `at` on, and a region of two lists that agree there.
-use Prim.Native.Nat.{ℕ, zero, suc, ◌+◌, ◌*◌, ◌-◌, ◌/◌, ◌%◌, ◌≤◌, ◌<◌}
+use Prim.Native.Nat.{ℕ, suc, ◌+◌, ◌*◌, ◌-◌, ◌%◌, ◌≤◌, ◌<◌}
 use Rattle.std.specs.Prelude.{◌≡◌, drop, get_or}
 use Rattle.std.proofs.Math.Path.{ap, sym}
 use Rattle.std.proofs.Common.{◌∙◌, arith, length-drop, length-take, length-take-le, take_all, take-take, drop-cons, get_or-take, get_or-drop, ext_get_or}
-use mathlib.Core.List.{List, [], ◌∷◌}
+use mathlib.Core.List.{List}
 use Rattle.std.proofs.Math.ListN.{length, take}
 use Rattle.heap_laws.specs.Heap.{hash_from, hash_of}
 

@@ -1,5 +1,5 @@
 -- Before the first node: arrays that are 0 throughout hold no nodes, and no operand waits. Assumes nothing.
-use Rattle.std.specs.Prelude.{ℕ, ◌+◌, ◌≡◌, refl, List, [], length, get_or}
+use Rattle.std.specs.Prelude.{ℕ, ◌≡◌, refl, List, [], length, get_or}
 use Rattle.std.proofs.Common.{arith}
 use Rattle.echo_spec.specs.Input.{nodes_within}
 use Rattle.readback.specs.Records.{records_bytes}

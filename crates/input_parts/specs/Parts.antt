@@ -1,9 +1,9 @@
--- The printer's eighteen inputs as parts of one byte string. `starts` and `counts` have, for each input, where its elements begin and how
--- many there are.
+-- The printer's eighteen inputs as parts of one byte string: for each input, where its elements begin and how many there are.
 use Rattle.std.specs.Prelude.{ℕ, ◌+◌, ◌*◌, List, [], ◌∷◌, take, drop, get_or}
 use Rattle.lists.specs.Build.{tabulate}
 use Rattle.echo_spec.specs.Input.{Problem, word32}
 use Rattle.lent.specs.Lent.{problem_of}
+use Rattle.input_parts.specs.declared.Part.{Part}
 
 -- the bytes of one element of each input
 unfoldable pub sizes : List ℕ
@@ -31,15 +31,18 @@ bytes_at s i n = take n (drop i s)
 abbrev pub numbers_at : List ℕ → ℕ → ℕ → List ℕ
 numbers_at s i n = tabulate n (λ j. word64 s (i + 8 * j))
 
--- the elements of input k
-abbrev pub bytes_part : List ℕ → List ℕ → List ℕ → ℕ → List ℕ
-bytes_part s starts counts k = bytes_at s (get_or starts k 0) (get_or counts k 0)
+-- the part of input k, and its elements
+abbrev pub part_at : List Part → ℕ → Part
+part_at at k = get_or at k (record { start = 0; count = 0 })
 
-abbrev pub numbers_part : List ℕ → List ℕ → List ℕ → ℕ → List ℕ
-numbers_part s starts counts k = numbers_at s (get_or starts k 0) (get_or counts k 0)
+abbrev pub bytes_part : List ℕ → List Part → ℕ → List ℕ
+bytes_part s at k = bytes_at s (part_at at k).start (part_at at k).count
 
-unfoldable pub problem_from : List ℕ → List ℕ → List ℕ → Problem
-problem_from s starts counts =
-    let b : ℕ → List ℕ = bytes_part s starts counts in
-    let n : ℕ → List ℕ = numbers_part s starts counts in
+abbrev pub numbers_part : List ℕ → List Part → ℕ → List ℕ
+numbers_part s at k = numbers_at s (part_at at k).start (part_at at k).count
+
+unfoldable pub problem_from : List ℕ → List Part → Problem
+problem_from s at =
+    let b : ℕ → List ℕ = bytes_part s at in
+    let n : ℕ → List ℕ = numbers_part s at in
     problem_of (b 0) (b 1) (n 2) (n 3) (b 4) (n 5) (n 6) (n 7) (n 8) (b 9) (n 10) (n 11) (n 12) (n 13) (b 14) (n 15) (n 16) (n 17)

@@ -103,7 +103,7 @@ fn ite_wf(ws: &[u64], c: u64, t: u64, e: u64) -> bool
     earlier_of(ws, 1, c) && bin_wf(ws, t, e)
 }
 
-// Is the node well formed: no select and no call is, which are `ext_node_wf`'s. Ruled out: an extraction up to the bit past the last;
+// Is the node well formed: no select and no call is, which are `Pass::node_wf`'s. Ruled out: an extraction up to the bit past the last;
 // a constant whose last bit lies past the bits.
 #[tactic(auto, unfolding(echo_spec::specs::Widths::wf_as, crate::specs::Closed::closed))]
 pub fn node_wf(ws: &[u64], nbits: usize, n: Node) -> bool

@@ -1,2 +1,2 @@
-pub mod LimitTests
+pub mod Limits
 pub mod Steps

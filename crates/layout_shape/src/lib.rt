@@ -1,45 +1,55 @@
-// The bytes of a problem taken apart: where the elements of each of the eighteen inputs begin and how many there are, or what is wrong with the bytes. The
-// layout is that of specs/Layout.antt and docs/FORMATS.md.
+// The bytes of a problem taken apart: the part of each of the eighteen inputs, or what is wrong with the bytes. The layout is that of
+// specs/Layout.antt and docs/FORMATS.md.
 // Under "Ruled out" stand wrong programs that a public function's contract refuses.
 #![tactic(auto)]
 
-ghost use Rattle.std.specs.Prelude.{◌≡◌, ◌≤◌, ◌<◌, length};
+ghost use Rattle.std.specs.Prelude.{◌≡◌, ◌≤◌, ◌<◌};
 ghost use Rattle.layout_shape.specs.Layout as layout;
 ghost use Rattle.layout_shape.specs.Reading.{Shaped};
 
-use input_parts::INPUTS;
+use input_parts::{INPUTS, Part, Parts};
 use refusals::{MAX_ARENA, MAX_BITS, MAX_ENTRIES, MAX_NODE_BYTES, MAX_ROOTS, MAX_SIDE};
 
 // ---------------------------------------------------------------- the inputs
 
-// The largest count of each.
-static LIMITS: [u64; INPUTS] = [
-    MAX_NODE_BYTES as u64,
-    MAX_BITS as u64,
-    MAX_SIDE as u64,
-    MAX_ROOTS as u64,
-    MAX_ARENA as u64,
-    MAX_ENTRIES as u64,
-    MAX_ENTRIES as u64,
-    MAX_ENTRIES as u64,
-    MAX_ENTRIES as u64,
-    MAX_ARENA as u64,
-    MAX_ENTRIES as u64,
-    MAX_ENTRIES as u64,
-    MAX_ENTRIES as u64,
-    MAX_ENTRIES as u64,
-    MAX_ARENA as u64,
-    MAX_ENTRIES as u64,
-    MAX_ENTRIES as u64,
-    MAX_ENTRIES as u64,
+// What is fixed of an input beside the size of an element: its name and the largest count.
+struct Input(&'static [u8], usize);
+
+static TABLE: [Input; INPUTS] = [
+    Input(b"nodes", MAX_NODE_BYTES),
+    Input(b"bits", MAX_BITS),
+    Input(b"side", MAX_SIDE),
+    Input(b"roots", MAX_ROOTS),
+    Input(b"names", MAX_ARENA),
+    Input(b"name_start", MAX_ENTRIES),
+    Input(b"name_len", MAX_ENTRIES),
+    Input(b"var_node", MAX_ENTRIES),
+    Input(b"var_width", MAX_ENTRIES),
+    Input(b"anames", MAX_ARENA),
+    Input(b"aname_start", MAX_ENTRIES),
+    Input(b"aname_len", MAX_ENTRIES),
+    Input(b"index_width", MAX_ENTRIES),
+    Input(b"value_width", MAX_ENTRIES),
+    Input(b"fnames", MAX_ARENA),
+    Input(b"fname_start", MAX_ENTRIES),
+    Input(b"fname_len", MAX_ENTRIES),
+    Input(b"func_width", MAX_ENTRIES),
 ];
+
+// The name of input k. Ruled out: that of the input after it; a name with a letter wrong.
+pub fn name(k: usize) -> &'static [u8]
+    requires { k < 18 }
+    ensures { result.now ≡ (layout.input_at k).name }
+{
+    TABLE[k].0
+}
 
 // The largest count of input k. Ruled out: that of the input after it; an arena's for a column.
 pub fn limit(k: usize) -> u64
     requires { k < 18 }
     ensures { (result ≡ (layout.input_at k).limit) × (result ≤ 131072) }
 {
-    LIMITS[k]
+    TABLE[k].1 as u64
 }
 
 // ---------------------------------------------------------------- reading
@@ -55,14 +65,14 @@ pub enum ShapeFault {
     LeftOver,
 }
 
-// Each input in turn: the count is there, it is within its limit, the elements are there. Then nothing is left. Where the elements of
-// each begin and how many there are goes to the two tables. Ruled out: bytes after the last input let pass; a count at its limit turned away.
-pub fn read_shape(s: &[u8], starts: &mut [usize], counts: &mut [usize]) -> Result<(), ShapeFault>
-    requires { (length starts.old ≡ 18) × (length counts.old ≡ 18) }
-    ensures { Shaped s.now result starts.new counts.new }
+// Each input in turn: the count is there, it is within its limit, the elements are there. Then nothing is left. Ruled out: bytes after the
+// last input let pass; a count at its limit turned away.
+pub fn read_shape(s: &[u8]) -> Result<Parts<'_>, ShapeFault>
+    ensures { Shaped s.now result }
 {
+    let mut parts = [Part::NONE; INPUTS];
     let mut at = 0;
-    for k in 0..INPUTS {
+    for (k, part) in parts.iter_mut().enumerate() {
         if s.len() - at < 8 {
             return Err(ShapeFault::Early(k));
         }
@@ -70,16 +80,22 @@ pub fn read_shape(s: &[u8], starts: &mut [usize], counts: &mut [usize]) -> Resul
         if n > limit(k) {
             return Err(ShapeFault::TooLarge(k));
         }
-        let m = input_parts::span(k, n as usize);
+        let count = n as usize;
+        let m = input_parts::span(k, count);
         if s.len() - at - 8 < m {
             return Err(ShapeFault::Early(k));
         }
-        starts[k] = at + 8;
-        counts[k] = n as usize;
+        *part = Part {
+            start: at + 8,
+            count,
+        };
         at += 8 + m;
     }
     if at < s.len() {
         return Err(ShapeFault::LeftOver);
     }
-    Ok(())
+    Ok(Parts {
+        bytes: s,
+        at: parts,
+    })
 }

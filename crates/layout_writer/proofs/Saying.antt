@@ -1,6 +1,6 @@
 -- What is said, by what was read and written. Assumes nothing.
 use Prim.Native.Nat.{ℕ, ◌^◌, ◌≤◌, ◌<◌}
-use mathlib.Core.Bool.{true, false, not}
+use mathlib.Core.Bool.{true, false}
 use mathlib.Core.List.{List}
 use mathlib.Core.Path.{◌≡◌, refl, ap, sym, subst, ◌∙◌}
 use native.Mathlib.Decide.{dec_le}
@@ -62,10 +62,10 @@ pub answers-as : {s t : Script} {lent out : List ℕ} {r : Result ℕ Unread} �
 answers-as {lent = lent} {out} {r} e a = subst (λ (x : Script). Answers x lent r out) (sym e) a
 
 -- the problem that was read, written from where nothing was
-module _ {b : List ℕ} {z : Sizes} {o : Problem} (a : ReadAs b z o) (lent out : List ℕ) {q p : Place} (e : p ≡ start) (small : length lent < 2 ^ 63)
-    (h : page q out ≡ written (page p lent) (bytes_of_layout (first_of z o))) where
+module _ {b : List ℕ} {z : Sizes} {o x : Problem} (a : ReadAs b z o) (lent out : List ℕ) {q p : Place} (f : x ≡ first_of z o) (e : p ≡ start) (small : length lent < 2 ^ 63)
+    (h : page q out ≡ written (page p lent) (bytes_of_layout x)) where
   from_start : page q out ≡ written (page start lent) (bytes_of_layout a.problem)
-  from_start = h ∙ (λ i. written (page (e i) lent) (bytes_of_layout (a.first i)))
+  from_start = h ∙ (λ i. written (page (e i) lent) (bytes_of_layout ((f ∙ a.first) i)))
 
   pub reads-written : q.need ≤ length out → Answers (rebuilt (reading_in b)) lent (Ok q.need) out
   reads-written l = answers-as a.is (says-written a.problem lent out small from_start l)

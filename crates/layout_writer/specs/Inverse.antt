@@ -22,7 +22,7 @@ use Rattle.readback_theorems.specs.Answered.{inputs-whole, inputs-script}
 use Rattle.layout_shape.specs.Layout as printer
 use Rattle.problem_layout.specs.Telling as printing
 use Rattle.problem_layout.specs.Telling.{Front, line_in}
-use Rattle.std.specs.Prelude.{Result, Ok, Err}
+use Rattle.std.specs.Prelude.{Result, Ok}
 use Rattle.problem_layout.specs.declared.Told.{Told}
 use Rattle.problem_layout.specs.declared.Unprinted.{Unprinted}
 use Rattle.layout_writer.specs.declared.Unread.{Unread}

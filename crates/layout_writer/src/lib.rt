@@ -4,7 +4,8 @@
 
 ghost use Rattle.std.specs.Prelude.{◌≡◌, length};
 ghost use Rattle.readback.specs.ScriptReader.{reading_in};
-ghost use Rattle.lent.specs.Lent.{problem_of};
+ghost use Rattle.lent.specs.Lent.{problem_at};
+ghost use Rattle.script_fill.specs.Outputs.{problem_in};
 ghost use Rattle.echo_bytes.specs.Page.{page, written};
 ghost use Rattle.layout_bytes.specs.Encoding.{bytes_of_layout};
 ghost use Rattle.script_rebuild.specs.Decided.{lengths_of};
@@ -14,80 +15,69 @@ ghost use Rattle.layout_writer.specs.declared.Unread.TheVariants.{Refused};
 
 use echo_bytes::Place;
 use layout_bytes::{put_nodes, put_table};
+use lent::Problem;
 use problem_layout::{Line, Told, tell};
 use refusals::{MAX_ARENA, MAX_BITS, MAX_ENTRIES, MAX_NODE_BYTES, MAX_ROOTS, MAX_SIDE};
 use script_depth::too_deep;
-use script_reader::{ReadError, Sizes};
+use script_reader::{Outputs, ReadError, Sizes, read_script};
 
 // ---------------------------------------------------------------- the inputs
 
-// The layout of the problem that lies at the front of the eighteen slices.
-fn put_problem(
-    z: Sizes,
-    nodes: &[u8],
-    bits: &[u8],
-    side: &[u64],
-    roots: &[u64],
-    names: &[u8],
-    name_start: &[u64],
-    name_len: &[u64],
-    var_node: &[u64],
-    var_width: &[u64],
-    anames: &[u8],
-    aname_start: &[u64],
-    aname_len: &[u64],
-    index_width: &[u64],
-    value_width: &[u64],
-    fnames: &[u8],
-    fname_start: &[u64],
-    fname_len: &[u64],
-    func_width: &[u64],
-    p: Place,
-    out: &mut [u8],
-) -> Place
-    requires { Lies z (problem_of nodes.now bits.now side.now roots.now names.now name_start.now name_len.now var_node.now var_width.now anames.now aname_start.now aname_len.now index_width.now value_width.now fnames.now fname_start.now fname_len.now func_width.now) }
-    ensures { page result out.new ≡ written (page p out.old) (bytes_of_layout (first_of z (problem_of nodes.now bits.now side.now roots.now names.now name_start.now name_len.now var_node.now var_width.now anames.now aname_start.now aname_len.now index_width.now value_width.now fnames.now fname_start.now fname_len.now func_width.now))) }
+// The layout of a problem.
+fn put_problem(problem: &Problem, p: Place, out: &mut [u8]) -> Place
+    ensures { page result out.new ≡ written (page p out.old) (bytes_of_layout (problem_at problem.now)) }
 {
     let q = put_nodes(
-        &nodes[..z.nodes],
-        &bits[..z.bits],
-        &side[..z.side],
-        &roots[..z.roots],
+        problem.nodes,
+        problem.bits,
+        problem.side,
+        problem.roots,
         p,
         out,
     );
-    let s = put_table(
-        &names[..z.names],
-        &[
-            &name_start[..z.variables],
-            &name_len[..z.variables],
-            &var_node[..z.variables],
-            &var_width[..z.variables],
-        ],
-        q,
-        out,
-    );
-    let t = put_table(
-        &anames[..z.anames],
-        &[
-            &aname_start[..z.arrays],
-            &aname_len[..z.arrays],
-            &index_width[..z.arrays],
-            &value_width[..z.arrays],
-        ],
-        s,
-        out,
-    );
-    put_table(
-        &fnames[..z.fnames],
-        &[
-            &fname_start[..z.functions],
-            &fname_len[..z.functions],
-            &func_width[..z.functions],
-        ],
-        t,
-        out,
-    )
+    let variables = [
+        problem.name_start,
+        problem.name_len,
+        problem.var_node,
+        problem.var_width,
+    ];
+    let s = put_table(problem.names, &variables, q, out);
+    let arrays = [
+        problem.aname_start,
+        problem.aname_len,
+        problem.index_width,
+        problem.value_width,
+    ];
+    let t = put_table(problem.anames, &arrays, s, out);
+    let functions = [problem.fname_start, problem.fname_len, problem.func_width];
+    put_table(problem.fnames, &functions, t, out)
+}
+
+// The problem that lies at the front of the outputs, as many elements of each as are told.
+fn first<'a>(outputs: &'a Outputs, z: &Sizes) -> Problem<'a>
+    requires { Lies z.now (problem_in outputs.now) }
+    ensures { problem_at result ≡ first_of z.now (problem_in outputs.now) }
+{
+    Problem {
+        nodes: &outputs.nodes[..z.nodes],
+        bits: &outputs.bits[..z.bits],
+        side: &outputs.side[..z.side],
+        roots: &outputs.roots[..z.roots],
+        names: &outputs.names[..z.names],
+        name_start: &outputs.name_start[..z.variables],
+        name_len: &outputs.name_len[..z.variables],
+        var_node: &outputs.var_node[..z.variables],
+        var_width: &outputs.var_width[..z.variables],
+        anames: &outputs.anames[..z.anames],
+        aname_start: &outputs.aname_start[..z.arrays],
+        aname_len: &outputs.aname_len[..z.arrays],
+        index_width: &outputs.index_width[..z.arrays],
+        value_width: &outputs.value_width[..z.arrays],
+        fnames: &outputs.fnames[..z.fnames],
+        fname_start: &outputs.fname_start[..z.functions],
+        fname_len: &outputs.fname_len[..z.functions],
+        func_width: &outputs.func_width[..z.functions],
+    }
 }
 
 // ---------------------------------------------------------------- reading
@@ -112,131 +102,44 @@ impl From<ReadError> for Unread {
     }
 }
 
-// The script is read into arrays that have room for every problem within the limits, and written from these.
-fn read_into(
-    script: &[u8],
-    nodes: &mut [u8; MAX_NODE_BYTES],
-    bits: &mut [u8; MAX_BITS],
-    side: &mut [u64; MAX_SIDE],
-    roots: &mut [u64; MAX_ROOTS],
-    names: &mut [u8; MAX_ARENA],
-    name_start: &mut [u64; MAX_ENTRIES],
-    name_len: &mut [u64; MAX_ENTRIES],
-    var_node: &mut [u64; MAX_ENTRIES],
-    var_width: &mut [u64; MAX_ENTRIES],
-    anames: &mut [u8; MAX_ARENA],
-    aname_start: &mut [u64; MAX_ENTRIES],
-    aname_len: &mut [u64; MAX_ENTRIES],
-    index_width: &mut [u64; MAX_ENTRIES],
-    value_width: &mut [u64; MAX_ENTRIES],
-    fnames: &mut [u8; MAX_ARENA],
-    fname_start: &mut [u64; MAX_ENTRIES],
-    fname_len: &mut [u64; MAX_ENTRIES],
-    func_width: &mut [u64; MAX_ENTRIES],
-    out: &mut [u8],
-) -> Result<usize, Unread>
-    requires { lengths_of (problem_of nodes.old bits.old side.old roots.old names.old name_start.old name_len.old var_node.old var_width.old anames.old aname_start.old aname_len.old index_width.old value_width.old fnames.old fname_start.old fname_len.old func_width.old) ≡ rooms }
+// The script is read into outputs that have room for every problem within the limits, and written from these.
+fn read_into(script: &[u8], outputs: &mut Outputs, out: &mut [u8]) -> Result<usize, Unread>
+    requires { lengths_of (problem_in outputs.old) ≡ rooms }
     ensures { Answers (rebuilt (reading_in script.now)) out.old result out.new }
 {
-    let read = script_reader::read_script(
-        script,
-        nodes,
-        bits,
-        side,
-        roots,
-        names,
-        name_start,
-        name_len,
-        var_node,
-        var_width,
-        anames,
-        aname_start,
-        aname_len,
-        index_width,
-        value_width,
-        fnames,
-        fname_start,
-        fname_len,
-        func_width,
-    );
-    match read {
-        Err(e) => Err(Unread::from(e)),
-        Ok(z) => {
-            let p = put_problem(
-                z,
-                nodes,
-                bits,
-                side,
-                roots,
-                names,
-                name_start,
-                name_len,
-                var_node,
-                var_width,
-                anames,
-                aname_start,
-                aname_len,
-                index_width,
-                value_width,
-                fnames,
-                fname_start,
-                fname_len,
-                func_width,
-                echo_bytes::start(),
-                out,
-            );
-            let n = p.need;
-            if n <= out.len() {
-                return Ok(n);
-            }
-            Err(Unread::Refused(ReadError::Room))
-        }
+    let sizes = read_script(script, outputs)?;
+    let problem = first(outputs, &sizes);
+    let n = put_problem(&problem, echo_bytes::start(), out).need;
+    if n > out.len() {
+        return Err(Unread::Refused(ReadError::Room));
     }
+    Ok(n)
 }
 
 fn read_back(script: &[u8], out: &mut [u8]) -> Result<usize, Unread>
     ensures { Answers (rebuilt (reading_in script.now)) out.old result out.new }
 {
-    let mut nodes = [0u8; MAX_NODE_BYTES];
-    let mut bits = [0u8; MAX_BITS];
-    let mut side = [0u64; MAX_SIDE];
-    let mut roots = [0u64; MAX_ROOTS];
-    let mut names = [0u8; MAX_ARENA];
-    let mut name_start = [0u64; MAX_ENTRIES];
-    let mut name_len = [0u64; MAX_ENTRIES];
-    let mut var_node = [0u64; MAX_ENTRIES];
-    let mut var_width = [0u64; MAX_ENTRIES];
-    let mut anames = [0u8; MAX_ARENA];
-    let mut aname_start = [0u64; MAX_ENTRIES];
-    let mut aname_len = [0u64; MAX_ENTRIES];
-    let mut index_width = [0u64; MAX_ENTRIES];
-    let mut value_width = [0u64; MAX_ENTRIES];
-    let mut fnames = [0u8; MAX_ARENA];
-    let mut fname_start = [0u64; MAX_ENTRIES];
-    let mut fname_len = [0u64; MAX_ENTRIES];
-    let mut func_width = [0u64; MAX_ENTRIES];
-    read_into(
-        script,
-        &mut nodes,
-        &mut bits,
-        &mut side,
-        &mut roots,
-        &mut names,
-        &mut name_start,
-        &mut name_len,
-        &mut var_node,
-        &mut var_width,
-        &mut anames,
-        &mut aname_start,
-        &mut aname_len,
-        &mut index_width,
-        &mut value_width,
-        &mut fnames,
-        &mut fname_start,
-        &mut fname_len,
-        &mut func_width,
-        out,
-    )
+    let mut outputs = Outputs {
+        nodes: &mut [0; MAX_NODE_BYTES],
+        bits: &mut [0; MAX_BITS],
+        side: &mut [0; MAX_SIDE],
+        roots: &mut [0; MAX_ROOTS],
+        names: &mut [0; MAX_ARENA],
+        name_start: &mut [0; MAX_ENTRIES],
+        name_len: &mut [0; MAX_ENTRIES],
+        var_node: &mut [0; MAX_ENTRIES],
+        var_width: &mut [0; MAX_ENTRIES],
+        anames: &mut [0; MAX_ARENA],
+        aname_start: &mut [0; MAX_ENTRIES],
+        aname_len: &mut [0; MAX_ENTRIES],
+        index_width: &mut [0; MAX_ENTRIES],
+        value_width: &mut [0; MAX_ENTRIES],
+        fnames: &mut [0; MAX_ARENA],
+        fname_start: &mut [0; MAX_ENTRIES],
+        fname_len: &mut [0; MAX_ENTRIES],
+        func_width: &mut [0; MAX_ENTRIES],
+    };
+    read_into(script, &mut outputs, out)
 }
 
 // ---------------------------------------------------------------- what is not read

@@ -3,9 +3,8 @@
 // Under "Ruled out" stand wrong programs that a public function's contract refuses.
 #![tactic(auto)]
 
-ghost use Rattle.std.specs.Prelude.{◌≡◌, ◌+◌, ◌*◌, ◌≤◌, ◌<◌, length, get_or, replicate};
+ghost use Rattle.std.specs.Prelude.{◌≡◌, ◌+◌, ◌*◌, ◌≤◌, ◌<◌, length, get_or, replicate, None};
 ghost use Rattle.echo_spec.specs.Input as input;
-ghost use Rattle.echo_spec.specs.Answers.{zeroed};
 ghost use Rattle.lent.specs.Records.{node_of};
 
 use refusals::RECORD;
@@ -133,6 +132,13 @@ impl Zero for u64 {
     const ZERO: u64 = 0;
 }
 
+// A table of places has none.
+impl Zero for Option<usize> {
+    ghost ZERO = { None };
+
+    const ZERO: Option<usize> = None;
+}
+
 // All of what was lent becomes 0. Ruled out: the last place left as it was; a blank in place of 0; only as many cleared as were written.
 pub fn clear<T: Zero>(out: &mut [T])
     ensures { out.new ≡ replicate (length out.old) T.ZERO }
@@ -140,84 +146,4 @@ pub fn clear<T: Zero>(out: &mut [T])
     for x in out.iter_mut() {
         *x = T::ZERO;
     }
-}
-
-// For the crates that are not yet written over: a problem as two arrays of slices, one of bytes and one of numbers, at the places that these constants name
-// (`specs/Arrays`), and functions for what the language has.
-
-// Of the slices of bytes, and how many there are.
-pub const NODES: usize = 0;
-
-pub const BITS: usize = 1;
-
-pub const NAMES: usize = 2;
-
-pub const ANAMES: usize = 3;
-
-pub const FNAMES: usize = 4;
-
-pub const BYTES: usize = 5;
-
-// Of the slices of numbers, and how many there are.
-pub const SIDE: usize = 0;
-
-pub const ROOTS: usize = 1;
-
-pub const NAME_START: usize = 2;
-
-pub const NAME_LEN: usize = 3;
-
-pub const VAR_NODE: usize = 4;
-
-pub const VAR_WIDTH: usize = 5;
-
-pub const ANAME_START: usize = 6;
-
-pub const ANAME_LEN: usize = 7;
-
-pub const INDEX_WIDTH: usize = 8;
-
-pub const VALUE_WIDTH: usize = 9;
-
-pub const FNAME_START: usize = 10;
-
-pub const FNAME_LEN: usize = 11;
-
-pub const FUNC_WIDTH: usize = 12;
-
-pub const NUMBERS: usize = 13;
-
-// A byte as a number. Ruled out: a number that is not the byte; one of 256.
-pub fn wide(x: u8) -> u64
-    ensures { (result ≡ x) × (result < 256) }
-{
-    x as u64
-}
-
-// How many numbers there are. Ruled out: one fewer; a slice taken out of an array, of which nothing is known.
-pub fn count(s: &[u64]) -> u64
-    ensures { result ≡ length s.now }
-{
-    s.len() as u64
-}
-
-// How many bytes there are. Ruled out: one fewer; the bytes left after whole records.
-pub fn size(s: &[u8]) -> usize
-    ensures { result ≡ length s.now }
-{
-    s.len()
-}
-
-// All of what was lent becomes 0.
-pub fn clear_bytes(out: &mut [u8])
-    ensures { out.new ≡ zeroed out.old }
-{
-    clear(out)
-}
-
-// Likewise of numbers.
-pub fn clear_numbers(out: &mut [u64])
-    ensures { out.new ≡ zeroed out.old }
-{
-    clear(out)
 }

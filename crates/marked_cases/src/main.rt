@@ -1,13 +1,10 @@
 // Prints the ten marked cases: for each its label, number and length, and the script if there is one.
 #![tactic(auto)]
 
-ghost use Rattle.std.specs.Prelude.{◌≡◌};
-ghost use Rattle.echo_kernel.specs.Answered.{number as number_of, count};
-
-use echo_kernel::Echo;
+use echo_kernel::echo_ext;
+use lent::Problem;
 use std::io;
 use std::io::Write;
-use streams::{write_line, write_number};
 
 // Kinds of a node.
 const ADD: u8 = 2;
@@ -36,131 +33,110 @@ const FIVE: [u8; 8] = [1, 0, 1, 0, 0, 0, 0, 0];
 
 const ELEVEN: [u8; 8] = [1, 1, 0, 1, 0, 0, 0, 0];
 
-fn number(r: Echo) -> u64
-    ensures { result ≡ number_of r }
-{
-    match r {
-        Echo::Printed(_) => 0,
-        Echo::Refused(e) => refusals::number_of(e),
-    }
-}
+// M1 has nothing in it.
+const M1: Problem = Problem {
+    nodes: &[],
+    bits: &[],
+    side: &[],
+    roots: &[],
+    names: &[],
+    name_start: &[],
+    name_len: &[],
+    var_node: &[],
+    var_width: &[],
+    anames: &[],
+    aname_start: &[],
+    aname_len: &[],
+    index_width: &[],
+    value_width: &[],
+    fnames: &[],
+    fname_start: &[],
+    fname_len: &[],
+    func_width: &[],
+};
 
-fn length(r: Echo) -> usize
-    ensures { result ≡ count r }
-{
-    match r {
-        Echo::Printed(n) => n,
-        Echo::Refused(_) => 0,
-    }
-}
-
-fn tell<W: Write>(writer: &mut W, label: u64, r: Echo, out: &[u8]) -> io::Result<()> {
-    let n = length(r);
-    write_number(writer, b"M", label)?;
-    write_number(writer, b" ", number(r))?;
-    write_line(writer, b" ", n as u64)?;
-    if n <= out.len() {
-        writer.write_all(&out[..n])?;
-    }
-    Ok(())
-}
-
-// M2 with other bits, another kind of node 2, another second operand of node 3, another root and another name.
-fn sum_case<'a, W: Write>(
-    writer: &mut W,
-    label: u64,
+// What cases differ in from M2: its bits, the kind of node 2, the second operand of node 3, the root and the variable's name.
+#[derive(Clone, Copy)]
+struct Sum<'a> {
     bits: &'a [u8],
     kind: u8,
     right: u8,
     root: u64,
     name: &'a [u8],
-    out: &mut [u8],
-) -> io::Result<()> {
-    let mut nodes = SUM;
-    nodes[KIND] = kind;
-    nodes[RIGHT] = right;
-    let r = echo_kernel::echo_ext(
-        &nodes,
-        bits,
-        &[],
-        &[root],
-        name,
-        &[0],
-        &[name.len() as u64],
-        &[0],
-        &[8],
-        b"",
-        &[],
-        &[],
-        &[],
-        &[],
-        b"",
-        &[],
-        &[],
-        &[],
-        out,
-    );
-    tell(writer, label, r, out)
 }
 
-// M1 with these nodes, bits and functions.
-fn bare_case<'a, W: Write>(
-    writer: &mut W,
-    label: u64,
-    nodes: &'a [u8],
-    bits: &'a [u8],
-    fnames: &'a [u8],
-    fname_start: &'a [u64],
-    fname_len: &'a [u64],
-    func_width: &'a [u64],
-    out: &mut [u8],
-) -> io::Result<()> {
-    let r = echo_kernel::echo_ext(
-        nodes,
-        bits,
-        &[],
-        &[],
-        b"",
-        &[],
-        &[],
-        &[],
-        &[],
-        b"",
-        &[],
-        &[],
-        &[],
-        &[],
-        fnames,
-        fname_start,
-        fname_len,
-        func_width,
-        out,
-    );
-    tell(writer, label, r, out)
+const M2: Sum = Sum {
+    bits: &FIVE,
+    kind: ADD,
+    right: 0,
+    root: 3,
+    name: b"x",
+};
+
+fn tell<W: Write>(writer: &mut W, label: u64, problem: &Problem, out: &mut [u8]) -> io::Result<()> {
+    let (number, length) = match echo_ext(problem, out) {
+        Ok(n) => (0, n),
+        Err(e) => (u64::from(e), 0),
+    };
+    writeln!(writer, "M{label} {number} {length}")?;
+    if length <= out.len() {
+        writer.write_all(&out[..length])?;
+    }
+    Ok(())
+}
+
+fn tell_sum<W: Write>(writer: &mut W, label: u64, case: Sum, out: &mut [u8]) -> io::Result<()> {
+    let none = M1;
+    let mut nodes = SUM;
+    nodes[KIND] = case.kind;
+    nodes[RIGHT] = case.right;
+    let problem = Problem {
+        nodes: &nodes,
+        bits: case.bits,
+        roots: &[case.root],
+        names: case.name,
+        name_start: &[0],
+        name_len: &[case.name.len() as u64],
+        var_node: &[0],
+        var_width: &[8],
+        ..none
+    };
+    tell(writer, label, &problem, out)
 }
 
 fn main(rt: HostRuntime) -> io::Result<()> {
     let mut writer = io::writer(&rt);
     let mut out = [0u8; 200];
     let mut short = [0u8; 102];
-    bare_case(&mut writer, 1, b"", b"", b"", &[], &[], &[], &mut out)?;
-    sum_case(&mut writer, 2, &FIVE, ADD, 0, 3, b"x", &mut out)?;
-    sum_case(&mut writer, 3, &FIVE, ADD, 0, 3, b"x", &mut short)?;
-    sum_case(&mut writer, 4, &FIVE, ADD, 2, 3, b"x", &mut out)?;
-    sum_case(&mut writer, 5, &FIVE, ADD, 0, 0, b"x", &mut out)?;
-    sum_case(&mut writer, 6, &FIVE, ADD, 0, 3, b"bvadd", &mut out)?;
-    sum_case(&mut writer, 7, &FIVE, ADD, 0, 4, b"x", &mut out)?;
-    sum_case(&mut writer, 8, &ELEVEN, ROTL, 0, 3, b"x", &mut out)?;
-    bare_case(&mut writer, 9, b"", b"", b"f", &[0], &[1], &[8], &mut out)?;
-    bare_case(
-        &mut writer,
-        10,
-        &SELECT,
-        &[0; 32],
-        b"",
-        &[],
-        &[],
-        &[],
-        &mut out,
-    )
+    tell(&mut writer, 1, &M1, &mut out)?;
+    tell_sum(&mut writer, 2, M2, &mut out)?;
+    tell_sum(&mut writer, 3, M2, &mut short)?;
+    tell_sum(&mut writer, 4, Sum { right: 2, ..M2 }, &mut out)?;
+    tell_sum(&mut writer, 5, Sum { root: 0, ..M2 }, &mut out)?;
+    let reserved = Sum {
+        name: b"bvadd",
+        ..M2
+    };
+    tell_sum(&mut writer, 6, reserved, &mut out)?;
+    tell_sum(&mut writer, 7, Sum { root: 4, ..M2 }, &mut out)?;
+    let rotated = Sum {
+        bits: &ELEVEN,
+        kind: ROTL,
+        ..M2
+    };
+    tell_sum(&mut writer, 8, rotated, &mut out)?;
+    let never_called = Problem {
+        fnames: b"f",
+        fname_start: &[0],
+        fname_len: &[1],
+        func_width: &[8],
+        ..M1
+    };
+    tell(&mut writer, 9, &never_called, &mut out)?;
+    let selected = Problem {
+        nodes: &SELECT,
+        bits: &[0; 32],
+        ..M1
+    };
+    tell(&mut writer, 10, &selected, &mut out)
 }

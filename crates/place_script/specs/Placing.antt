@@ -1,5 +1,5 @@
 -- The assertions of a script, placed as they are checked: what holds at each turn, whether or not the bytes are a script.
-use Rattle.std.specs.Prelude.{ℕ, ◌+◌, ◌≤◌, ◌<◌, ◌≡◌, refl, List, [], Bool, true, false, length, drop, set, Result, Ok, Err, Some, None}
+use Rattle.std.specs.Prelude.{ℕ, ◌+◌, ◌≤◌, ◌<◌, ◌≡◌, List, [], Bool, true, false, length, drop, set, Result, Ok, Err, None}
 use Rattle.std.proofs.Common.{ap, ◌∙◌, subst, arith, length-set}
 use Rattle.std.proofs.Math.Option.{none, some}
 use Rattle.lists.specs.Bytes.{bytes}

@@ -1,5 +1,5 @@
 -- The nodes of a whole script: variables, functions that are not called, assertions.
-use Rattle.std.specs.Prelude.{ℕ, ◌≤◌, ◌<◌, ◌≡◌, List, [], map, false, ◌⊎◌, length, take, Result, Ok, Err, None}
+use Rattle.std.specs.Prelude.{ℕ, ◌≤◌, ◌<◌, ◌≡◌, List, [], map, false, ◌⊎◌, length, take, Result, Ok, Err, None, Bool}
 use Rattle.std.proofs.Math.Path.{ap}
 use Rattle.std.proofs.Common.{subst, inl, arith}
 use Rattle.std.proofs.lemmas.List.{length-map}
@@ -24,7 +24,7 @@ use Rattle.place_script.specs.Uncalled.{unflagged, unflagged-grows, flagged-as}
 
 -- What is known of a script whose nodes are to be placed, with nothing placed yet: its declarations, its assertions from place `from` on, and
 -- which functions they call.
-pub record Ready (s : List ℕ) (t : Table) (h : Header) (flags : List ℕ) (heap : Heap) (roots : List ℕ) (from : ℕ) (D : Declarations) (ts : List Tree) : Type 0 where
+pub record Ready (s : List ℕ) (t : Table) (h : Header) (flags : List Bool) (heap : Heap) (roots : List ℕ) (from : ℕ) (D : Declarations) (ts : List Tree) : Type 0 where
   pub known : Known s t h D
   pub functions : length D.functions ≤ 512
   pub assertions : AssertionsAt s D from ts
@@ -46,20 +46,20 @@ RootsIn s D from (Err NoScript) = BodyTo s D from None
 RootsIn s D from (Err Limit) = Unit
 RootsIn s D from (Ok n) = BodyAt s D from from n × (n ≤ 256)
 
--- the variables, and the functions whose flags are 0
+-- the variables, and the functions that are not flagged
 abbrev pub variables_only : Declarations → List Item
 variables_only D = variable_items D.variables
 
-abbrev pub before_assertions : List ℕ → Declarations → List Item
+abbrev pub before_assertions : List Bool → Declarations → List Item
 before_assertions flags D = unflagged flags 0 D.functions (variables_only D)
 
-pub variables-before : (flags : List ℕ) (D : Declarations) → length D.variables ≤ length (before_assertions flags D)
+pub variables-before : (flags : List Bool) (D : Declarations) → length D.variables ≤ length (before_assertions flags D)
 variables-before flags D =
     let a = grows-length (variables_only D) (before_assertions flags D) (unflagged-grows flags 0 D.functions (variables_only D)) in
     let b : length (variables_only D) ≡ length D.variables = length-map D.variables (λ (v : Variable). a_variable v.width) in
     omega arith
 
-module _ {s : List ℕ} {t : Table} {h : Header} {flags : List ℕ} {heap₀ : Heap} {roots : List ℕ} {from : ℕ} {D : Declarations} {ts : List Tree} (r : Ready s t h flags heap₀ roots from D ts) where
+module _ {s : List ℕ} {t : Table} {h : Header} {flags : List Bool} {heap₀ : Heap} {roots : List ℕ} {from : ℕ} {D : Declarations} {ts : List Tree} (r : Ready s t h flags heap₀ roots from D ts) where
   placed-as : put_all D (trees_from ts) (before_assertions flags D) ≡ placed (reading_of D ts)
   unfolding placed
   placed-as = ap (put_all D (trees_from ts)) (flagged-as D (trees_from ts) flags (variables_only D) r.flagged r.functions)

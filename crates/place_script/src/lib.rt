@@ -14,6 +14,7 @@ ghost use Rattle.place_script.specs.Scripts.{Ready, ScriptTo, RootsIn};
 ghost use Rattle.place_script.specs.Placing.{PlacedRoots};
 
 use heap_laws::Heap;
+use script_calls::FLAGS;
 use script_check::last_line;
 use script_entries::{Script, next_argument};
 use script_heap::{add_call, add_variable, push_node, settle_number};
@@ -44,6 +45,7 @@ fn call_on_zeros(s: &[u8], heap: &mut Heap, p: usize, g: u64, width: u64) -> Opt
         → Stacked s.now heap.old [] → HeldTo s.now heap.new (zeros_call g width ws first) result }
 {
     let mut a = p;
+    // Kept: each argument tells where the next one begins.
     while let Some(x) = next_argument(s, a) {
         let m = settle_number(heap, 0, x.value)?;
         push_node(heap, m)?;
@@ -53,17 +55,17 @@ fn call_on_zeros(s: &[u8], heap: &mut Heap, p: usize, g: u64, width: u64) -> Opt
     Some(())
 }
 
-// Each function whose flag is 0 is called on zeros, in the order in which they are declared.
-fn place_uncalled(script: &Script, flags: &[u64; 512], heap: &mut Heap) -> Option<()>
+// Each function that is not called is called on zeros, in the order in which they are declared.
+fn place_uncalled(script: &Script, called: &[bool; FLAGS], heap: &mut Heap) -> Option<()>
     requires { (D : Declarations) × (first : List Item) × Declares script.now D × (names_of script.now.header ≤ 1536) × (length D.functions ≤ 512)
         × Held heap.old first × Stacked script.now.text.now heap.old [] }
     ensures { (D : Declarations) (first : List Item) → Declares script.now D
         → Held heap.old first → Stacked script.now.text.now heap.old []
-        → HeldTo script.now.text.now heap.new (unflagged flags.now 0 D.functions first) result }
+        → HeldTo script.now.text.now heap.new (unflagged called.now 0 D.functions first) result }
 {
     let n = script.header.names - script.header.arrays;
     for g in 0..n {
-        if flags[g] != 0 {
+        if called[g] {
             continue;
         }
         let f = script.function_at(g);
@@ -82,16 +84,16 @@ fn place_assertions(
     from: usize,
 ) -> Result<usize, Unread>
     requires { (D : Declarations) × (first : List Item) × Declares script.now D × Held heap.old first × Stacked script.now.text.now heap.old []
-        × (length D.variables ≤ length first) × (from ≤ length script.now.text.now) × (length roots.old ≡ 256) }
+        × (length D.variables ≤ length first) × (from ≤ length script.now.text.now) }
     ensures { PlacedRoots script.now.text.now script.now.table.now script.now.header heap.old from heap.new roots.new result }
 {
     let mut k: usize = 0;
     let mut p = from;
+    // Kept: each assertion tells where the next one begins.
     while let Some(a) = literal(script.text, p, b"(assert ") {
         let z = place(script, heap, a, 0)?;
-        let i = match z.operand {
-            Operand::Node(i) => i,
-            Operand::Constant(_) => return Err(Unread::NoScript),
+        let Operand::Node(i) = z.operand else {
+            return Err(Unread::NoScript);
         };
         if z.width != 0 {
             return Err(Unread::NoScript);
@@ -120,22 +122,22 @@ fn place_assertions(
 // the nodes are over a limit where they keep to it; bytes that are no script told as one.
 pub fn place_script(
     script: &Script,
-    flags: &[u64; 512],
+    called: &[bool; FLAGS],
     heap: &mut Heap,
     roots: &mut [u64; 256],
     from: usize,
 ) -> Result<usize, Unread>
     requires { (D : Declarations) × Declares script.now D × (length D.functions ≤ 512) × (names_of script.now.header ≤ 1536) × Held heap.old [] × Stacked script.now.text.now heap.old []
-        × (from ≤ length script.now.text.now) × (length roots.old ≡ 256) }
+        × (from ≤ length script.now.text.now) }
     ensures reads { (D : Declarations) → Declares script.now D → RootsIn script.now.text.now D from result }
     ensures placed { (D : Declarations) (ts : List Tree)
-        → Ready script.now.text.now script.now.table.now script.now.header flags.now heap.old roots.old from D ts
+        → Ready script.now.text.now script.now.table.now script.now.header called.now heap.old roots.old from D ts
         → ScriptTo heap.new roots.new D ts result }
 {
     let Some(()) = place_variables(script, heap) else {
         return Err(Unread::Limit);
     };
-    let Some(()) = place_uncalled(script, flags, heap) else {
+    let Some(()) = place_uncalled(script, called, heap) else {
         return Err(Unread::Limit);
     };
     place_assertions(script, heap, roots, from)

@@ -1,5 +1,5 @@
 -- What is said, from what was read and what the printer answered. Assumes nothing.
-use Prim.Native.Nat.{ℕ, zero, suc, ◌+◌, ◌-◌, ◌≤◌}
+use Prim.Native.Nat.{ℕ, zero, suc, ◌-◌, ◌≤◌}
 use mathlib.Core.Path.{◌≡◌, refl, ap, sym, subst, ◌∙◌}
 use mathlib.Core.List.{List, ◌++◌}
 use native.Mathlib.Omega.{arith}
@@ -8,10 +8,9 @@ use Rattle.echo_spec.specs.Input.{Problem, query_of}
 use Rattle.echo_spec.specs.Answers.{Answer, endless_refusal, text_refusal, echo_answer, text_answer, echo_ext_answer, script}
 use Rattle.refusals.specs.declared.EchoError.{EchoError}
 use Rattle.refusals.specs.Numbers.{error_number, error_of, error-number, error-at}
-use Rattle.echo_kernel.specs.declared.Echo.{Echo}
-use Rattle.echo_kernel.specs.declared.Echo.TheVariants as echo
 use Rattle.echo_kernel.specs.Answered.{answered}
-use Rattle.std.specs.Prelude.{Result, Ok, Err, IsErrAnd, ⊤}
+use Rattle.std.specs.Prelude.{Result, Ok, Err, IsErrAnd}
+use Rattle.input_parts.specs.declared.Parts.{Parts}
 use Rattle.layout_shape.specs.declared.ShapeFault.{ShapeFault}
 use Rattle.layout_shape.specs.declared.ShapeFault.TheVariants as fault
 use Rattle.problem_layout.specs.declared.Told.{Told}
@@ -26,7 +25,7 @@ use Rattle.problem_layout.specs.Telling.{said_by, said_of, printed_to, shown, li
 -- ---------------------------------------------------------------- the printer's answers
 
 -- a script lies within the buffer, which is as long as it was
-fits : {n : ℕ} {out : List ℕ} (lent : List ℕ) (k : ℕ) (text : List ℕ) → answered (echo.Printed n) out ≡ echo_answer k text lent → length out ≡ length lent → n ≤ length out
+fits : {n : ℕ} {out : List ℕ} (lent : List ℕ) (k : ℕ) (text : List ℕ) → answered (Ok n) out ≡ echo_answer k text lent → length out ≡ length lent → n ≤ length out
 unfolding echo_answer
 fits {n} {out} lent zero text b l =
     let c : n ≡ length text = ap (λ (x : Answer). x.count) b in
@@ -34,7 +33,7 @@ fits {n} {out} lent zero text b l =
     omega (arith, length-append text (drop (length text) lent))
 fits lent (suc k) text b l = absurd (let z : 0 ≡ suc k = ap (λ (x : Answer). x.number) b in omega arith)
 
-script-inside : {n : ℕ} {out : List ℕ} (lent : List ℕ) (p : Problem) → answered (echo.Printed n) out ≡ echo_ext_answer p lent → length out ≡ length lent → n ≤ length out
+script-inside : {n : ℕ} {out : List ℕ} (lent : List ℕ) (p : Problem) → answered (Ok n) out ≡ echo_ext_answer p lent → length out ≡ length lent → n ≤ length out
 unfolding echo_ext_answer text_answer
 script-inside lent p b l = fits lent (text_refusal (endless_refusal p) (script (query_of p)) (length lent)) (script (query_of p)) b l
 
@@ -57,35 +56,34 @@ answers_by lent e a b k =
     }
 
 -- in the arm of one shape
-shaped-as : {s starts counts : List ℕ} {r v : Result ⊤ ShapeFault} → Shaped s r starts counts → r ≡ v → Shaped s v starts counts
-shaped-as {s} {starts} {counts} h e = subst (λ (x : Result ⊤ ShapeFault). Shaped s x starts counts) e h
+shaped-as : {s : List ℕ} {r v : Result Parts ShapeFault} → Shaped s r → r ≡ v → Shaped s v
+shaped-as {s} h e = subst (λ (x : Result Parts ShapeFault). Shaped s x) e h
 
-pub whole-read : {s starts counts : List ℕ} {r : Result ⊤ ShapeFault} {u : ⊤} → Shaped s r starts counts → r ≡ Ok u → Read s starts counts 18
-whole-read h e = (shaped-as h e).read
-
-module _ (lent : List ℕ) {s starts counts : List ℕ} {r : Result ⊤ ShapeFault} (h : Shaped s r starts counts) where
+module _ (lent : List ℕ) {s : List ℕ} {r : Result Parts ShapeFault} (h : Shaped s r) where
   pub says-fault : (f : ShapeFault) → r ≡ Err f → Answers s lent (Err (Input f)) lent
-  says-fault (fault.Early k) e = let g : Shaped s (Err (fault.Early k)) starts counts = shaped-as h e in answers_by lent g.same refl refl g.read
-  says-fault (fault.TooLarge k) e = let g : Shaped s (Err (fault.TooLarge k)) starts counts = shaped-as h e in answers_by lent g.same refl refl g.read
-  says-fault fault.LeftOver e = let g : Shaped s (Err fault.LeftOver) starts counts = shaped-as h e in answers_by lent g.same refl refl tt
+  says-fault (fault.Early k) e = let g : Shaped s (Err (fault.Early k)) = shaped-as h e in answers_by lent g.same refl refl g.read
+  says-fault (fault.TooLarge k) e = let g : Shaped s (Err (fault.TooLarge k)) = shaped-as h e in answers_by lent g.same refl refl g.read
+  says-fault fault.LeftOver e = let g : Shaped s (Err fault.LeftOver) = shaped-as h e in answers_by lent g.same refl refl tt
 
   -- ---------------------------------------------------------------- what the printer answered
 
-  module _ {u : ⊤} (w : r ≡ Ok u) (o : Echo) {out : List ℕ} (a : answered o out ≡ echo_ext_answer (problem_from s starts counts) lent) where
-    as_read : answered o out ≡ echo_ext_answer (problem_in s) lent
-    as_read = a ∙ ap (λ (p : Problem). echo_ext_answer p lent) (problem-read (whole-read h w))
+  module _ {p : Parts} (w : r ≡ Ok p) {o : Result ℕ EchoError} {out : List ℕ} (a : answered o out ≡ echo_ext_answer (problem_from p.bytes.now p.at) lent) where
+    as_read : {v : Result ℕ EchoError} → o ≡ v → answered v out ≡ echo_ext_answer (problem_in s) lent
+    as_read e =
+        let g : (p.bytes.now ≡ s) × Read s p.at 18 = (shaped-as h w).read in
+        sym (ap (λ (x : Result ℕ EchoError). answered x out) e) ∙ a ∙ (λ i. echo_ext_answer ((ap (λ (b : List ℕ). problem_from b p.at) g.0 ∙ problem-read g.1) i) lent)
 
-    pub says-script : {n : ℕ} → o ≡ echo.Printed n → length out ≡ length lent → Answers s lent (Ok n) out
+    pub says-script : {n : ℕ} → o ≡ Ok n → length out ≡ length lent → Answers s lent (Ok n) out
     says-script {n} e l =
-        let b : answered (echo.Printed n) out ≡ echo_ext_answer (problem_in s) lent = subst (λ (x : Echo). answered x out ≡ echo_ext_answer (problem_in s) lent) e as_read in
+        let b : answered (Ok n) out ≡ echo_ext_answer (problem_in s) lent = as_read e in
         answers_by lent (shaped-as h w).same
         (ap (λ (x : Answer). said_by x.number x.count) b)
         (ap (λ (x : Answer). x.output) b)
         (script-inside lent (problem_in s) b l)
 
-    pub says-refused : {e : EchoError} → o ≡ echo.Refused e → Answers s lent (Err (Refused e)) out
+    pub says-refused : {e : EchoError} → o ≡ Err e → Answers s lent (Err (Refused e)) out
     says-refused {e} f =
-        let b : answered (echo.Refused e) out ≡ echo_ext_answer (problem_in s) lent = subst (λ (x : Echo). answered x out ≡ echo_ext_answer (problem_in s) lent) f as_read in
+        let b : answered (Err e) out ≡ echo_ext_answer (problem_in s) lent = as_read f in
         answers_by lent (shaped-as h w).same
         (by_number e ∙ ap (λ (x : Answer). said_by x.number x.count) b)
         (ap (λ (x : Answer). x.output) b)

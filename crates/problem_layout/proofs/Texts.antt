@@ -1,20 +1,14 @@
--- The lines by the pieces that are written one after the other. Assumes nothing.
+-- A line at the front of a buffer. Assumes nothing.
 use Prim.Native.Nat.{ℕ, ◌+◌, ◌-◌, ◌≤◌, min}
 use mathlib.Core.Path.{◌≡◌, ap, ◌∙◌}
 use mathlib.Core.List.{List, ◌++◌}
 use native.Mathlib.Omega.{arith}
 use native.Mathlib.Nat.{zero-add}
 use lib.ListN.{length, take, drop}
-use Rattle.echo_spec.specs.Render.{decimal}
 use Rattle.echo_bytes.specs.declared.Place.{Place}
 use Rattle.echo_bytes.specs.Page.{Page, page, start, written}
 use Rattle.echo_bytes.specs.Laws.{at-written}
 use Rattle.problem_layout.specs.Telling.{line_in}
-
-pub decimal-as : {n m : ℕ} (p : Page) {q : Page} → n ≡ m → q ≡ written p (decimal n) → q ≡ written p (decimal m)
-decimal-as p f h = h ∙ ap (λ (x : ℕ). written p (decimal x)) f
-
--- ---------------------------------------------------------------- a line at the front
 
 pub at-start : (o line : List ℕ) {p : Place} {q : Page} → p ≡ start → q ≡ written (page p o) line → q ≡ written (page start o) line
 at-start o line e h = h ∙ ap (λ (p : Place). written (page p o) line) e

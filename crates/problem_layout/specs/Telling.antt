@@ -1,5 +1,5 @@
 -- What `print_problem` answers to every input, and what it leaves in the buffer.
-use Rattle.std.specs.Prelude.{ℕ, zero, suc, ◌-◌, ◌≤◌, ◌<◌, min, ◌≡◌, List, [], ◌∷◌, ◌++◌, Result, Ok, Err, length, take, drop, get_or}
+use Rattle.std.specs.Prelude.{ℕ, zero, suc, ◌≤◌, ◌<◌, min, ◌≡◌, List, ◌++◌, Result, Ok, Err, length, take, drop}
 use Rattle.echo_spec.specs.Answers.{echo_ext_answer}
 use Rattle.refusals.specs.Numbers.{error_of}
 use Rattle.layout_shape.specs.declared.ShapeFault.TheVariants.{Early, TooLarge, LeftOver}

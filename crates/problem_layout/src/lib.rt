@@ -4,15 +4,12 @@
 
 ghost use Rattle.std.specs.Prelude.{◌≡◌, ℕ, List, ◌≤◌, ◌<◌, length};
 ghost use Rattle.echo_bytes.specs.Page.{page, written};
-ghost use Rattle.layout_shape.specs.Layout as layout;
 ghost use Rattle.problem_layout.specs.Lines.{refused_line, input_text, early_line, too_large_line, left_over_line};
 ghost use Rattle.problem_layout.specs.Telling.{Answers, InInput, Known, Shown, Tells, line_of};
 ghost use Rattle.problem_layout.specs.declared.Unprinted.TheVariants.{Refused, Input};
 
 use echo_bytes::Place;
-use echo_kernel::Echo;
-use input_parts::INPUTS;
-use layout_shape::{ShapeFault, limit, read_shape};
+use layout_shape::{ShapeFault, limit, name, read_shape};
 use refusals::EchoError;
 
 // ---------------------------------------------------------------- what is said
@@ -84,79 +81,44 @@ impl From<ShapeFault> for Unprinted {
 fn answer(input: &[u8], out: &mut [u8]) -> Result<usize, Unprinted>
     ensures { Answers input.now out.old result out.new }
 {
-    let mut starts = [0usize; INPUTS];
-    let mut counts = [0usize; INPUTS];
-    read_shape(input, &mut starts, &mut counts)?;
-    match input_parts::print_parts(input, &starts, &counts, out) {
-        Echo::Printed(n) => Ok(n),
-        Echo::Refused(e) => Err(Unprinted::Refused(e)),
-    }
+    let parts = read_shape(input)?;
+    let n = input_parts::print_parts(&parts, out)?;
+    Ok(n)
 }
 
 // ---------------------------------------------------------------- lines
 
-// The lines of the refusals, one behind the other; that with number n goes from end n to end n + 1, and a number that is no refusal's has
-// none. (One array and no arm for each: in the proof of a `match` every arm carries every text of the function.)
-static REFUSALS: [u8; 1237] =
-    *b"refused: 1 Malformed: a node is not well formed, the columns of a table differ in length, or a root, array or function is not there\n\
-    refused: 2 Name: a name is empty or outside its arena, reserved, given twice, starts with @ or ., or has a byte that no quoted symbol has\n\
-    refused: 3 Sort: a Bool stands where a bit-vector is wanted, or a bit-vector where a Bool is\n\
-    refused: 4 Var: a variable has no table entry of its width, or an entry has width 0\n\
-    refused: 5 Rotate: a rotation is by what is not a constant, or is wider than 65536\n\
-    refused: 6 Shared: an operator node is used more than once\n\
-    refused: 7 Signature: a function has width 0, is never called, or is called in another way than by its first call\n\
-    refused: 8 Encoding: the node bytes are no whole records, a kind is unknown, an unused operand is not 0, or a bit is not 0 or 1\n\
-    refused: 9 Limit: an input is over its limit\n\
-    refused: 10 Room: nothing is wrong with the problem, but its script is longer than the buffer for it\n\
-    refused: 11 Clash: a declared name is d and the number of an operator node that is used more than once\n\
-    refused: 12 ArrayWidth: a width in the array table is 0 or over 65536\n\
-    refused: 16 ShortRecord: the shorter records end inside a record, or a kind is unknown\n";
-
-static REFUSAL_ENDS: [usize; 18] = [
-    0, 0, 132, 270, 363, 447, 530, 589, 703, 831, 876, 977, 1080, 1150, 1150, 1150, 1150, 1237,
-];
-
 // The line of a refusal.
-fn refused_line(e: EchoError, p: Place, out: &mut [u8]) -> Place
-    ensures { page result out.new ≡ written (page p out.old) (refused_line e) }
+#[tactic(auto, unfolding(lists::specs::Bytes::bytes, crate::specs::Lines::refused_line))]
+fn refused_text(e: EchoError) -> &'static [u8]
+    ensures { result.now ≡ refused_line e }
 {
-    let k = refusals::number_of(e) as usize;
-    let start = REFUSAL_ENDS[k];
-    let end = REFUSAL_ENDS[k + 1];
-    p.word(out, &REFUSALS[start..end])
-}
-
-// The names of the inputs likewise.
-static NAMES: [u8; 142] = *b"nodes\
-    bits\
-    side\
-    roots\
-    names\
-    name_start\
-    name_len\
-    var_node\
-    var_width\
-    anames\
-    aname_start\
-    aname_len\
-    index_width\
-    value_width\
-    fnames\
-    fname_start\
-    fname_len\
-    func_width";
-
-static NAME_ENDS: [usize; 19] = [
-    0, 5, 9, 13, 18, 23, 33, 41, 49, 58, 64, 75, 84, 95, 106, 112, 123, 132, 142,
-];
-
-fn input_name(k: usize, p: Place, out: &mut [u8]) -> Place
-    requires { k < 18 }
-    ensures { page result out.new ≡ written (page p out.old) (layout.input_at k).name }
-{
-    let start = NAME_ENDS[k];
-    let end = NAME_ENDS[k + 1];
-    p.word(out, &NAMES[start..end])
+    match e {
+        EchoError::Malformed =>
+            b"refused: 1 Malformed: a node is not well formed, the columns of a table differ in length, or a root, array or function is not there\n",
+        EchoError::Name =>
+            b"refused: 2 Name: a name is empty or outside its arena, reserved, given twice, starts with @ or ., or has a byte that no quoted symbol has\n",
+        EchoError::Sort =>
+            b"refused: 3 Sort: a Bool stands where a bit-vector is wanted, or a bit-vector where a Bool is\n",
+        EchoError::Var =>
+            b"refused: 4 Var: a variable has no table entry of its width, or an entry has width 0\n",
+        EchoError::Rotate =>
+            b"refused: 5 Rotate: a rotation is by what is not a constant, or is wider than 65536\n",
+        EchoError::Shared => b"refused: 6 Shared: an operator node is used more than once\n",
+        EchoError::Signature =>
+            b"refused: 7 Signature: a function has width 0, is never called, or is called in another way than by its first call\n",
+        EchoError::Encoding =>
+            b"refused: 8 Encoding: the node bytes are no whole records, a kind is unknown, an unused operand is not 0, or a bit is not 0 or 1\n",
+        EchoError::Limit => b"refused: 9 Limit: an input is over its limit\n",
+        EchoError::Room =>
+            b"refused: 10 Room: nothing is wrong with the problem, but its script is longer than the buffer for it\n",
+        EchoError::Clash =>
+            b"refused: 11 Clash: a declared name is d and the number of an operator node that is used more than once\n",
+        EchoError::ArrayWidth =>
+            b"refused: 12 ArrayWidth: a width in the array table is 0 or over 65536\n",
+        EchoError::ShortRecord =>
+            b"refused: 16 ShortRecord: the shorter records end inside a record, or a kind is unknown\n",
+    }
 }
 
 // An input by its number, from 1, and its name.
@@ -164,10 +126,10 @@ fn input_text(k: usize, p: Place, out: &mut [u8]) -> Place
     requires { k < 18 }
     ensures { page result out.new ≡ written (page p out.old) (input_text k) }
 {
-    let opened = p.word(out, b"input ");
-    let numbered = opened.number(out, (k + 1) as u64);
-    let parted = numbered.word(out, b", ");
-    input_name(k, parted, out)
+    p.word(out, b"input ")
+        .number(out, (k + 1) as u64)
+        .word(out, b", ")
+        .word(out, name(k))
 }
 
 fn early_line(k: usize, p: Place, out: &mut [u8]) -> Place
@@ -175,8 +137,7 @@ fn early_line(k: usize, p: Place, out: &mut [u8]) -> Place
     ensures { page result out.new ≡ written (page p out.old) (early_line k) }
 {
     let opened = p.word(out, b"input: ends early in ");
-    let named = input_text(k, opened, out);
-    named.word(out, b"\n")
+    input_text(k, opened, out).word(out, b"\n")
 }
 
 fn too_large_line(k: usize, p: Place, out: &mut [u8]) -> Place
@@ -184,12 +145,13 @@ fn too_large_line(k: usize, p: Place, out: &mut [u8]) -> Place
     ensures { page result out.new ≡ written (page p out.old) (too_large_line k) }
 {
     let opened = p.word(out, b"input: too large: ");
-    let named = input_text(k, opened, out);
-    let over = named.word(out, b", has more elements than its limit, ");
-    let limited = over.number(out, limit(k));
-    limited.word(out, b"\n")
+    input_text(k, opened, out)
+        .word(out, b", has more elements than its limit, ")
+        .number(out, limit(k))
+        .word(out, b"\n")
 }
 
+#[tactic(auto, unfolding(lists::specs::Bytes::bytes, crate::specs::Lines::left_over_line))]
 fn left_over_line(p: Place, out: &mut [u8]) -> Place
     ensures { page result out.new ≡ written (page p out.old) left_over_line }
 {
@@ -206,7 +168,7 @@ impl Line for Unprinted {
 
     fn line(self, p: Place, out: &mut [u8]) -> Place {
         match self {
-            Unprinted::Refused(e) => refused_line(e, p, out),
+            Unprinted::Refused(e) => p.word(out, refused_text(e)),
             Unprinted::Input(ShapeFault::Early(k)) => early_line(k, p, out),
             Unprinted::Input(ShapeFault::TooLarge(k)) => too_large_line(k, p, out),
             Unprinted::Input(ShapeFault::LeftOver) => left_over_line(p, out),

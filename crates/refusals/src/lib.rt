@@ -3,7 +3,7 @@
 #![tactic(auto)]
 
 ghost use Rattle.std.specs.Prelude.{◌≡◌};
-ghost use Rattle.refusals.specs.Numbers.{error_number, Decodes, Numbered};
+ghost use Rattle.refusals.specs.Numbers.{error_number, Decodes};
 
 // ---------------------------------------------------------------- refusals
 
@@ -75,76 +75,6 @@ impl TryFrom<u64> for EchoError {
             16 => Ok(EchoError::ShortRecord),
             _ => Err(Unlisted(n)),
         }
-    }
-}
-
-// For the crates that are not yet written over: the numbers as constants, and the two conversions as functions. 0 is an acceptance.
-pub const MALFORMED: u64 = 1;
-
-pub const NAME: u64 = 2;
-
-pub const SORT: u64 = 3;
-
-pub const VAR: u64 = 4;
-
-pub const ROTATE: u64 = 5;
-
-pub const SHARED: u64 = 6;
-
-pub const SIGNATURE: u64 = 7;
-
-pub const ENCODING: u64 = 8;
-
-pub const LIMIT: u64 = 9;
-
-pub const ROOM: u64 = 10;
-
-pub const CLASH: u64 = 11;
-
-pub const ARRAY_WIDTH: u64 = 12;
-
-// 14 and 15 are the replay's of a trace alone (`replay_trace`).
-pub const SHORT_RECORD: u64 = 16;
-
-// A refusal's number. Ruled out: numbers from 0 on; 8 and 9 the other way about.
-pub fn number_of(e: EchoError) -> u64
-    ensures { result ≡ error_number e }
-{
-    match e {
-        EchoError::Malformed => MALFORMED,
-        EchoError::Name => NAME,
-        EchoError::Sort => SORT,
-        EchoError::Var => VAR,
-        EchoError::Rotate => ROTATE,
-        EchoError::Shared => SHARED,
-        EchoError::Signature => SIGNATURE,
-        EchoError::Encoding => ENCODING,
-        EchoError::Limit => LIMIT,
-        EchoError::Room => ROOM,
-        EchoError::Clash => CLASH,
-        EchoError::ArrayWidth => ARRAY_WIDTH,
-        EchoError::ShortRecord => SHORT_RECORD,
-    }
-}
-
-// The refusal of a problem with this number. Ruled out: the one with the number before it; one refusal for two numbers.
-pub fn error_of(n: u64) -> EchoError
-    requires { Numbered n }
-    ensures { error_number result ≡ n }
-{
-    match n {
-        MALFORMED => EchoError::Malformed,
-        NAME => EchoError::Name,
-        SORT => EchoError::Sort,
-        VAR => EchoError::Var,
-        ROTATE => EchoError::Rotate,
-        SHARED => EchoError::Shared,
-        SIGNATURE => EchoError::Signature,
-        ENCODING => EchoError::Encoding,
-        LIMIT => EchoError::Limit,
-        ROOM => EchoError::Room,
-        CLASH => EchoError::Clash,
-        _ => EchoError::ArrayWidth,
     }
 }
 

@@ -1,8 +1,7 @@
 -- What reading a script is refused with, by what its problem was rebuilt as.
-use Rattle.std.specs.Prelude.{Result, Ok, Err, ℕ, ◌≡◌, List, Bool}
+use Rattle.std.specs.Prelude.{Ok, Err, ℕ, ◌≡◌, List, Bool}
 use Rattle.std.proofs.Math.Path.{ap}
 use Rattle.std.proofs.Common.{sym, ◌∙◌}
-use Rattle.std.proofs.Math.Option.{none}
 use Rattle.lists.specs.Tests.{T→true}
 use Rattle.reading.specs.Trees.{Reading}
 use Rattle.echo_spec.specs.Refusals.{unless}

@@ -12,7 +12,6 @@ ghost use Rattle.release.specs.Told.{reason_number, refused, told_by};
 ghost use Rattle.release.specs.Order.{ReadTo};
 
 use release_meanings::{earliest_clash, few_scripts};
-use script_calls::FLAGS;
 use script_lines::next_script;
 use script_names::Table;
 use script_place::Unread;
@@ -49,10 +48,9 @@ fn read(s: &[u8]) -> Result<(), Reason>
     ensures { refused result ≡ read_refusal (reading_in s.now) }
 {
     let mut t = Table::new();
-    let mut flags = [0u64; FLAGS];
     let mut heap = no_nodes();
     let mut roots = [0u64; 256];
-    match rebuild_script(s, &mut t, &mut flags, &mut heap, &mut roots) {
+    match rebuild_script(s, &mut t, &mut heap, &mut roots) {
         Err(Unread::NoScript) => Err(Reason::NoScript),
         Err(Unread::Limit) => Err(Reason::Limit),
         Ok(_) => Ok(()),

@@ -38,6 +38,7 @@ pub fn earliest_clash(file: &[u8]) -> Option<u64>
     let mut names = Names::new();
     let mut at = 0;
     let mut k: u64 = 0;
+    // Kept: each script tells where the next one starts.
     while let Some(n) = next_script(&file[at..]) {
         let q = line_feed(file, at) + 1;
         match names.enter_script(file, q) {

@@ -12,6 +12,7 @@ ghost use Rattle.release_names.specs.Marks.{mark_of};
 ghost use Rattle.release_names.specs.Table.{Table, Sought, HeldBy, Fresh, LineTo, ScriptTo};
 
 use release_lines::{Line, next_line};
+use script_names::stands;
 
 // So many names can a release declare: 64 scripts with 512 variables, 512 arrays and 512 functions each.
 pub const ENTRIES: usize = 98304;
@@ -45,14 +46,6 @@ fn mark(name: &[u8]) -> usize
         h = (h * 16777619 + u64::from(*b)) % 134217728;
     }
     h as usize
-}
-
-// Do the bytes at place p begin with those from a up to e?
-fn stands(s: &[u8], a: usize, e: usize, p: usize) -> bool
-    requires { (a ≤ e) × (e ≤ length s.now) × (p ≤ length s.now) }
-    ensures { result ≡ same (between s.now a e) (take (e - a) (drop p s.now)) }
-{
-    s[p..].starts_with(&s[a..e])
 }
 
 impl Names {
@@ -129,6 +122,7 @@ impl Names {
             → ScriptTo s.now seen ys self.new result }
     {
         let mut at = q;
+        // Kept: each line tells where the next one begins.
         while let Some(line) = next_line(s, at) {
             self.enter_line(s, line)?;
             at = line.end;

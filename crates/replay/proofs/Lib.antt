@@ -1,3 +1,4 @@
 pub mod Bytewise
 pub mod Taking
 pub mod Agreeing
+pub mod Recording

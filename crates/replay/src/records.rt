@@ -1,7 +1,13 @@
 // A recorded list replayed: its records are read one after the other and judged, and the tally is written. A list that is damaged is told as
 // such. What is read and written no contract can say.
 
+ghost use Rattle.std.specs.Prelude.{◌≡◌, ◌+◌, length, drop, Some, IfOk, IfSome, IsSome};
+ghost use Rattle.echo_spec.specs.Input.{word32};
+ghost use Rattle.replay.specs.Unpacking.{record_in};
+ghost use Rattle.replay.specs.Stepping.{lent_bytes};
+
 use crate::unpack;
+use lent::word32;
 use std::alloc::{AllocError, Global};
 use std::collections::BTreeMap;
 use std::io;
@@ -115,24 +121,28 @@ impl Tally {
     }
 
     // How many had this number.
-    pub fn with(&self, number: u64) -> u64 {
+    fn with(&self, number: u64) -> u64 {
         self.numbers.get(&number).copied().unwrap_or(0)
     }
 }
 
 // ---------------------------------------------------------------- one record
 
-// A packed record: its length, and then its bytes, all of which have to be there.
-fn read_packed<R: Read>(
+// The next packed record, its length and then its bytes, unpacked to the front of `plain`; none where it is damaged or not all there. Ruled
+// out: a record that begins at its length; one that is longer than the file is.
+pub fn next_packed<'a, R: Read>(
     file: &mut R,
     packed: &mut [u8],
-    plain: &mut [u8],
-) -> io::Result<Option<usize>> {
+    plain: &'a mut [u8],
+) -> io::Result<Option<&'a [u8]>>
+    ensures unpacked { IfOk result (λ r. IfSome (R.remaining file.old) (λ s. lent_bytes r ≡ record_in (length packed.old) (length plain.old) s)) }
+    ensures left { IfOk result (λ r. IsSome r → IfSome (R.remaining file.old) (λ s. R.remaining file.new ≡ Some (drop (4 + word32 s 0) s))) }
+{
     let mut head = [0u8; 4];
     if read_full(file, &mut head)? < 4 {
         return Ok(None);
     }
-    let n = u32::from_le_bytes(head) as usize;
+    let n = word32(&head, 0) as usize;
     if n > packed.len() {
         return Ok(None);
     }
@@ -140,21 +150,9 @@ fn read_packed<R: Read>(
     if read_full(file, record)? < n {
         return Ok(None);
     }
-    Ok(unpack(record, plain))
-}
-
-// The next record, which is packed, judged as it is unpacked.
-pub fn next_packed<R: Read, F: FnOnce(&[u8]) -> Judged + Drop>(
-    file: &mut R,
-    packed: &mut [u8],
-    plain: &mut [u8],
-    judge: F,
-) -> io::Result<Judged>
-    requires { F.IsAlwaysCallable judge }
-{
-    match read_packed(file, packed, plain)? {
-        Some(k) if k <= plain.len() => Ok(judge(&plain[..k])),
-        _ => Ok(Err(Fault::Damaged)),
+    match unpack(record, plain) {
+        Some(k) => Ok(Some(&plain[..k])),
+        None => Ok(None),
     }
 }
 

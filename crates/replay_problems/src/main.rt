@@ -2,17 +2,17 @@
 // with the whole library.
 #![tactic(auto)]
 
-use replay::{Recorded, run};
+use replay::{Printed, Recorded, run};
 use std::io;
 
 static LISTS: [Recorded; 7] = [
     Recorded::Widths,
-    Recorded::Printer,
+    Recorded::Printed(Printed::Script),
     Recorded::Sizes,
-    Recorded::Hidden,
-    Recorded::Let,
+    Recorded::Printed(Printed::Hidden),
+    Recorded::Printed(Printed::Let),
     Recorded::Fewest,
-    Recorded::Formulas,
+    Recorded::Printed(Printed::Formulas),
 ];
 
 fn main(rt: HostRuntime) -> io::Result<()> {

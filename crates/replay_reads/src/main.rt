@@ -4,18 +4,23 @@
 
 ghost use Rattle.std.specs.Prelude.{◌<◌, ◌≤◌};
 
+use input_parts::{ENTRIES, INPUTS, ROOTS, SIDE};
 use lent::word32;
+use read_answers::ReadAnswer;
 use replay::{
-    Answer, Element, Fault, Judged, Replay, Words, agree, compared, next_packed, part, rest_of, run,
+    Answer, Element, Fault, Judged, Replay, Words, agree, compared, header, next_packed, part,
+    rest_of, run,
 };
-use script_reader::{ReadError, Sizes};
+use script_reader::Outputs;
 use std::io;
 use std::io::Read;
 
 // ---------------------------------------------------------------- the parts of a problem
 
 // The header: the length of the script, how many elements of each output are lent, and the number and the ten sizes that are to be answered.
-const HEADER: usize = 120;
+const NUMBERS: usize = 30;
+
+const HEADER: usize = 4 * NUMBERS;
 
 const LENT: usize = 1;
 
@@ -23,61 +28,55 @@ const NUMBER: usize = 19;
 
 const SIZES: usize = 20;
 
-const LAST: usize = 29;
-
-// No list has a number as large as this.
-const LARGEST: usize = 1000000;
-
-// Number k of the header.
-fn header(s: &[u8], k: usize) -> usize
-    ensures { result ≤ 1000000 }
-{
-    if s.len() < HEADER || k > LAST {
-        return 0;
-    }
-    (word32(s, 4 * k) as usize).min(LARGEST)
-}
-
-const OUTPUTS: usize = 18;
-
-// Where in the header the size of each output stands, after the first of them: the columns of a table have one.
-static SIZE_OF: [usize; OUTPUTS] = [0, 1, 2, 3, 4, 5, 5, 5, 5, 6, 7, 7, 7, 7, 8, 9, 9, 9];
-
-// The room for each output: somewhat more than the limits.
+// The room for an output: somewhat more than the limits.
 const NODES: usize = 34832;
 
 const BITS: usize = 131088;
 
 const NAMES: usize = 16400;
 
-const SIDE: usize = input_parts::SIDE;
+// Where in the header the size of an output stands, after the first of them (the columns of a table have one), and the room for it. The
+// outputs are in the order of the printer's inputs.
+struct Output(usize, usize);
 
-const ROOTS: usize = input_parts::ROOTS;
-
-const ENTRIES: usize = input_parts::ENTRIES;
-
-static ROOMS: [usize; OUTPUTS] = [
-    NODES, BITS, SIDE, ROOTS, NAMES, ENTRIES, ENTRIES, ENTRIES, ENTRIES, NAMES, ENTRIES, ENTRIES,
-    ENTRIES, ENTRIES, NAMES, ENTRIES, ENTRIES, ENTRIES,
+static TABLE: [Output; INPUTS] = [
+    Output(0, NODES),
+    Output(1, BITS),
+    Output(2, SIDE),
+    Output(3, ROOTS),
+    Output(4, NAMES),
+    Output(5, ENTRIES),
+    Output(5, ENTRIES),
+    Output(5, ENTRIES),
+    Output(5, ENTRIES),
+    Output(6, NAMES),
+    Output(7, ENTRIES),
+    Output(7, ENTRIES),
+    Output(7, ENTRIES),
+    Output(7, ENTRIES),
+    Output(8, NAMES),
+    Output(9, ENTRIES),
+    Output(9, ENTRIES),
+    Output(9, ENTRIES),
 ];
 
 // How many elements of output k are lent, and how many are the result's.
 fn lent_of(s: &[u8], k: usize) -> usize {
-    header(s, LENT.saturating_add(k))
+    header::<NUMBERS>(s, LENT.saturating_add(k))
 }
 
 fn used_of(s: &[u8], k: usize) -> usize
     requires { k < 18 }
     ensures { result ≤ 1000000 }
 {
-    header(s, SIZES.saturating_add(SIZE_OF[k]))
+    header::<NUMBERS>(s, SIZES.saturating_add(TABLE[k].0))
 }
 
 // Where the result of output k begins; after the last it is where the problem ends.
 fn start_of(s: &[u8], k: usize) -> usize
     requires { k ≤ 18 }
 {
-    let mut at = HEADER.saturating_add(header(s, 0));
+    let mut at = HEADER.saturating_add(header::<NUMBERS>(s, 0));
     for i in 0..k {
         at = at.saturating_add(input_parts::span(i, used_of(s, i)));
     }
@@ -85,7 +84,7 @@ fn start_of(s: &[u8], k: usize) -> usize
 }
 
 fn script<'a>(s: &'a [u8]) -> &'a [u8] {
-    part(s, HEADER, header(s, 0))
+    part(s, HEADER, header::<NUMBERS>(s, 0))
 }
 
 // The result of output k.
@@ -105,50 +104,26 @@ const OTHER: u8 = 85;
 
 const FILL_NUMBER: u64 = 0xAAAA_AAAA_AAAA_AAAA;
 
-fn answer_of(r: Result<Sizes, ReadError>) -> Answer {
-    match r {
-        Ok(z) => Answer {
-            number: 0,
-            count: z.nodes as u64,
-        },
-        Err(e) => Answer {
-            number: match e {
-                ReadError::NoScript => 13,
-                ReadError::Limit => 9,
-                ReadError::Room => 10,
-            },
-            count: 0,
-        },
-    }
-}
-
-fn sizes_agree(s: &[u8], z: Sizes) -> bool {
+// A refusal's sizes are 0, there as here.
+fn sizes_agree(s: &[u8], told: &ReadAnswer) -> bool {
     let sizes = [
-        z.nodes,
-        z.bits,
-        z.side,
-        z.roots,
-        z.names,
-        z.variables,
-        z.anames,
-        z.arrays,
-        z.fnames,
-        z.functions,
+        told.nodes,
+        told.bits,
+        told.side,
+        told.roots,
+        told.names,
+        told.variables,
+        told.anames,
+        told.arrays,
+        told.fnames,
+        told.functions,
     ];
     for (k, n) in sizes.iter().enumerate() {
-        if header(s, SIZES.saturating_add(k)) != *n {
+        if header::<NUMBERS>(s, SIZES.saturating_add(k)) as u64 != *n {
             return false;
         }
     }
     true
-}
-
-// A refusal has no sizes.
-fn result_agrees(s: &[u8], r: Result<Sizes, ReadError>) -> bool {
-    match r {
-        Ok(z) => sizes_agree(s, z),
-        Err(_) => true,
-    }
 }
 
 // The first n of the room, which are lent.
@@ -158,30 +133,18 @@ fn first<T>(room: &mut [T], n: usize) -> &mut [T] {
     &mut room[..n]
 }
 
-// Output k in its room: the result and then what was there before, or zeros after a refusal.
-fn agrees<T: Element>(s: &[u8], k: usize, room: &[T], fill: T, zero: T) -> bool
+// Output k, which was filled before: the result and then what was there, or zeros after a refusal.
+fn agrees<T: Element>(s: &[u8], k: usize, output: &[T], fill: T) -> bool
     requires { k < 18 }
 {
-    let rest = rest_of(header(s, NUMBER) as u64, fill, zero);
-    agree(part(room, 0, lent_of(s, k)), wanted(s, k), rest)
-}
-
-fn bytes_agree(s: &[u8], k: usize, room: &[u8], fill: u8) -> bool
-    requires { k < 18 }
-{
-    agrees(s, k, room, fill, 0)
-}
-
-fn numbers_agree(s: &[u8], k: usize, room: &[u64]) -> bool
-    requires { k < 18 }
-{
-    agrees(s, k, room, FILL_NUMBER, 0)
+    let rest = rest_of(header::<NUMBERS>(s, NUMBER) as u64, fill);
+    agree(output, wanted(s, k), rest)
 }
 
 // Is there room for what is lent.
 fn fits(s: &[u8]) -> bool {
-    for (k, room) in ROOMS.iter().enumerate() {
-        if lent_of(s, k) > *room {
+    for (k, output) in TABLE.iter().enumerate() {
+        if lent_of(s, k) > output.1 {
             return false;
         }
     }
@@ -208,50 +171,53 @@ fn judged(s: &[u8], fill: u8) -> Judged {
     let mut fname_start = [FILL_NUMBER; ENTRIES];
     let mut fname_len = [FILL_NUMBER; ENTRIES];
     let mut func_width = [FILL_NUMBER; ENTRIES];
-    let r = script_reader::read_script(
-        script(s),
-        first(&mut nodes, lent_of(s, 0)),
-        first(&mut bits, lent_of(s, 1)),
-        first(&mut side, lent_of(s, 2)),
-        first(&mut roots, lent_of(s, 3)),
-        first(&mut names, lent_of(s, 4)),
-        first(&mut name_start, lent_of(s, 5)),
-        first(&mut name_len, lent_of(s, 6)),
-        first(&mut var_node, lent_of(s, 7)),
-        first(&mut var_width, lent_of(s, 8)),
-        first(&mut anames, lent_of(s, 9)),
-        first(&mut aname_start, lent_of(s, 10)),
-        first(&mut aname_len, lent_of(s, 11)),
-        first(&mut index_width, lent_of(s, 12)),
-        first(&mut value_width, lent_of(s, 13)),
-        first(&mut fnames, lent_of(s, 14)),
-        first(&mut fname_start, lent_of(s, 15)),
-        first(&mut fname_len, lent_of(s, 16)),
-        first(&mut func_width, lent_of(s, 17)),
-    );
-    let agreed = result_agrees(s, r)
-        && bytes_agree(s, 0, &nodes, fill)
-        && bytes_agree(s, 1, &bits, fill)
-        && numbers_agree(s, 2, &side)
-        && numbers_agree(s, 3, &roots)
-        && bytes_agree(s, 4, &names, fill)
-        && numbers_agree(s, 5, &name_start)
-        && numbers_agree(s, 6, &name_len)
-        && numbers_agree(s, 7, &var_node)
-        && numbers_agree(s, 8, &var_width)
-        && bytes_agree(s, 9, &anames, fill)
-        && numbers_agree(s, 10, &aname_start)
-        && numbers_agree(s, 11, &aname_len)
-        && numbers_agree(s, 12, &index_width)
-        && numbers_agree(s, 13, &value_width)
-        && bytes_agree(s, 14, &fnames, fill)
-        && numbers_agree(s, 15, &fname_start)
-        && numbers_agree(s, 16, &fname_len)
-        && numbers_agree(s, 17, &func_width);
+    let mut outputs = Outputs {
+        nodes: first(&mut nodes, lent_of(s, 0)),
+        bits: first(&mut bits, lent_of(s, 1)),
+        side: first(&mut side, lent_of(s, 2)),
+        roots: first(&mut roots, lent_of(s, 3)),
+        names: first(&mut names, lent_of(s, 4)),
+        name_start: first(&mut name_start, lent_of(s, 5)),
+        name_len: first(&mut name_len, lent_of(s, 6)),
+        var_node: first(&mut var_node, lent_of(s, 7)),
+        var_width: first(&mut var_width, lent_of(s, 8)),
+        anames: first(&mut anames, lent_of(s, 9)),
+        aname_start: first(&mut aname_start, lent_of(s, 10)),
+        aname_len: first(&mut aname_len, lent_of(s, 11)),
+        index_width: first(&mut index_width, lent_of(s, 12)),
+        value_width: first(&mut value_width, lent_of(s, 13)),
+        fnames: first(&mut fnames, lent_of(s, 14)),
+        fname_start: first(&mut fname_start, lent_of(s, 15)),
+        fname_len: first(&mut fname_len, lent_of(s, 16)),
+        func_width: first(&mut func_width, lent_of(s, 17)),
+    };
+    let told = ReadAnswer::from(script_reader::read_script(script(s), &mut outputs));
+    let agreed = sizes_agree(s, &told)
+        && agrees(s, 0, outputs.nodes, fill)
+        && agrees(s, 1, outputs.bits, fill)
+        && agrees(s, 2, outputs.side, FILL_NUMBER)
+        && agrees(s, 3, outputs.roots, FILL_NUMBER)
+        && agrees(s, 4, outputs.names, fill)
+        && agrees(s, 5, outputs.name_start, FILL_NUMBER)
+        && agrees(s, 6, outputs.name_len, FILL_NUMBER)
+        && agrees(s, 7, outputs.var_node, FILL_NUMBER)
+        && agrees(s, 8, outputs.var_width, FILL_NUMBER)
+        && agrees(s, 9, outputs.anames, fill)
+        && agrees(s, 10, outputs.aname_start, FILL_NUMBER)
+        && agrees(s, 11, outputs.aname_len, FILL_NUMBER)
+        && agrees(s, 12, outputs.index_width, FILL_NUMBER)
+        && agrees(s, 13, outputs.value_width, FILL_NUMBER)
+        && agrees(s, 14, outputs.fnames, fill)
+        && agrees(s, 15, outputs.fname_start, FILL_NUMBER)
+        && agrees(s, 16, outputs.fname_len, FILL_NUMBER)
+        && agrees(s, 17, outputs.func_width, FILL_NUMBER);
     // The sizes are among what agrees.
-    let answer = answer_of(r);
+    let answer = Answer {
+        number: told.number,
+        count: told.nodes,
+    };
     let recorded = Answer {
-        number: header(s, NUMBER) as u64,
+        number: header::<NUMBERS>(s, NUMBER) as u64,
         count: answer.count,
     };
     compared(answer, recorded, agreed)
@@ -259,7 +225,7 @@ fn judged(s: &[u8], fill: u8) -> Judged {
 
 // An unpacked problem, of which all has to be there.
 fn opened(s: &[u8]) -> Judged {
-    if start_of(s, OUTPUTS) != s.len() || !fits(s) {
+    if start_of(s, INPUTS) != s.len() || !fits(s) {
         return Err(Fault::Damaged);
     }
     judged(s, FILL)?;
@@ -295,7 +261,8 @@ impl Replay for Reads {
         packed: &mut [u8],
         plain: &mut [u8],
     ) -> io::Result<Judged> {
-        next_packed(file, packed, plain, opened)
+        let record = next_packed(file, packed, plain)?;
+        Ok(record.ok_or(Fault::Damaged).and_then(opened))
     }
 }
 

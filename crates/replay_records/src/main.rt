@@ -3,8 +3,8 @@
 #![tactic(auto)]
 
 use lent::word32;
-use refusals::EchoError;
 use replay::{Answer, Fault, Judged, Replay, Words, agree, compared, next_packed, rest_of, run};
+use short_records::numbers::RecordAnswer;
 use std::io;
 use std::io::Read;
 
@@ -20,26 +20,17 @@ const HEADER: usize = 20;
 // The list lends no more than this.
 const LENT: usize = 36864;
 
-fn answer_of(r: Result<usize, EchoError>) -> Answer {
-    match r {
-        Ok(n) => Answer {
-            number: 0,
-            count: n as u64,
-        },
-        Err(e) => Answer {
-            number: u64::from(e),
-            count: 0,
-        },
-    }
-}
-
 fn convert(way: u64, bytes: &[u8], out: &mut [u8]) -> Answer {
-    let r = if way == 0 {
+    let converted = if way == 0 {
         short_records::shorten(bytes, out)
     } else {
         short_records::lengthen(bytes, out)
     };
-    answer_of(r)
+    let told = RecordAnswer::from(converted);
+    Answer {
+        number: told.number,
+        count: told.length,
+    }
 }
 
 // An unpacked problem: behind the header stand the bytes to convert, and then the result. The answer beside the recorded one, and every
@@ -65,7 +56,7 @@ fn judged(s: &[u8], fill: u8) -> Judged {
     }
     let lent = &mut out[..m];
     let answer = convert(word32(header, 0), given, lent);
-    let rest = rest_of(recorded.number, fill, 0);
+    let rest = rest_of(recorded.number, fill);
     compared(answer, recorded, agree(lent, wanted, rest))
 }
 
@@ -96,10 +87,13 @@ impl Replay for Records {
         packed: &mut [u8],
         plain: &mut [u8],
     ) -> io::Result<Judged> {
-        next_packed(file, packed, plain, |s| {
-            judged(s, FILL)?;
-            judged(s, OTHER)
-        })
+        let record = next_packed(file, packed, plain)?;
+        Ok(
+            record.ok_or(Fault::Damaged).and_then(|s| {
+                judged(s, FILL)?;
+                judged(s, OTHER)
+            }),
+        )
     }
 }
 

@@ -68,7 +68,8 @@ impl Replay for Releases {
         packed: &mut [u8],
         plain: &mut [u8],
     ) -> io::Result<Judged> {
-        next_packed(file, packed, plain, judged)
+        let record = next_packed(file, packed, plain)?;
+        Ok(record.ok_or(Fault::Damaged).and_then(judged))
     }
 }
 

@@ -42,7 +42,7 @@ struct Scripts;
 
 impl Replay for Scripts {
     // The recorded lengths, and the bytes of a file; the list is not packed.
-    const PACKED: usize = 4096;
+    const PACKED: usize = 4 * MOST;
 
     const PLAIN: usize = LONGEST;
 

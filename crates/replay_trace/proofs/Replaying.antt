@@ -1,38 +1,37 @@
 -- What each check refuses with, and what the rows ask and give. Assumes nothing.
-use Prim.Native.Nat.{ℕ, zero, suc, ◌+◌, ◌-◌, ◌*◌, ◌^◌, ◌≤◌, ◌<◌}
+use Prim.Native.Nat.{ℕ, zero, suc, ◌+◌, ◌-◌, ◌≤◌, ◌<◌}
 use mathlib.Core.Path.{◌≡◌, refl, sym, ap, ◌∙◌, subst}
-use mathlib.Core.List.{List, [], ◌∷◌, ◌++◌}
+use mathlib.Core.List.{List, ◌++◌}
 use mathlib.Core.Bool.{Bool, true, false, ◌&&◌}
-use native.Mathlib.Nat.{pos_of_ne-zero}
 use native.Mathlib.Omega.{arith}
 use borrow.Author.Tests.{ltb-true, ltb-false, le-leb, lt-leb}
 use lib.Count.{ones}
 use lib.Dec.{T, ltb, leb, leb→le}
 use lib.ListN.{length, get_or, take, drop, length-append, length-drop, get_or-append}
 use lib.Seq.{ext_get_or, get_or-append-add, get_or-drop}
-use Rattle.lists.specs.Tests.{every, among-every, and_0, and-1, T→true, true→T}
+use Rattle.lists.specs.Tests.{every, and_0, and-1}
 use Rattle.lists.specs.Build.{tabulate, length-tabulate, get_or-tabulate}
-use Rattle.lent.specs.Arrays.{Slice, problem_at}
 use Rattle.echo_spec.specs.Refusals.{unless, ◌or_else◌}
-use Rattle.echo_spec.specs.Input.{Problem, array_widths, nodes_of, dag_of, query_of}
-use Rattle.echo_spec.specs.Widths.{widths_of}
+use Rattle.echo_spec.specs.Input.{Problem, array_widths, nodes_of, dag_of}
 use Rattle.echo_spec.specs.Answers.{endless_refusal, at_front, zeroed}
-use Rattle.echo_spec.specs.Accepted.{unless-passed, or_else-passed, endless_number}
-use Rattle.echo_spec.proofs.Accepted.{endless-number}
-use Rattle.refusals.specs.Numbers.{Numbered}
+use Rattle.echo_spec.specs.Accepted.{unless-passed, or_else-passed}
+use Rattle.refusals.specs.declared.EchoError.{EchoError}
+use Rattle.refusals.specs.Numbers.{error_number, error-number}
+use Rattle.std.specs.Prelude.{Option, Result, Ok, Err}
+use Rattle.std.proofs.Common.{◌⊎◌, inl, inr}
 use Rattle.sliver_kernel.specs.Pass as pass
 use Rattle.echo_tables.specs.Found.{Entries}
 use Rattle.vectors.specs.Values.{mask, count}
 use Rattle.traces.specs.Trace.{mask_limit, narrow, narrow_roots, values_fit, rows_of, row_of, holding_in, trace_refusal, TraceAnswer, trace_answer, replay_trace_answer}
 use Rattle.trace_narrow.specs.Marks as marks
-use Rattle.trace_tables.specs.Fixed.{Lent, Fixed}
-use Rattle.trace_terms.specs.Places.{Usable}
+use Rattle.trace_tables.specs.Fixed.{Measured}
 use Rattle.trace_rows.specs.Masks.{Roots, Masked, ones-mask}
 use Rattle.trace_rows.specs.Rows.{Trace, Done}
-use Rattle.trace_theorems.specs.Accepting.{Fitting, few, lent, roots-ready, mask-answers, rows_inside, row_fits}
-use Rattle.replay_trace.specs.Traced.{answered, Listed, Ended, first_refusal, later_refusal, Widths, Tables, Words, Traceable, Written}
-use Rattle.replay_trace.specs.declared.Trace as outcomes
-use Rattle.replay_trace.specs.declared.Trace.TheVariants as outcome
+use Rattle.trace_theorems.specs.Accepting.{few, Fitting, measured, roots-ready, mask-answers, rows_inside, row_fits}
+use Rattle.replay_trace.specs.Errors.{trace_number}
+use Rattle.replay_trace.specs.Traced.{answered, Ran, first_refusal, later_refusal, Widths, Full, Traceable, Written}
+use Rattle.replay_trace.specs.declared.TraceError.{TraceError}
+use Rattle.replay_trace.specs.declared.TraceError.TheVariants as error
 
 -- ---------------------------------------------------------------- the checks
 
@@ -55,13 +54,10 @@ module _ (p : Problem) (values : List ℕ) (n m c : ℕ) where
     no-values f = rw (sym q ∙ e, sym q' ∙ f) refl
 
     module _ (f : s ≡ true) where
-      pub no-mask-room : m < n → 10 ≡ later_refusal p values n m c
+      pub no-room : (m < n) ⊎ ((n ≤ m) × (c < n)) → 10 ≡ later_refusal p values n m c
       unfolding later_refusal
-      no-mask-room h = rw (sym q ∙ e, sym q' ∙ f, lt-leb n m h) refl
-
-      pub no-count-room : n ≤ m → c < n → 10 ≡ later_refusal p values n m c
-      unfolding later_refusal
-      no-count-room h k = rw (sym q ∙ e, sym q' ∙ f, le-leb n m h, lt-leb n c k) refl
+      no-room (inl h) = rw (sym q ∙ e, sym q' ∙ f, lt-leb n m h) refl
+      no-room (inr h) = rw (sym q ∙ e, sym q' ∙ f, le-leb n m h.0, lt-leb n c h.1) refl
 
       pub all_pass : n ≤ m → n ≤ c → 0 ≡ later_refusal p values n m c
       unfolding later_refusal
@@ -72,39 +68,14 @@ pub narrow-is : (p : Problem) {ws : List ℕ} {r : Bool} → Widths p ws → mar
 unfolding narrow_roots dag_of
 narrow-is p w k = k.is (dag_of p) refl ∙ ap (λ (x : List ℕ). every (narrow (dag_of p) x) p.roots) w.are
 
-pub printed-first : (p : Problem) {x : ℕ} → x ≡ first_refusal p → x ≤ 0 → (length p.roots ≤ 64) × (endless_refusal p ≡ 0)
+printed-first : (p : Problem) → 0 ≡ first_refusal p → (length p.roots ≤ 64) × (endless_refusal p ≡ 0)
 unfolding first_refusal
-printed-first p {x} e h =
-    let z : x ≡ 0 = omega arith in
-    let a = or_else-passed (unless (leb (length p.roots) 64) 9) (endless_refusal p) (sym e ∙ z) in
+printed-first p e =
+    let a = or_else-passed (unless (leb (length p.roots) 64) 9) (endless_refusal p) (sym e) in
     (leb→le (length p.roots) 64 (unless-passed (leb (length p.roots) 64) 8 a.0), a.1)
 
--- ---------------------------------------------------------------- the numbers
-
-listed_by : {x : ℕ} → T (endless_number x) → Listed x
-unfolding endless_number
-listed_by {x} t = record {
-  listed = λ a b c.
-      (pos_of_ne-zero a, leb→le x 12 (among-every (λ k. leb k 12) (0 ∷ 1 ∷ 2 ∷ 3 ∷ 4 ∷ 5 ∷ 6 ∷ 7 ∷ 8 ∷ 9 ∷ 12 ∷ []) tt x t));
-}
-
-pub first-listed : (p : Problem) {x : ℕ} → x ≡ first_refusal p → Listed x
-unfolding first_refusal
-first-listed p e = rw e (by-test (leb (length p.roots) 64))
-  where
-    by-test : (b : Bool) → Listed (unless b 9 or_else endless_refusal p)
-    by-test true = listed_by (endless-number p)
-    by-test false = record { listed = λ a b c. (omega arith, omega arith) }
-
-pub later-listed : (p : Problem) (values : List ℕ) (n m c : ℕ) {x : ℕ} → x ≡ later_refusal p values n m c → Listed x
-unfolding later_refusal
-later-listed p values n m c e = rw e (by_tests (narrow_roots p) (values_fit p.var_width values) (leb n m && leb n c))
-  where
-    by_tests : (r s t : Bool) → Listed (unless r 14 or_else unless s 15 or_else unless t 10)
-    by_tests false s t = record { listed = λ a b c. absurd (b refl) }
-    by_tests true false t = record { listed = λ a b c. absurd (c refl) }
-    by_tests true true false = record { listed = λ a b c. (omega arith, omega arith) }
-    by_tests true true true = record { listed = λ a b c. absurd (a refl) }
+pub few_nodes : (p : Problem) → 0 ≡ first_refusal p → length (nodes_of p.nodes) ≤ 2048
+few_nodes p e = few p (printed-first p e).1
 
 -- ---------------------------------------------------------------- the two parts together
 
@@ -121,32 +92,37 @@ module _ (p : Problem) (values : List ℕ) (m c : ℕ) where
   unfolding trace_refusal first_refusal later_refusal
   split = sym (or_else-assoc (unless (leb (length p.roots) mask_limit) 9) (endless_refusal p) _)
 
-  pub by_first : {x : ℕ} → x ≡ first_refusal p → 0 < x → trace_refusal p values m c ≡ x
-  by_first {x} e h = split ∙ ap (λ (z : ℕ). z or_else later_refusal p values (rows_of p values) m c) (sym e) ∙ stops x _ h
+  pub by_first : (e : EchoError) → error_number e ≡ first_refusal p → trace_refusal p values m c ≡ error_number e
+  by_first e f =
+      let q = error-number e in
+      split ∙ ap (λ (z : ℕ). z or_else later_refusal p values (rows_of p values) m c) (sym f) ∙ stops (error_number e) _ (omega (arith, q))
 
-  pub by-later : {n x : ℕ} → length p.roots ≤ 64 → endless_refusal p ≡ 0 → n ≡ rows_of p values → x ≡ later_refusal p values n m c → trace_refusal p values m c ≡ x
-  by-later {n} l z r e =
-      split ∙ ap (λ (y : ℕ). y or_else later_refusal p values (rows_of p values) m c) (sym (then-printing p l z))
-      ∙ ap (λ (k : ℕ). later_refusal p values k m c) (sym r) ∙ sym e
+  pub by-later : {n x : ℕ} → 0 ≡ first_refusal p → n ≡ rows_of p values → x ≡ later_refusal p values n m c → trace_refusal p values m c ≡ x
+  by-later f r e =
+      split ∙ ap (λ (y : ℕ). y or_else later_refusal p values (rows_of p values) m c) (sym f) ∙ ap (λ (k : ℕ). later_refusal p values k m c) (sym r) ∙ sym e
 
 -- ---------------------------------------------------------------- the ways out
 
+above : (e : TraceError) → 0 < trace_number e
+above (error.Refused e) = let q = error-number e in omega (arith, q)
+above error.Wide = omega arith
+above error.Values = omega arith
+
 module _ (p : Problem) (values masks counts : List ℕ) {masks' counts' : List ℕ} where
-  pub refuses : {x : ℕ} {r : outcomes.Trace} → trace_refusal p values (length masks) (length counts) ≡ x → 0 < x → Ended x 0 r → masks' ≡ zeroed masks → counts' ≡ zeroed counts
-      → answered r masks' counts' ≡ replay_trace_answer p values masks counts
+  pub refuses : (e : TraceError) → trace_refusal p values (length masks) (length counts) ≡ trace_number e → masks' ≡ zeroed masks → counts' ≡ zeroed counts
+      → answered (Err e) masks' counts' ≡ replay_trace_answer p values masks counts
   unfolding replay_trace_answer trace_answer
-  refuses {x} {r} e h d a b =
-      (λ i. record { number = d.number_is i; rows = d.rows_are.1 (λ z. omega arith) i; masks = a i; counts = b i })
-      ∙ none x h ∙ ap (λ (y : ℕ). trace_answer y p values masks counts) (sym e)
+  refuses e q a b =
+      (λ i. record { number = trace_number e; rows = 0; masks = a i; counts = b i })
+      ∙ none (trace_number e) (above e) ∙ ap (λ (y : ℕ). trace_answer y p values masks counts) (sym q)
     where
       none : (x : ℕ) → 0 < x → ◌≡◌ {A = TraceAnswer} (record { number = x; rows = 0; masks = zeroed masks; counts = zeroed counts }) (trace_answer x p values masks counts)
       none zero h = absurd (omega arith)
       none (suc x) h = refl
 
-  pub accepts : {n : ℕ} → trace_refusal p values (length masks) (length counts) ≡ 0 → n ≡ rows_of p values → Written p values n masks counts masks' counts'
-      → answered (outcome.Rows n) masks' counts' ≡ replay_trace_answer p values masks counts
+  pub accepts : {n : ℕ} → Ran p values masks counts (Ok n) masks' counts' → answered (Ok n) masks' counts' ≡ replay_trace_answer p values masks counts
   unfolding replay_trace_answer trace_answer
-  accepts {n} e r w =
+  accepts {n} (e, r, w) =
       (λ i. record { number = 0; rows = n; masks = w.masks_are i; counts = w.counts-are i })
       ∙ (λ i. record {
         number = 0;
@@ -156,15 +132,19 @@ module _ (p : Problem) (values masks counts : List ℕ) {masks' counts' : List �
       })
       ∙ ap (λ (y : ℕ). trace_answer y p values masks counts) (sym e)
 
-pub passes : (p : Problem) (values : List ℕ) {n m c x : ℕ} → Words p values → n ≡ rows_of p values → x ≡ later_refusal p values n m c → x ≤ 0 → Traceable p values n m c
+pub ran-refused : (p : Problem) (values masks counts masks' counts' : List ℕ) {r : Result ℕ TraceError} {e : TraceError} → r ≡ Err e
+    → trace_refusal p values (length masks) (length counts) ≡ trace_number e → Ran p values masks counts r masks' counts'
+ran-refused p values masks counts masks' counts' q t = rw q t
+
+pub passes : (p : Problem) (values : List ℕ) {n m c : ℕ} → 0 ≡ first_refusal p → Full values → n ≡ rows_of p values → 0 ≡ later_refusal p values n m c
+    → Traceable p values n m c
 unfolding later_refusal
-passes p values {n} {m} {c} w r e h =
-    let z : later_refusal p values n m c ≡ 0 = sym e ∙ (let y : ◌≡◌ {A = ℕ} _ 0 = omega arith in y) in
-    let a = or_else-passed (unless (narrow_roots p) 14) _ z in
+passes p values {n} {m} {c} f w r e =
+    let a = or_else-passed (unless (narrow_roots p) 14) _ (sym e) in
     let b = or_else-passed (unless (values_fit p.var_width values) 15) _ a.1 in
     let room : T (leb n m && leb n c) = unless-passed (leb n m && leb n c) 9 b.1 in
     record {
-      words = w;
+      words = record { roots = (printed-first p f).0; words = w };
       narrow = unless-passed (narrow_roots p) 13 a.0;
       fit = unless-passed (values_fit p.var_width values) 14 b.0;
       rows = r;
@@ -173,10 +153,13 @@ passes p values {n} {m} {c} w r e h =
     }
 
 -- the widths that were filled in
-pub widths-are : (p : Problem) {x n : ℕ} {table : List ℕ} → x ≡ first_refusal p → x ≤ 0 → pass.Passed (length p.bits) (array_widths p) p.side (nodes_of p.nodes) n table
+pub widths-are : (p : Problem) {n : ℕ} {table : List ℕ} → 0 ≡ first_refusal p → pass.Passed (length p.bits) (array_widths p) p.side (nodes_of p.nodes) n table
     → Widths p (take n table)
 unfolding dag_of
-widths-are p e h k = record { passed = (printed-first p e h).1; are = k.table }
+widths-are p f k = record { passed = (printed-first p f).1; are = k.table }
+
+pub measured-at : (p : Problem) {ws : List ℕ} → Widths p ws → Measured p ws
+measured-at p w = subst (λ (x : List ℕ). Measured p x) (sym w.are) (measured p w.passed)
 
 -- ---------------------------------------------------------------- the rows
 
@@ -204,13 +187,7 @@ front-is f n old new l h e r =
         ∙ get_or-append-add (tabulate n f) (drop (length (tabulate n f)) old) (j - n) 0 ∙ get_or-drop (length (tabulate n f)) old (j - n) 0
         ∙ ap (λ (i : ℕ). get_or old i 0) s)
 
-pub lent_at : (p : Problem) {ws : List ℕ} → Widths p ws → Lent p.nodes p.bits ws
-lent_at p w = subst (λ (x : List ℕ). Lent p.nodes p.bits x) (sym w.are) (lent p w.passed)
-
-module _ (p : Problem) {ws es xs : List ℕ} (t : Tables p ws es xs) where
-  pub usable : Lent p.nodes p.bits ws
-  usable = lent_at p t.widths
-
+module _ (p : Problem) {ws : List ℕ} (w : Widths p ws) {es : List (Option ℕ)} (en : Entries p.var_node es) where
   module _ (values : List ℕ) (n : ℕ) {m c : ℕ} (k : Traceable p values n m c) where
     fitting : (j : ℕ) → j < n → Fitting p.var_width (row_of (length p.var_width) values j)
     fitting j h = row_fits p.var_width values k.words.words.at k.fit j (rw k.rows at h)
@@ -220,14 +197,14 @@ module _ (p : Problem) {ws es xs : List ℕ} (t : Tables p ws es xs) where
     trace = record {
       inside = rw k.rows (rows_inside p.var_width values);
       at = λ j h.
-          subst (λ (x : List ℕ). Roots p.nodes x p.var_width es (row_of (length p.var_width) values j) p.roots) (sym t.widths.are)
-          (roots-ready p t.widths.passed es (row_of (length p.var_width) values j) t.entries (fitting j h) k.words.roots k.narrow);
+          subst (λ (x : List ℕ). Roots p.nodes x p.var_width es (row_of (length p.var_width) values j) p.roots) (sym w.are)
+          (roots-ready p w.passed es (row_of (length p.var_width) values j) en (fitting j h) k.words.roots k.narrow);
     }
 
     mask_is : (j : ℕ) → j < n → {x : ℕ} → Masked p.nodes p.bits ws p.var_width es (row_of (length p.var_width) values j) p.roots x → x ≡ mask (holding_in p values j)
     mask_is j h {x} d =
-        mask-answers p t.widths.passed es (row_of (length p.var_width) values j) t.entries (fitting j h)
-        (subst (λ (y : List ℕ). Masked p.nodes p.bits y p.var_width es (row_of (length p.var_width) values j) p.roots x) t.widths.are d)
+        mask-answers p w.passed es (row_of (length p.var_width) values j) en (fitting j h)
+        (subst (λ (y : List ℕ). Masked p.nodes p.bits y p.var_width es (row_of (length p.var_width) values j) p.roots x) w.are d)
 
     pub written : {masks counts masks' counts' : List ℕ} → n ≤ length masks → n ≤ length counts
         → Done p.nodes p.bits ws p.var_width es values p.roots masks counts n masks' counts' → Written p values n masks counts masks' counts'

@@ -1,41 +1,30 @@
 -- The number and rows of what `replay_trace` answers, with the outputs as they are then.
-use Rattle.std.specs.Prelude.{ℕ, zero, suc, ◌^◌, ◌≤◌, ◌<◌, ◌≡◌, List, ◌&&◌, T, leb, length, get_or}
+use Rattle.std.specs.Prelude.{ℕ, ◌^◌, ◌≤◌, ◌<◌, ◌≡◌, List, ◌&&◌, T, leb, length, get_or, Result, Ok, Err, ⊤}
 use Rattle.lists.specs.Build.{tabulate}
 use Rattle.echo_spec.specs.Input.{Problem, query_of}
 use Rattle.echo_spec.specs.Widths.{widths_of}
-use Rattle.refusals.specs.Numbers.{error_number, Numbered}
 use Rattle.echo_spec.specs.Refusals.{unless, ◌or_else◌}
 use Rattle.echo_spec.specs.Answers.{endless_refusal, at_front}
-use Rattle.echo_tables.specs.Found.{Entries}
 use Rattle.vectors.specs.Values.{mask, count}
-use Rattle.traces.specs.Trace.{TraceAnswer, mask_limit, narrow_roots, values_fit, rows_of, holding_in}
-use Rattle.trace_tables.specs.Fixed.{Fixed}
-use Rattle.replay_trace.specs.declared.Trace.{Trace}
-use Rattle.replay_trace.specs.declared.Trace.TheVariants.{Rows, Wide, Values, Refused}
+use Rattle.traces.specs.Trace.{TraceAnswer, mask_limit, narrow_roots, values_fit, rows_of, holding_in, trace_refusal}
+use Rattle.replay_trace.specs.declared.TraceError.{TraceError}
+use Rattle.replay_trace.specs.Errors.{trace_number}
 
-abbrev pub number : Trace → ℕ
-number (Rows n) = 0
-number Wide = 14
-number Values = 15
-number (Refused e) = error_number e
+abbrev pub number : {A : Type 0} → Result A TraceError → ℕ
+number (Ok n) = 0
+number (Err e) = trace_number e
 
-abbrev pub rows : Trace → ℕ
-rows (Rows n) = n
-rows Wide = 0
-rows Values = 0
-rows (Refused e) = 0
+abbrev pub rows : Result ℕ TraceError → ℕ
+rows (Ok n) = n
+rows (Err e) = 0
 
-abbrev pub answered : Trace → List ℕ → List ℕ → TraceAnswer
+abbrev pub answered : Result ℕ TraceError → List ℕ → List ℕ → TraceAnswer
 answered r masks counts = record { number = number r; rows = rows r; masks = masks; counts = counts }
 
--- the numbers that there are
-pub record Listed (number : ℕ) : Type 0 where
-  pub listed : (number ≡ 0 → ⊥) → (number ≡ 14 → ⊥) → (number ≡ 15 → ⊥) → Numbered number
-
--- the answer has this number, and n rows if it is 0
-pub record Ended (x n : ℕ) (r : Trace) : Type 0 where
-  pub number_is : number r ≡ x
-  pub rows_are : (x ≡ 0 → rows r ≡ n) × ((x ≡ 0 → ⊥) → rows r ≡ 0)
+-- what a check answers as a number: 0 where it passes
+abbrev pub told : Result ⊤ TraceError → ℕ
+told (Ok x) = 0
+told (Err e) = trace_number e
 
 -- ---------------------------------------------------------------- the order of the checks, in two parts
 
@@ -54,12 +43,6 @@ later_refusal p values n masks counts =
 pub record Widths (p : Problem) (ws : List ℕ) : Type 0 where
   pub passed : endless_refusal p ≡ 0
   pub are : ws ≡ widths_of (query_of p)
-
--- the tables that are filled before the rows
-pub record Tables (p : Problem) (ws es xs : List ℕ) : Type 0 where
-  pub widths : Widths p ws
-  pub entries : Entries p.var_node es
-  pub fixed : Fixed p.nodes p.bits ws es xs
 
 -- the values have 64 bits, as they have in every slice of such numbers
 pub record Full (values : List ℕ) : Type 0 where
@@ -83,3 +66,9 @@ pub record Traceable (p : Problem) (values : List ℕ) (n m c : ℕ) : Type 0 wh
 pub record Written (p : Problem) (values : List ℕ) (n : ℕ) (masks counts masks' counts' : List ℕ) : Type 0 where
   pub masks_are : masks' ≡ at_front (tabulate n (λ j. mask (holding_in p values j))) masks
   pub counts-are : counts' ≡ at_front (tabulate n (λ j. count (holding_in p values j))) counts
+
+-- what the replay answers: so many rows with the outputs written, or the first refusal
+abbrev pub Ran : Problem → List ℕ → List ℕ → List ℕ → Result ℕ TraceError → List ℕ → List ℕ → Type 0
+Ran p values masks counts (Ok n) masks' counts' =
+    (trace_refusal p values (length masks) (length counts) ≡ 0) × (n ≡ rows_of p values) × Written p values n masks counts masks' counts'
+Ran p values masks counts (Err e) masks' counts' = trace_refusal p values (length masks) (length counts) ≡ trace_number e

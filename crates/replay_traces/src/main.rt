@@ -2,19 +2,21 @@
 #![tactic(auto)]
 
 use input_parts::word64;
-use lent::word32;
+use lent::{Problem, word32};
 use replay::{
-    Answer, Fault, Judged, Replay, Words, agree, compared, next_packed, part, rest_of, run,
+    Answer, Fault, Judged, Replay, Words, agree, compared, header, next_packed, part, rest_of, run,
 };
-use replay_trace::Trace;
 use std::io;
 use std::io::Read;
+use trace_answers::TraceAnswer;
 
 // ---------------------------------------------------------------- the parts of a problem
 
 // The header: how many bytes or numbers each input has, the five of bytes first and then the thirteen of numbers, how many values there are,
 // how many numbers are lent for masks and for counts, and the number and the rows that are to be answered.
-const HEADER: usize = 92;
+const NUMBERS: usize = 23;
+
+const HEADER: usize = 4 * NUMBERS;
 
 const BYTES: usize = 5;
 
@@ -28,9 +30,6 @@ const NUMBER: usize = 21;
 
 const ROWS: usize = 22;
 
-// No list has a number as large as this.
-const LARGEST: usize = 1000000;
-
 // An unpacked problem: its bytes, and every number in them.
 #[derive(Clone, Copy)]
 struct Traced<'a> {
@@ -41,7 +40,11 @@ struct Traced<'a> {
 impl<'a> Traced<'a> {
     // Input k, of bytes.
     fn text(&self, k: usize) -> &'a [u8] {
-        part(self.bytes, start_of(self.bytes, k), header(self.bytes, k))
+        part(
+            self.bytes,
+            start_of(self.bytes, k),
+            header::<NUMBERS>(self.bytes, k),
+        )
     }
 
     // Input k, of numbers, or the values.
@@ -49,8 +52,32 @@ impl<'a> Traced<'a> {
         part(
             self.numbers,
             between(self.bytes, BYTES, k),
-            header(self.bytes, k),
+            header::<NUMBERS>(self.bytes, k),
         )
+    }
+
+    // The inputs, in the order in which they are lent.
+    fn problem(&self) -> Problem<'a> {
+        Problem {
+            nodes: self.text(0),
+            bits: self.text(1),
+            side: self.column(5),
+            roots: self.column(6),
+            names: self.text(2),
+            name_start: self.column(7),
+            name_len: self.column(8),
+            var_node: self.column(9),
+            var_width: self.column(10),
+            anames: self.text(3),
+            aname_start: self.column(11),
+            aname_len: self.column(12),
+            index_width: self.column(13),
+            value_width: self.column(14),
+            fnames: self.text(4),
+            fname_start: self.column(15),
+            fname_len: self.column(16),
+            func_width: self.column(17),
+        }
     }
 
     // n numbers of the result as they stand in the bytes, from one of all numbers on.
@@ -60,19 +87,11 @@ impl<'a> Traced<'a> {
     }
 }
 
-// Number k of the header.
-fn header(s: &[u8], k: usize) -> usize {
-    if s.len() < HEADER || k > ROWS {
-        return 0;
-    }
-    (word32(s, 4 * k) as usize).min(LARGEST)
-}
-
 // How many bytes or numbers the inputs have from one to another, the last left out.
 fn between(s: &[u8], from: usize, to: usize) -> usize {
     let mut n = 0usize;
     for k in from..to {
-        n = n.saturating_add(header(s, k));
+        n = n.saturating_add(header::<NUMBERS>(s, k));
     }
     n
 }
@@ -84,11 +103,8 @@ fn start_of(s: &[u8], k: usize) -> usize {
 
 // As many of the numbers as there is room for.
 fn fill(bytes: &[u8], column: &mut [u64]) {
-    for (i, x) in column.iter_mut().enumerate() {
-        if bytes.len() / 8 <= i {
-            return;
-        }
-        *x = word64(bytes, 8 * i);
+    for (x, number) in column.iter_mut().zip(bytes.chunks_exact(8)) {
+        *x = word64(number, 0);
     }
 }
 
@@ -102,63 +118,25 @@ const ALL: usize = 16384;
 
 const OUTPUT: usize = 512;
 
-fn answer_of(r: Trace) -> Answer {
-    match r {
-        Trace::Rows(n) => Answer {
-            number: 0,
-            count: n as u64,
-        },
-        Trace::Wide => Answer {
-            number: replay_trace::WIDE,
-            count: 0,
-        },
-        Trace::Values => Answer {
-            number: replay_trace::VALUES,
-            count: 0,
-        },
-        Trace::Refused(e) => Answer {
-            number: refusals::number_of(e),
-            count: 0,
-        },
-    }
-}
-
-fn replayed<'a>(p: Traced<'a>, masks: &mut [u64], counts: &mut [u64]) -> Answer {
-    answer_of(replay_trace::replay_trace(
-        p.text(0),
-        p.text(1),
-        p.column(5),
-        p.column(6),
-        p.text(2),
-        p.column(7),
-        p.column(8),
-        p.column(9),
-        p.column(10),
-        p.text(3),
-        p.column(11),
-        p.column(12),
-        p.column(13),
-        p.column(14),
-        p.text(4),
-        p.column(15),
-        p.column(16),
-        p.column(17),
+// With so many numbers lent for masks and for counts: the answer beside the recorded one.
+fn replayed(p: &Traced, masks: &mut [u64], counts: &mut [u64]) -> Judged {
+    let told = TraceAnswer::from(replay_trace::replay_trace(
+        &p.problem(),
         p.column(VALUES),
         masks,
         counts,
-    ))
-}
-
-// With so many numbers lent for masks and for counts: the answer beside the recorded one.
-fn replayed_beside<'a>(p: Traced<'a>, masks: &mut [u64], counts: &mut [u64]) -> Judged {
-    let rows = header(p.bytes, ROWS);
+    ));
+    let answer = Answer {
+        number: told.number,
+        count: told.rows,
+    };
+    let rows = header::<NUMBERS>(p.bytes, ROWS);
     let recorded = Answer {
-        number: header(p.bytes, NUMBER) as u64,
+        number: header::<NUMBERS>(p.bytes, NUMBER) as u64,
         count: rows as u64,
     };
     let at = between(p.bytes, BYTES, MASKS);
-    let answer = replayed(p, masks, counts);
-    let rest = rest_of(recorded.number, FILL, 0);
+    let rest = rest_of(recorded.number, FILL);
     let agreed = agree(masks, p.wanted(at, rows), rest)
         && agree(counts, p.wanted(at.saturating_add(rows), rows), rest);
     compared(answer, recorded, agreed)
@@ -170,11 +148,11 @@ fn judged(s: &[u8]) -> Judged {
     let mut masks = [FILL; OUTPUT];
     let mut counts = [FILL; OUTPUT];
     let at = start_of(s, BYTES);
-    let rows = header(s, ROWS);
+    let rows = header::<NUMBERS>(s, ROWS);
     let n = between(s, BYTES, MASKS).saturating_add(rows.saturating_mul(2));
     let size = n.saturating_mul(8);
-    let m = header(s, MASKS);
-    let c = header(s, COUNTS);
+    let m = header::<NUMBERS>(s, MASKS);
+    let c = header::<NUMBERS>(s, COUNTS);
     if n > ALL || at.saturating_add(size) != s.len() || m > OUTPUT || c > OUTPUT {
         return Err(Fault::Damaged);
     }
@@ -183,7 +161,7 @@ fn judged(s: &[u8]) -> Judged {
         bytes: s,
         numbers: &numbers,
     };
-    replayed_beside(p, &mut masks[..m], &mut counts[..c])
+    replayed(&p, &mut masks[..m], &mut counts[..c])
 }
 
 // ---------------------------------------------------------------- the list
@@ -215,7 +193,8 @@ impl Replay for Traces {
         packed: &mut [u8],
         plain: &mut [u8],
     ) -> io::Result<Judged> {
-        next_packed(file, packed, plain, judged)
+        let record = next_packed(file, packed, plain)?;
+        Ok(record.ok_or(Fault::Damaged).and_then(judged))
     }
 }
 

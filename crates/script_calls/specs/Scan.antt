@@ -1,10 +1,11 @@
 -- The names between bars one after the other, and the functions flagged so far.
-use Rattle.std.specs.Prelude.{ℕ, ◌+◌, ◌-◌, ◌≤◌, ◌<◌, ◌≡◌, refl, List, [], ◌∷◌, ◌++◌, Bool, true, false, ◌||◌, T, eqb, ltb, length, drop, get_or, set}
+use Rattle.std.specs.Prelude.{ℕ, ◌+◌, ◌-◌, ◌≤◌, ◌<◌, ◌≡◌, refl, List, [], ◌∷◌, ◌++◌, Bool, true, false, ◌||◌, T, eqb, ltb, length, drop, get_or, set, replicate}
 use Rattle.std.proofs.Common.{ap, sym, ◌∙◌, subst, arith, eqb→eq, ltb→lt, nltb→le, length-set, get_or-set_same, get_or-set_other}
 use Rattle.std.specs.Prelude.{Some, None}
 use Rattle.std.proofs.Math.Option.{Option, none, some}
 use Rattle.std.proofs.lemmas.Bool.{eqb-false}
 use Rattle.std.proofs.Math.Seq.{set_out}
+use Rattle.std.proofs.lemmas.List.{length-replicate, get_or-replicate}
 use Rattle.lists.specs.Bytes.{bytes}
 use Rattle.lists.specs.Places.{find_at, at-get_or}
 use Rattle.lists.specs.Tests.{same, in_list, same→eq, same_refl, and_T, true→T, T→true, no→false}
@@ -31,20 +32,20 @@ use Rattle.script_entries.specs.declared.Entry.TheVariants.{Variable as Variable
 use Rattle.script_entries.specs.Finding.{function-name, function-numbers}
 use Rattle.header_laws.specs.Body.{reading_of, AssertionsAt}
 use Rattle.script_calls.specs.Bars.{names_from, stands, bars-skip, bars-name, bars-open, bars-none}
-use Rattle.script_calls.specs.Flags.{flag, Unflagged, Flagged}
+use Rattle.script_calls.specs.Flags.{Flagged}
 use Rattle.script_calls.specs.Texts.{assertions-call}
 
 -- ---------------------------------------------------------------- definitions
 
 -- the function's flag is set
-abbrev pub marked : Option ℕ → List ℕ → List ℕ
+abbrev pub marked : Option ℕ → List Bool → List Bool
 marked none l = l
-marked (some g) l = set l g 1
+marked (some g) l = set l g true
 
 -- a function is flagged, or its name stands in the bytes left, exactly if it stands in those from the start on
-pub record Scanned (s : List ℕ) (D : Declarations) (from p : ℕ) (l : List ℕ) : Type 0 where
+pub record Scanned (s : List ℕ) (D : Declarations) (from p : ℕ) (l : List Bool) : Type 0 where
   pub long : length l ≡ 512
-  pub told : (g : ℕ) → g < 512 → g < length D.functions → (x : Bool) × (get_or l g 0 ≡ flag x) × (stands (function_at D g).name (drop from s) ≡ (x || stands (function_at D g).name (drop p s)))
+  pub told : (g : ℕ) → g < 512 → g < length D.functions → stands (function_at D g).name (drop from s) ≡ (get_or l g false || stands (function_at D g).name (drop p s))
 
 -- ---------------------------------------------------------------- bytes up to a bar
 
@@ -86,15 +87,14 @@ module _ (b w r : List ℕ) (e : name_read b ≡ took w r) where
 -- ---------------------------------------------------------------- steps
 
 module _ (s : List ℕ) (D : Declarations) (from : ℕ) where
-  pub scan-start : (l : List ℕ) → Unflagged l → Scanned s D from from l
-  scan-start l u = record { long = u.long; told = λ g m k. (false, u.zeros g m, refl) }
+  pub scan-start : Scanned s D from from (replicate 512 false)
+  scan-start = record { long = length-replicate 512 false; told = λ g m k. ap (λ (y : Bool). y || stands (function_at D g).name (drop from s)) (sym (get_or-replicate 512 g false false m)) }
 
   -- no name is left
-  pub scan-end : (p : ℕ) (l : List ℕ) → Scanned s D from p l → names_from none (drop p s) ≡ [] → (g : ℕ) → g < 512 → g < length D.functions
-      → get_or l g 0 ≡ flag (stands (function_at D g).name (drop from s))
+  pub scan-end : (p : ℕ) (l : List Bool) → Scanned s D from p l → names_from none (drop p s) ≡ [] → (g : ℕ) → g < 512 → g < length D.functions
+      → get_or l g false ≡ stands (function_at D g).name (drop from s)
   scan-end p l x e g m k =
-      let (y, q, h) = x.told g m k in
-      q ∙ ap flag (sym (h ∙ ap (λ (ns : List Name). y || in_list (function_at D g).name ns) e ∙ or-false y))
+      sym (x.told g m k ∙ ap (λ (ns : List Name). get_or l g false || in_list (function_at D g).name ns) e ∙ or-false (get_or l g false))
     where
       or-false : (a : Bool) → (a || false) ≡ a
       or-false true = refl
@@ -116,44 +116,43 @@ module _ (s : List ℕ) (D : Declarations) (from : ℕ) where
       subst (λ (m : Name). T (same m n)) (same→eq n x.name h ∙ ap (λ (f : Function). f.name) (sym y)) (same_refl n)
 
   -- the next name, and its function flagged if it is one
-  pub scan-next : {t : Table} {h : Header} → Known s t h D → (p f : ℕ) (l : List ℕ) (n : Name) (v a : Option ℕ) (o : Option ℕ) → Scanned s D from p l → names_from none (drop p s) ≡ n ∷ names_from none (drop f s)
+  pub scan-next : {t : Table} {h : Header} → Known s t h D → (p f : ℕ) (l : List Bool) (n : Name) (v a : Option ℕ) (o : Option ℕ) → Scanned s D from p l → names_from none (drop p s) ≡ n ∷ names_from none (drop f s)
       → Numbers D n v a o → Scanned s D from f (marked o l)
   scan-next {t} {h} κ p f l n v a none x e i = record { long = x.long; told = told }
     where
-      told : (g : ℕ) → g < 512 → g < length D.functions → (y : Bool) × (get_or l g 0 ≡ flag y) × (stands (function_at D g).name (drop from s) ≡ (y || stands (function_at D g).name (drop f s)))
+      told : (g : ℕ) → g < 512 → g < length D.functions → stands (function_at D g).name (drop from s) ≡ (get_or l g false || stands (function_at D g).name (drop f s))
       told g m k =
-          let (y, q, u) = x.told g m k in
+          let y : Bool = get_or l g false in
           let c : Name = (function_at D g).name in
           let d : same c n ≡ false = no→false (same c n) (λ z. impossible (sym i.function ∙ ap (function_number D) (sym (same→eq c n z)) ∙ (own-numbers κ g k).function)) in
-          (y, q, u ∙ ap (λ (ns : List Name). y || in_list c ns) e ∙ ap (λ (z : Bool). y || (z || stands c (drop f s))) d)
-  scan-next {t} {h} κ p f l n v a (some j) x e i = record { long = length-set l j 1 ∙ x.long; told = λ g m k. by-same g m k (eqb g j) refl }
+          x.told g m k ∙ ap (λ (ns : List Name). y || in_list c ns) e ∙ ap (λ (z : Bool). y || (z || stands c (drop f s))) d
+  scan-next {t} {h} κ p f l n v a (some j) x e i = record { long = length-set l j true ∙ x.long; told = λ g m k. by-same g m k (eqb g j) refl }
     where
       or-true : (a b : Bool) → (a || (true || b)) ≡ (true || b)
       or-true true b = refl
       or-true false b = refl
 
-      by-same : (g : ℕ) → g < 512 → g < length D.functions → (b : Bool) → eqb g j ≡ b
-          → (y : Bool) × (get_or (set l j 1) g 0 ≡ flag y) × (stands (function_at D g).name (drop from s) ≡ (y || stands (function_at D g).name (drop f s)))
+      by-same : (g : ℕ) → g < 512 → g < length D.functions → (b : Bool) → eqb g j ≡ b → stands (function_at D g).name (drop from s) ≡ (get_or (set l j true) g false || stands (function_at D g).name (drop f s))
       by-same g m k true z =
-          let (y, q, u) = x.told g m k in
+          let y : Bool = get_or l g false in
           let c : Name = (function_at D g).name in
           let w : g ≡ j = eqb→eq g j (true→T z) in
-          let d : same c n ≡ true = T→true (same c n) (subst (λ (k : ℕ). T (same (function_at D k).name n)) (sym w) (found_name n j i.function)) in (
-            true,
-            subst (λ (k : ℕ). get_or (set l k 1) g 0 ≡ 1) w (get_or-set_same l g 1 0 (omega (arith, x.long))),
-            u ∙ ap (λ (ns : List Name). y || in_list c ns) e ∙ ap (λ (z : Bool). y || (z || stands c (drop f s))) d ∙ or-true y (stands c (drop f s)),
-          )
+          let d : same c n ≡ true = T→true (same c n) (subst (λ (k : ℕ). T (same (function_at D k).name n)) (sym w) (found_name n j i.function)) in
+          let u : get_or (set l j true) g false ≡ true = subst (λ (k : ℕ). get_or (set l k true) g false ≡ true) w (get_or-set_same l g true false (omega (arith, x.long))) in
+          x.told g m k ∙ ap (λ (ns : List Name). y || in_list c ns) e ∙ ap (λ (z : Bool). y || (z || stands c (drop f s))) d ∙ or-true y (stands c (drop f s))
+          ∙ ap (λ (z : Bool). z || stands c (drop f s)) (sym u)
       by-same g m k false z =
-          let (y, q, u) = x.told g m k in
+          let y : Bool = get_or l g false in
           let c : Name = (function_at D g).name in
           let d : same c n ≡ false = no→false (same c n) (λ r.
           (let b : some g ≡ some j = sym (own-numbers κ g k).function ∙ ap (function_number D) (same→eq c n r) ∙ i.function in
           let w : g ≡ j = cc in
           eqb-false g j z w)) in
-          (y, get_or-set_other l j g 1 0 (eqb-false g j z) ∙ q, u ∙ ap (λ (ns : List Name). y || in_list c ns) e ∙ ap (λ (z : Bool). y || (z || stands c (drop f s))) d)
+          x.told g m k ∙ ap (λ (ns : List Name). y || in_list c ns) e ∙ ap (λ (z : Bool). y || (z || stands c (drop f s))) d
+          ∙ ap (λ (z : Bool). z || stands c (drop f s)) (sym (get_or-set_other l j g true false (eqb-false g j z)))
 
 -- the next name, whatever it is, and its function flagged
-pub scan-more : {s : List ℕ} {t : Table} {h : Header} {D : Declarations} → Known s t h D → (from p a f : ℕ) (l l' : List ℕ) → Named s p a → Named s a f → Scanned s D from p l
+pub scan-more : {s : List ℕ} {t : Table} {h : Header} {D : Declarations} → Known s t h D → (from p a f : ℕ) (l l' : List Bool) → Named s p a → Named s a f → Scanned s D from p l
     → l' ≡ marked (function_number D (between s a (f - 1))) l → Scanned s D from f l'
 scan-more {s} {t} {h} {D} κ from p a f l l' x y z e =
     let n : Name = between s a (f - 1) in
@@ -163,7 +162,7 @@ scan-more {s} {t} {h} {D} κ from p a f l l' x y z e =
 
 -- ---------------------------------------------------------------- what an enum answered
 
-module _ (s : List ℕ) (D : Declarations) (n : Name) (l : List ℕ) where
+module _ (s : List ℕ) (D : Declarations) (n : Name) (l : List Bool) where
   pub marks-nothing : EntryIs s D n None → l ≡ marked (function_number D n) l
   marks-nothing x = ap (λ (o : Option ℕ). marked o l) (sym x.function)
 
@@ -171,12 +170,12 @@ module _ (s : List ℕ) (D : Declarations) (n : Name) (l : List ℕ) where
     told : {e : Entry} → r ≡ e → EntryIs s D n (Some e)
     told q = subst (λ (e : Entry). EntryIs s D n (Some e)) q h
 
-    pub marks-function : {g : ℕ} {u : Signature} → r ≡ FunctionEntry g u → set l g 1 ≡ marked (function_number D n) l
+    pub marks-function : {g : ℕ} {u : Signature} → r ≡ FunctionEntry g u → set l g true ≡ marked (function_number D n) l
     marks-function {g} {u} q = let x : EntryIs s D n (Some (FunctionEntry g u)) = told q in ap (λ (o : Option ℕ). marked o l) (sym x.numbers.function)
 
     -- a function that has no flag
     pub marks-past : {g : ℕ} {u : Signature} → r ≡ FunctionEntry g u → length l ≤ g → l ≡ marked (function_number D n) l
-    marks-past {g} {u} q m = sym (set_out l g 1 m) ∙ marks-function q
+    marks-past {g} {u} q m = sym (set_out l g true m) ∙ marks-function q
 
     pub marks-array : {k : ℕ} {u : Widths} → r ≡ ArrayEntry k u → l ≡ marked (function_number D n) l
     marks-array {k} {u} q = let x : EntryIs s D n (Some (ArrayEntry k u)) = told q in ap (λ (o : Option ℕ). marked o l) (sym x.numbers.function)
@@ -187,46 +186,42 @@ module _ (s : List ℕ) (D : Declarations) (n : Name) (l : List ℕ) where
 -- ---------------------------------------------------------------- the assertions
 
 -- The flags are those of the assertions, where they are those of the names in the bytes.
-flagged-by : {s : List ℕ} {t : Table} {h : Header} {D : Declarations} → Known s t h D → (from : ℕ) (l : List ℕ) (ts : List Tree) → AssertionsAt s D from ts → length l ≡ 512
-    → ((g : ℕ) → g < 512 → g < length D.functions → get_or l g 0 ≡ flag (stands (function_at D g).name (drop from s))) → Flagged D (trees_from ts) l
+flagged-by : {s : List ℕ} {t : Table} {h : Header} {D : Declarations} → Known s t h D → (from : ℕ) (l : List Bool) (ts : List Tree) → AssertionsAt s D from ts → length l ≡ 512
+    → ((g : ℕ) → g < 512 → g < length D.functions → get_or l g false ≡ stands (function_at D g).name (drop from s)) → Flagged D (trees_from ts) l
 unfolding printable
 flagged-by {s} {t} {h} {D} κ from l ts x y e = record {
   long = y;
   flags = λ g m k.
       (let i = own-numbers s D from κ g k in
-      e g m k ∙ ap flag (assertions-call D (barred (reading_of D ts) (and_T (declarable D) (all_bool D (trees_from ts)) κ.declarable x.bools)) (function_at D g).name
-      (record { variable = i.variable; array = i.array }) s from ts x));
+      e g m k ∙ assertions-call D (barred (reading_of D ts) (and_T (declarable D) (all_bool D (trees_from ts)) κ.declarable x.bools)) (function_at D g).name
+      (record { variable = i.variable; array = i.array }) s from ts x);
 }
 
 -- No name is left.
-pub flagged : {s : List ℕ} {t : Table} {h : Header} {D : Declarations} → Known s t h D → (from p : ℕ) (l : List ℕ) (ts : List Tree) → AssertionsAt s D from ts → Scanned s D from p l → names_from none (drop p s) ≡ []
+pub flagged : {s : List ℕ} {t : Table} {h : Header} {D : Declarations} → Known s t h D → (from p : ℕ) (l : List Bool) (ts : List Tree) → AssertionsAt s D from ts → Scanned s D from p l → names_from none (drop p s) ≡ []
     → Flagged D (trees_from ts) l
 flagged {s} {D = D} κ from p l ts x y e = flagged-by κ from l ts x y.long (scan-end s D from p l y e)
 
 -- Every function has its flag, whatever is left.
-pub flagged-all : {s : List ℕ} {t : Table} {h : Header} {D : Declarations} → Known s t h D → (from p : ℕ) (l : List ℕ) (ts : List Tree) → AssertionsAt s D from ts → Scanned s D from p l
-    → ((g : ℕ) → g < 512 → g < length D.functions → get_or l g 0 ≡ 1) → Flagged D (trees_from ts) l
-flagged-all {s} {D = D} κ from p l ts x y all = flagged-by κ from l ts x y.long (λ g m k. (let (b, q, u) = y.told g m k in by_flag g b q u (all g m k)))
-  where
-    by_flag : (g : ℕ) (b : Bool) → get_or l g 0 ≡ flag b → stands (function_at D g).name (drop from s) ≡ (b || stands (function_at D g).name (drop p s)) → get_or l g 0 ≡ 1
-        → get_or l g 0 ≡ flag (stands (function_at D g).name (drop from s))
-    by_flag g true q u e = q ∙ ap flag (sym u)
-    by_flag g false q u e = let z : ◌≡◌ {A = ℕ} 0 1 = sym q ∙ e in absurd (omega arith)
+pub flagged-all : {s : List ℕ} {t : Table} {h : Header} {D : Declarations} → Known s t h D → (from p : ℕ) (l : List Bool) (ts : List Tree) → AssertionsAt s D from ts → Scanned s D from p l
+    → ((g : ℕ) → g < 512 → g < length D.functions → get_or l g false ≡ true) → Flagged D (trees_from ts) l
+flagged-all {s} {D = D} κ from p l ts x y all =
+    flagged-by κ from l ts x y.long (λ g m k. all g m k ∙ sym (y.told g m k ∙ ap (λ (b : Bool). b || stands (function_at D g).name (drop p s)) (all g m k)))
 
 -- a flag that is set stays
-ones-kept : (o : Option ℕ) (l : List ℕ) (d : ℕ) → d ≤ length l → ((g : ℕ) → g < d → get_or l g 0 ≡ 1) → (g : ℕ) → g < d → get_or (marked o l) g 0 ≡ 1
-ones-kept none l d m h g k = h g k
-ones-kept (some j) l d m h g k = by_number (eqb g j) refl
+kept : (o : Option ℕ) (l : List Bool) (d : ℕ) → d ≤ length l → ((g : ℕ) → g < d → get_or l g false ≡ true) → (g : ℕ) → g < d → get_or (marked o l) g false ≡ true
+kept none l d m h g k = h g k
+kept (some j) l d m h g k = by_number (eqb g j) refl
   where
-    by_number : (b : Bool) → eqb g j ≡ b → get_or (set l j 1) g 0 ≡ 1
-    by_number true q = let z : g ≡ j = eqb→eq g j (true→T q) in rw z (get_or-set_same l j 1 0 (omega arith))
-    by_number false q = get_or-set_other l j g 1 0 (eqb-false g j q) ∙ h g k
+    by_number : (b : Bool) → eqb g j ≡ b → get_or (set l j true) g false ≡ true
+    by_number true q = let z : g ≡ j = eqb→eq g j (true→T q) in rw z (get_or-set_same l j true false (omega arith))
+    by_number false q = get_or-set_other l j g true false (eqb-false g j q) ∙ h g k
 
 -- the flags up to d, and after one more name those from there up to e
-pub ones-more : (o : Option ℕ) (l : List ℕ) (d : ℕ) {l' : List ℕ} {e : ℕ} → l' ≡ marked o l → d ≤ length l → ((g : ℕ) → g < d → get_or l g 0 ≡ 1) → ((g : ℕ) → g < e → d ≤ g → get_or l' g 0 ≡ 1)
-    → (g : ℕ) → g < e → get_or l' g 0 ≡ 1
-ones-more o l d {l'} {e} q m x y g k = by-test (ltb g d) refl
+pub flags-more : (o : Option ℕ) (l : List Bool) (d : ℕ) {l' : List Bool} {e : ℕ} → l' ≡ marked o l → d ≤ length l → ((g : ℕ) → g < d → get_or l g false ≡ true)
+    → ((g : ℕ) → g < e → d ≤ g → get_or l' g false ≡ true) → (g : ℕ) → g < e → get_or l' g false ≡ true
+flags-more o l d {l'} {e} q m x y g k = by-test (ltb g d) refl
   where
-    by-test : (b : Bool) → ltb g d ≡ b → get_or l' g 0 ≡ 1
-    by-test true p = ap (λ (z : List ℕ). get_or z g 0) q ∙ ones-kept o l d m x g (ltb→lt g d (true→T p))
+    by-test : (b : Bool) → ltb g d ≡ b → get_or l' g false ≡ true
+    by-test true p = ap (λ (z : List Bool). get_or z g false) q ∙ kept o l d m x g (ltb→lt g d (true→T p))
     by-test false p = y g k (nltb→le g d (rw p tt))

@@ -2,7 +2,7 @@
 // Under "Ruled out" stand wrong programs that a public function's contract refuses.
 #![tactic(auto)]
 
-ghost use Rattle.std.specs.Prelude.{◌≡◌, List, ℕ, ◌-◌, ◌≤◌, ◌<◌, length, get_or};
+ghost use Rattle.std.specs.Prelude.{◌≡◌, List, ℕ, ◌-◌, ◌≤◌, ◌<◌, length, get_or, true, false};
 ghost use Rattle.reading.specs.Trees.{Tree, Declarations};
 ghost use Rattle.script_names.specs.declared.Table.{Table};
 ghost use Rattle.readback.specs.Rebuild.{function_number};
@@ -11,7 +11,7 @@ ghost use Rattle.script_tokens.specs.Reached.{between};
 ghost use Rattle.script_names.specs.Entries.{Named};
 ghost use Rattle.script_entries.specs.Entries.{Known, Declares};
 ghost use Rattle.header_laws.specs.Body.{AssertionsAt};
-ghost use Rattle.script_calls.specs.Flags.{Unflagged, Flagged};
+ghost use Rattle.script_calls.specs.Flags.{Flagged};
 ghost use Rattle.script_calls.specs.Scan.{marked};
 
 use script_entries::{Entry, Script};
@@ -22,8 +22,8 @@ use script_tokens::name_end;
 pub const FLAGS: usize = 512;
 
 // The name from place a on, up to and with its bar before place f: where it is a function's, that function is flagged.
-fn flag_name(script: &Script, a: usize, f: usize, flags: &mut [u64; FLAGS])
-    requires { ((D : Declarations) × Declares script.now D) × Named script.now.text.now a f × (length flags.old ≡ 512) }
+fn flag_name(script: &Script, a: usize, f: usize, flags: &mut [bool; FLAGS])
+    requires { ((D : Declarations) × Declares script.now D) × Named script.now.text.now a f }
     ensures { (D : Declarations) → Declares script.now D
         → flags.new ≡ marked (function_number D (between script.now.text.now a (f - 1))) flags.old }
 {
@@ -33,7 +33,7 @@ fn flag_name(script: &Script, a: usize, f: usize, flags: &mut [u64; FLAGS])
     match entry {
         Entry::Function(g, _) => {
             if g < FLAGS {
-                flags[g] = 1;
+                flags[g] = true;
             }
         }
         Entry::Array(_, _) => {}
@@ -49,12 +49,12 @@ fn flag_count(h: &Header) -> usize
 }
 
 // The first of n functions from number `from` on that has no flag, or n.
-fn unflagged_from(flags: &[u64; FLAGS], from: usize, n: usize) -> usize
-    requires { (length flags.now ≡ 512) × (from ≤ n) × (n ≤ 512) }
-    ensures { (result ≤ n) × ((g : ℕ) → g < result → from ≤ g → get_or flags.now g 0 ≡ 1) }
+fn unflagged_from(flags: &[bool; FLAGS], from: usize, n: usize) -> usize
+    requires { (from ≤ n) × (n ≤ 512) }
+    ensures { (result ≤ n) × ((g : ℕ) → g < result → from ≤ g → get_or flags.now g false ≡ true) }
 {
     for g in from..n {
-        if flags[g] != 1 {
+        if !flags[g] {
             return g;
         }
     }
@@ -63,23 +63,26 @@ fn unflagged_from(flags: &[u64; FLAGS], from: usize, n: usize) -> usize
 
 // The functions that the assertions from place `from` on call are flagged; the search ends where every function is. Ruled out: a flag for a
 // function that stands only in the declarations; none for one that stands without arguments; a flag for a variable of the same number.
-pub fn called_in(script: &Script, from: usize, flags: &mut [u64; FLAGS])
-    requires { ((D : Declarations) × Declares script.now D) × (from ≤ length script.now.text.now) × Unflagged flags.old }
+pub fn called_in(script: &Script, from: usize) -> [bool; FLAGS]
+    requires { ((D : Declarations) × Declares script.now D) × (from ≤ length script.now.text.now) }
     ensures { (D : Declarations) (ts : List Tree) → Declares script.now D → AssertionsAt script.now.text.now D from ts
-        → Flagged D (trees_from ts) flags.new }
+        → Flagged D (trees_from ts) result }
 {
+    let mut flags = [false; FLAGS];
     let n = flag_count(&script.header);
     let mut p = from;
     let mut done = 0;
+    // Kept: each name tells where the next one may begin, and none is looked for once every function is flagged.
     while done < n {
         let Some(a) = name_end(script.text, p) else {
-            return;
+            return flags;
         };
         let Some(f) = name_end(script.text, a) else {
-            return;
+            return flags;
         };
-        flag_name(script, a, f, flags);
+        flag_name(script, a, f, &mut flags);
         p = f;
-        done = unflagged_from(flags, done, n);
+        done = unflagged_from(&flags, done, n);
     }
+    flags
 }

@@ -34,10 +34,7 @@ pub fn last_line(s: &[u8], p: usize) -> bool
     let Some(z) = literal(s, p, b"(check-sat)\n") else {
         return false;
     };
-    if z < s.len() {
-        return false;
-    }
-    true
+    z == s.len()
 }
 
 // How many assertions stand from place `from` on, each a Bool, with the last line after them. Ruled out: one that takes an assertion that is no

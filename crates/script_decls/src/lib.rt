@@ -12,7 +12,7 @@ ghost use Rattle.script_decls.specs.Tails.{SortsTo};
 ghost use Rattle.script_decls.specs.Lines.{sort_in, stage_number, word_of, TailTo, LineTo, StageTo, Ready, names_to};
 
 use echo_names::{bytes_ok, first_ok, is_reserved};
-use script_names::{Table, enter, find_line};
+use script_names::{Declared, Table, enter, find_line};
 use script_tokens::{Number, literal, name_end, numeral};
 
 // The lines of one kind stand together: those of variables, then those of arrays, then those of functions.
@@ -66,6 +66,7 @@ fn more_sorts(s: &[u8], at: usize) -> Option<usize>
     ensures { SortsTo false s.now at result }
 {
     let mut p = at;
+    // Kept: each sort tells where the next one begins.
     while p < s.len() {
         if s[p] == b')' {
             return Some(p + 1);
@@ -132,13 +133,13 @@ fn function_tail(s: &[u8], at: usize) -> Option<usize>
 }
 
 // What a line of a stage begins with.
+#[tactic(auto, unfolding(lists::specs::Bytes::bytes))]
 fn head(stage: Stage, s: &[u8], at: usize) -> Option<usize>
     requires { at ≤ length s.now }
     ensures { Reached s.now (expect (word_of (stage_number stage)) (drop at s.now)) result }
 {
     match stage {
-        Stage::Variables => literal(s, at, b"(declare-const |"),
-        Stage::Arrays => literal(s, at, b"(declare-const |"),
+        Stage::Variables | Stage::Arrays => literal(s, at, b"(declare-const |"),
         Stage::Functions => literal(s, at, b"(declare-fun |"),
     }
 }
@@ -174,10 +175,10 @@ pub fn read_line(stage: Stage, s: &[u8], at: usize) -> Option<Line>
 // ---------------------------------------------------------------- names
 
 // May the name be declared after those before it? Where it may, it is entered into the table.
-fn declare(s: &[u8], t: &mut Table, first: usize, count: usize, a: usize, f: usize) -> bool
-    requires { (first ≤ length s.now) × Named s.now a f × Tabled s.now first t.old count × (drop a s.now ≡ entry_from count (drop first s.now)) }
-    ensures { (result ≡ entry_ok (names_to (drop first s.now) count) (between s.now a (f - 1)))
-        × (result ≡ true → Tabled s.now first t.new (count + 1)) }
+fn declare(s: &[u8], t: &mut Table, lines: Declared, a: usize, f: usize) -> bool
+    requires { (lines.first ≤ length s.now) × Named s.now a f × Tabled s.now lines.first t.old lines.count × (drop a s.now ≡ entry_from lines.count (drop lines.first s.now)) }
+    ensures { (result ≡ entry_ok (names_to (drop lines.first s.now) lines.count) (between s.now a (f - 1)))
+        × (result ≡ true → Tabled s.now lines.first t.new (lines.count + 1)) }
 {
     let name = &s[a..f - 1];
     if !bytes_ok(name) {
@@ -189,36 +190,39 @@ fn declare(s: &[u8], t: &mut Table, first: usize, count: usize, a: usize, f: usi
     if is_reserved(name) {
         return false;
     }
-    match find_line(s, t, first, count, a, f) {
+    match find_line(s, t, lines, a, f) {
         Some(_) => false,
         None => {
-            enter(s, t, first, count, a, f);
+            enter(s, t, lines, a, f);
             true
         }
     }
 }
 
-// As many lines of a stage as there are, entered into the table after the `count` names that are there. Ruled out: lines read past a name
+// As many lines of a stage as there are, entered into the table after those that are there. Ruled out: lines read past a name
 // that is declared twice; a count that leaves the last line out.
 pub fn read_lines(
     stage: Stage,
     s: &[u8],
     t: &mut Table,
-    first: usize,
-    count: usize,
+    lines: Declared,
     at: usize,
 ) -> Option<Lines>
-    requires { Ready s.now first t.old count at }
-    ensures { StageTo (stage_number stage) s.now first count at t.new result }
+    requires { Ready s.now lines.first t.old lines.count at }
+    ensures { StageTo (stage_number stage) s.now lines.first lines.count at t.new result }
 {
-    let mut c = count;
+    let mut so_far = lines;
     let mut p = at;
+    // Kept: each line tells where the next one begins.
     while let Some(line) = read_line(stage, s, p) {
-        if !declare(s, t, first, c, line.name, line.name_end) {
+        if !declare(s, t, so_far, line.name, line.name_end) {
             return None;
         }
-        c += 1;
+        so_far.count += 1;
         p = line.end;
     }
-    Some(Lines { names: c, end: p })
+    Some(Lines {
+        names: so_far.count,
+        end: p,
+    })
 }

@@ -6,7 +6,7 @@ use mathlib.Core.List.{List, [], ◌∷◌, ◌++◌, map}
 use Rattle.std.proofs.Math.Option.{Option, some}
 use Rattle.std.proofs.Math.Dec.{T, ltb, leb→le, ltb→lt}
 use Rattle.std.proofs.lemmas.List.{length-map}
-use Rattle.echo_spec.specs.Shapes.{Shape, var, const, binary, rotation, extraction, concat, extension, ite, comparison, negation, connective, unary, unknown, shape_of}
+use Rattle.echo_spec.specs.Shapes.{Shape, binary, rotation, extraction, concat, extension, ite, unary, shape_of}
 use Rattle.lists.specs.Tests.{and_0, and-1}
 use Rattle.echo_spec.specs.Input.{Node}
 use Rattle.echo_spec.specs.TreeSorts.{TreeSort, bits, proper, width_of, rule_of, rule_for}

@@ -50,50 +50,59 @@ impl Seen {
     }
 }
 
-// The width of an operator's node, from its numerals i and j and the widths m and n of its first operands; of a Bool 0.
+// An operator: its kind, and its numerals, of which those that it does not have are 0.
+#[derive(Clone, Copy, Debug, PartialEq, Eq)]
+pub struct Operator {
+    pub kind: u8,
+    pub first: u64,
+    pub second: u64,
+}
+
+// The width of an operator's node, from the widths m and n of its first operands; of a Bool 0.
 // Ruled out: a concatenation as wide as its first operand; an extraction one bit too narrow.
-pub fn result_width(k: u8, i: u64, j: u64, m: u64, n: u64) -> u64
-    requires { T (proper (rule_of (shape_of k) i j m n).result) × T (rule_of (shape_of k) i j m n).condition }
-    ensures { result ≡ result_width (shape_of k) i j m n }
+pub fn result_width(o: Operator, m: u64, n: u64) -> u64
+    requires { T (proper (rule_of (shape_of o.kind) o.first o.second m n).result) × T (rule_of (shape_of o.kind) o.first o.second m n).condition }
+    ensures { result ≡ result_width (shape_of o.kind) o.first o.second m n }
 {
-    match Shape::from(k) {
+    match Shape::from(o.kind) {
         Shape::Binary | Shape::Rotation | Shape::Unary => m,
-        Shape::Extraction => i - j + 1,
+        Shape::Extraction => o.first - o.second + 1,
         Shape::Concat => m + n,
-        Shape::Extension => m + i,
+        Shape::Extension => m + o.first,
         Shape::Ite => n,
         _ => 0,
     }
 }
 
 // The record of an operator: its operands' nodes x, y and z, of which those past its last are 0, and the node of its amount.
-fn operator_record(k: u8, i: u64, j: u64, x: u64, y: u64, z: u64, amount: u64) -> Node
-    ensures { (result.kind ≡ k) × ((ks xs ms : List ℕ) → Made k i j x y z amount ks xs ms → node_with k (fields (shape_of k) ks xs ms) ≡ node_of result) }
+fn operator_record(o: Operator, x: u64, y: u64, z: u64, amount: u64) -> Node
+    ensures { (result.kind ≡ o.kind) × ((ks xs ms : List ℕ) → Made o.kind o.first o.second x y z amount ks xs ms → node_with o.kind (fields (shape_of o.kind) ks xs ms) ≡ node_of result) }
 {
-    match Shape::from(k) {
+    let kind = o.kind;
+    match Shape::from(kind) {
         Shape::Rotation => Node {
-            kind: k,
+            kind,
             a: x,
             b: amount,
             c: 0,
             d: 0,
         },
         Shape::Extraction => Node {
-            kind: k,
-            a: i,
-            b: j,
+            kind,
+            a: o.first,
+            b: o.second,
             c: x,
             d: 0,
         },
         Shape::Extension => Node {
-            kind: k,
+            kind,
             a: x,
-            b: i,
+            b: o.first,
             c: 0,
             d: 0,
         },
         _ => Node {
-            kind: k,
+            kind,
             a: x,
             b: y,
             c: z,
@@ -117,50 +126,34 @@ fn operand_or_zero(heap: &Heap, i: usize) -> u64
 }
 
 // The end of an operator whose amount, if it has one, has its node.
-fn end_over(
-    script: &[u8],
-    heap: &mut Heap,
-    base: usize,
-    k: u8,
-    i: u64,
-    j: u64,
-    amount: u64,
-) -> Option<u64>
+fn end_over(script: &[u8], heap: &mut Heap, base: usize, o: Operator, amount: u64) -> Option<u64>
     requires { Ends script.now heap.old base }
     ensures { (s : List Item) (refs rs : List Ref) (ks : List ℕ) (ms : List (List ℕ)) → Ending script.now heap.old base s refs rs
-        → OperatorOver k i j amount s ks ms (length rs)
-        → EndedAs script.now heap.new refs (ended (pending_in rs) (operator_item k ks rs ms) s) result }
+        → OperatorOver o.kind o.first o.second amount s ks ms (length rs)
+        → EndedAs script.now heap.new refs (ended (pending_in rs) (operator_item o.kind ks rs ms) s) result }
 {
     settle_all(script, heap, base)?;
     let x = operand_or_zero(heap, base);
     let y = operand_or_zero(heap, base + 1);
     let z = operand_or_zero(heap, base + 2);
-    let n = operator_record(k, i, j, x, y, z, amount);
+    let n = operator_record(o, x, y, z, amount);
     add_operator(heap, base, n)
 }
 
-// The end of an operator of kind k with the numerals i and j, whose operands wait from place `base` on; w is the first operand's width.
+// The end of an operator whose operands wait from place `base` on; w is the first operand's width.
 // Ruled out: an amount as wide as its numeral needs; the constants among the operands before the amount.
-pub fn end_operator(
-    script: &[u8],
-    heap: &mut Heap,
-    base: usize,
-    k: u8,
-    i: u64,
-    j: u64,
-    w: u64,
-) -> Option<u64>
+pub fn end_operator(script: &[u8], heap: &mut Heap, base: usize, o: Operator, w: u64) -> Option<u64>
     requires { Ends script.now heap.old base }
     ensures { (s : List Item) (refs rs : List Ref) (ks : List ℕ) (ms : List (List ℕ)) → Ending script.now heap.old base s refs rs
-        → OperatorEnds k i j w ks ms (length rs)
-        → EndedAs script.now heap.new refs (ended (ms ++ pending_in rs) (operator_item k ks rs ms) s) result }
+        → OperatorEnds o.kind o.first o.second w ks ms (length rs)
+        → EndedAs script.now heap.new refs (ended (ms ++ pending_in rs) (operator_item o.kind ks rs ms) s) result }
 {
-    match Shape::from(k) {
+    match Shape::from(o.kind) {
         Shape::Rotation => {
-            let m = settle_number(heap, i, w)?;
-            end_over(script, heap, base, k, i, j, m)
+            let m = settle_number(heap, o.first, w)?;
+            end_over(script, heap, base, o, m)
         }
-        _ => end_over(script, heap, base, k, i, j, 0),
+        _ => end_over(script, heap, base, o, 0),
     }
 }
 

@@ -14,7 +14,7 @@ ghost use Rattle.script_entries.specs.Entries.{first_of, variables_of, arrays_of
 
 use script_decls::{sort_in, sorts_end};
 use script_header::Header;
-use script_names::{LINES, Measure, Table, find_line};
+use script_names::{Declared, LINES, Measure, Table, find_line};
 use script_tokens::{Number, literal, name_end};
 
 // The widths of an array.
@@ -260,11 +260,13 @@ impl<'a> Script<'a> {
         requires { ((D : Declarations) × Declares self.now D) × Named self.now.text.now a f }
         ensures { (D : Declarations) → Declares self.now D → EntryIs self.now.text.now D (between self.now.text.now a (f - 1)) result }
     {
-        let first = self.header.first;
-        let count = self.header.names;
-        let found = find_line(self.text, self.table, first, count, a, f)?;
+        let lines = Declared {
+            first: self.header.first,
+            count: self.header.names,
+        };
+        let found = find_line(self.text, self.table, lines, a, f)?;
         let k = found.line;
-        if count > LINES {
+        if lines.count > LINES {
             let x = measure_after(self.text, &self.header, k, found.place + (f - a));
             return Some(entry_by(&self.header, k, x));
         }

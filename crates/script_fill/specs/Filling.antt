@@ -1,7 +1,7 @@
--- What the outputs of the tables of declarations become: the columns of the tables at their front, or zeros throughout.
-use Rattle.std.specs.Prelude.{ℕ, zero, suc, ◌+◌, ◌≤◌, ◌<◌, ◌≡◌, List, [], ◌∷◌, ◌++◌, map, length, drop, get_or}
+-- What the outputs of the tables of declarations become: the columns of the tables at their front.
+use Rattle.std.specs.Prelude.{ℕ, zero, suc, ◌+◌, ◌≤◌, ◌<◌, ◌≡◌, List, [], ◌∷◌, ◌++◌, map, length, drop}
 use Rattle.reading.specs.Trees.{Name, Variable, Array, Function, Declarations}
-use Rattle.echo_spec.specs.Answers.{at_front, zeroed}
+use Rattle.echo_spec.specs.Answers.{at_front}
 use Rattle.readback.specs.Printable.{variable_names_in, array_names_in, function_names_in}
 use Rattle.readback.specs.Rebuild.{starts_counted_from, count_from, arena}
 use Rattle.script_names.specs.Entries.{name_here, place_of}
@@ -9,11 +9,6 @@ use Rattle.script_names.specs.declared.Table.{Table}
 use Rattle.script_header.specs.declared.Header.{Header}
 use Rattle.script_entries.specs.declared.Script.{Script}
 use Rattle.script_entries.specs.Entries.{names_of, Known}
-
--- an acceptance writes a list to the front of an output, and a refusal clears all of it
-unfoldable pub change : ℕ → List ℕ → List ℕ → List ℕ
-change zero l o = at_front l o
-change (suc n) l o = zeroed o
 
 -- ---------------------------------------------------------------- names
 
@@ -49,10 +44,10 @@ pub record NamesFit (ns : List Name) (a b c : List ℕ) : Type 0 where
   pub lengths : length ns ≤ length c
 
 -- the three columns of names, before and after
-pub record NamesFilled (number : ℕ) (ns : List Name) (a b c a' b' c' : List ℕ) : Type 0 where
-  pub names : a' ≡ change number (arena ns) a
-  pub starts : b' ≡ change number (starts_counted_from 0 ns) b
-  pub lengths : c' ≡ change number (map length ns) c
+pub record NamesFilled (ns : List Name) (a b c a' b' c' : List ℕ) : Type 0 where
+  pub names : a' ≡ at_front (arena ns) a
+  pub starts : b' ≡ at_front (starts_counted_from 0 ns) b
+  pub lengths : c' ≡ at_front (map length ns) c
 
 -- where variables stand among the nodes: they come first, in order
 abbrev pub variable_nodes : Declarations → List ℕ
@@ -77,25 +72,25 @@ pub record VariablesFit (D : Declarations) (a b c d e : List ℕ) : Type 0 where
   pub widths : length D.variables ≤ length e
 
 -- what they become
-pub record VariablesFilled (number : ℕ) (D : Declarations) (a b c d e a' b' c' d' e' : List ℕ) : Type 0 where
-  pub named : NamesFilled number (variable_names_in D) a b c a' b' c'
-  pub nodes : d' ≡ change number (variable_nodes D) d
-  pub widths : e' ≡ change number (variable_widths D) e
+pub record VariablesFilled (D : Declarations) (a b c d e a' b' c' d' e' : List ℕ) : Type 0 where
+  pub named : NamesFilled (variable_names_in D) a b c a' b' c'
+  pub nodes : d' ≡ at_front (variable_nodes D) d
+  pub widths : e' ≡ at_front (variable_widths D) e
 
 pub record ArraysFit (D : Declarations) (a b c d e : List ℕ) : Type 0 where
   pub named : NamesFit (array_names_in D) a b c
   pub index : length D.arrays ≤ length d
   pub value : length D.arrays ≤ length e
 
-pub record ArraysFilled (number : ℕ) (D : Declarations) (a b c d e a' b' c' d' e' : List ℕ) : Type 0 where
-  pub named : NamesFilled number (array_names_in D) a b c a' b' c'
-  pub index : d' ≡ change number (index_widths D) d
-  pub value : e' ≡ change number (value_widths D) e
+pub record ArraysFilled (D : Declarations) (a b c d e a' b' c' d' e' : List ℕ) : Type 0 where
+  pub named : NamesFilled (array_names_in D) a b c a' b' c'
+  pub index : d' ≡ at_front (index_widths D) d
+  pub value : e' ≡ at_front (value_widths D) e
 
 pub record FunctionsFit (D : Declarations) (a b c d : List ℕ) : Type 0 where
   pub named : NamesFit (function_names_in D) a b c
   pub widths : length D.functions ≤ length d
 
-pub record FunctionsFilled (number : ℕ) (D : Declarations) (a b c d a' b' c' d' : List ℕ) : Type 0 where
-  pub named : NamesFilled number (function_names_in D) a b c a' b' c'
-  pub widths : d' ≡ change number (function_widths D) d
+pub record FunctionsFilled (D : Declarations) (a b c d a' b' c' d' : List ℕ) : Type 0 where
+  pub named : NamesFilled (function_names_in D) a b c a' b' c'
+  pub widths : d' ≡ at_front (function_widths D) d

@@ -1,30 +1,12 @@
 -- Laws of outputs that are filled from the front, and of the names in them.
 use Rattle.std.specs.Prelude.{ℕ, zero, suc, ◌+◌, ◌≤◌, ◌<◌, ◌≡◌, refl, List, [], ◌∷◌, ◌++◌, map, length, take, drop, get_or, set}
-use Rattle.std.proofs.Common.{ap, sym, ◌∙◌, append_assoc, append-nil, arith, length-append, length-drop, length-set, take-suc, take_all, take_at, drop_at, drop-drop, drop-cons, length-take-le, get_or-take, get_or-drop}
-use Rattle.std.proofs.lemmas.List.{length-map, set_at}
+use Rattle.std.proofs.Common.{ap, sym, ◌∙◌, append_assoc, append-nil, arith, length-append, length-drop, length-set, take-suc, take_all, take_at, drop_at, drop-drop, drop-cons, length-take-le}
+use Rattle.std.proofs.lemmas.List.{set_at}
 use Rattle.std.proofs.Math.ListN.{get_or-map}
 use Rattle.std.proofs.Math.Seq.{append_snoc, paste}
 use Rattle.reading.specs.Trees.{Name}
-use Rattle.echo_spec.specs.Answers.{at_front, zeroed}
+use Rattle.echo_spec.specs.Answers.{at_front}
 use Rattle.readback.specs.Rebuild.{starts_counted_from, count_from, arena}
-use Rattle.script_fill.specs.Filling.{change}
-
--- ---------------------------------------------------------------- an acceptance and a refusal
-
-pub change-write : {number : ℕ} (l o : List ℕ) {o' : List ℕ} → number ≡ 0 → o' ≡ at_front l o → o' ≡ change number l o
-unfolding change
-change-write l o e q = rw e q
-
-pub change-clear : (number : ℕ) (l o : List ℕ) {o' : List ℕ} → (number ≡ 0 → ⊥) → o' ≡ zeroed o → o' ≡ change number l o
-unfolding change
-change-clear zero l o f q = absurd (f refl)
-change-clear (suc n) l o f q = q
-
--- only an acceptance depends on the list
-pub change-same : (number : ℕ) {l m : List ℕ} (o : List ℕ) → (number ≡ 0 → l ≡ m) → change number l o ≡ change number m o
-unfolding change
-change-same zero o f = ap (λ (x : List ℕ). at_front x o) (f refl)
-change-same (suc n) o f = refl
 
 -- ---------------------------------------------------------------- from the front on
 
@@ -136,18 +118,5 @@ pub going_end : {l o out : List ℕ} {i : ℕ} → Going l o out i → length l 
 going_end {l} {o} {out} {i} g h = g.now ∙ front-whole l o i h
 
 -- a column of a table
-module _ {A : Type 0} (f : A → ℕ) (d : A) (zero-there : f d ≡ 0) (xs : List A) {o out : List ℕ} {i : ℕ} where
-  pub column-next : {w : ℕ} → Going (map f xs) o out i → f (get_or xs i d) ≡ w → i < length xs → i < length o → Going (map f xs) o (set out i w) (i + 1)
-  column-next g e h k =
-      let m = length-map xs f in
-      going_next g (ap (λ (z : ℕ). get_or (map f xs) i z) (sym zero-there) ∙ get_or-map f xs i d ∙ e) (omega arith) k
-
-  pub column-end : Going (map f xs) o out i → length xs ≤ i → out ≡ at_front (map f xs) o
-  column-end g h = let m = length-map xs f in going_end g (omega arith)
-
--- part of an array
-pub part-long : (l : List ℕ) (at n : ℕ) → at + n ≤ length l → length (take n (drop at l)) ≡ n
-part-long l at n h = let d = length-drop at l in length-take-le n (drop at l) (omega arith)
-
-pub part_at : (l : List ℕ) (at n i : ℕ) → i < n → get_or (take n (drop at l)) i 0 ≡ get_or l (at + i) 0
-part_at l at n i h = get_or-take n (drop at l) i 0 h ∙ get_or-drop at l i 0
+pub column_at : {A : Type 0} (f : A → ℕ) (d : A) → f d ≡ 0 → (xs : List A) (i : ℕ) → get_or (map f xs) i 0 ≡ f (get_or xs i d)
+column_at f d e xs i = ap (λ (z : ℕ). get_or (map f xs) i z) (sym e) ∙ get_or-map f xs i d

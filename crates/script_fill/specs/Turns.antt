@@ -10,10 +10,12 @@ use Rattle.std.proofs.Math.Dec.{eqb, eqb→eq}
 use borrow.Author.Tests.{eqb-false}
 use Rattle.std.proofs.Math.ListN.{get_or, length-append, get_or-append, get_or-map}
 use Rattle.std.proofs.lemmas.List.{length-map, get_or_at}
+use Rattle.std.proofs.lemmas.Slice.{put_mid-paste}
+use borrow.Rule.Slice.PartMut.{put_mid}
 use Rattle.std.proofs.Math.Seq.{paste}
 use Rattle.lists.specs.Tests.{true→T}
 use Rattle.reading.specs.Trees.{Name, Variable, Array, Function, Declarations}
-use Rattle.echo_spec.specs.Answers.{at_front, zeroed}
+use Rattle.echo_spec.specs.Answers.{at_front}
 use Rattle.readback.specs.Printable.{variable_names_in, array_names_in, function_names_in}
 use Rattle.readback.specs.Reader.{Took}
 use Rattle.readback.specs.Rebuild.{starts_counted_from, arena}
@@ -26,7 +28,7 @@ use Rattle.script_names.specs.Laws.{between-length}
 use Rattle.script_entries.specs.Entries.{first_of, variables_of, arrays_of, names_of, Known}
 use Rattle.script_entries.specs.Finding.{variable-name, array-name, function-name}
 use Rattle.script_fill.specs.Filling.{line_name, line_names, Lines, Few, NamesFit, NamesFilled, VariablesFit, ArraysFit, FunctionsFit}
-use Rattle.script_fill.specs.Laws.{change-write, change-clear, change-same, front-none, front_long, front-more, front-paste, arena-more, starts_more, starts-long, lengths-more}
+use Rattle.script_fill.specs.Laws.{front-none, front_long, front-more, front-paste, arena-more, starts_more, starts-long, lengths-more}
 
 -- ---------------------------------------------------------------- names of lines
 
@@ -79,114 +81,116 @@ module _ (s : List ℕ) (t : Table) (from : ℕ) where
     pub stretch-long : length (name_here (drop p s)) ≡ e - p
     stretch-long = ap length stretch-name ∙ between-length s p e st.low st.high
 
-  -- ---------------------------------------------------------------- measuring them
+-- ---------------------------------------------------------------- measuring them
 
-  pub measured-none : 0 ≡ length (arena (names 0))
-  unfolding line_names arena
-  measured-none = refl
+-- the first i names of lines have n bytes, which is within the limit
+pub record Summed (s : List ℕ) (t : Table) (from i n : ℕ) : Type 0 where
+  pub size : n ≡ length (arena (line_names s t from i))
+  pub few : n ≤ 16384
 
-  module _ (n i : ℕ) (e : n ≡ length (arena (names i))) where
-    module _ (p q : ℕ) (here : p ≡ place_of t (from + i)) (st : Stretch ends_name s p q) where
-      size-next : length (arena (names (i + 1))) ≡ n + (q - p)
-      size-next =
-          let y = arena-next i in
-          let z : length (line_name s t (from + i)) ≡ q - p = ap (λ (k : ℕ). length (name_here (drop k s))) (sym here) ∙ stretch-long p q st in
-          omega arith
+pub summed-none : (s : List ℕ) (t : Table) (from : ℕ) → Summed s t from 0 0
+unfolding line_names arena
+summed-none s t from = record { size = refl; few = omega arith }
 
-      pub measured-more : n + (q - p) ≡ length (arena (names (i + 1)))
-      measured-more = sym size-next
+module _ {s : List ℕ} {t : Table} {from i n : ℕ} (x : Summed s t from i n) where
+  module _ {p q : ℕ} (here : p ≡ place_of t (from + i)) (st : Stretch ends_name s p q) where
+    size-next : length (arena (line_names s t from (i + 1))) ≡ n + (q - p)
+    size-next =
+        let y = arena-next s t from i in
+        let z : length (line_name s t (from + i)) ≡ q - p = ap (λ (k : ℕ). length (name_here (drop k s))) (sym here) ∙ stretch-long s t from p q st in
+        omega (arith, x.size)
 
-      pub measured-over : (count : ℕ) → i < count → n ≤ 16384 → 16384 - n < q - p → 16385 ≡ min (length (arena (names count))) 16385
-      measured-over count l m o = let x = arena-grows (i + 1) count (omega arith) in let y = size-next in omega arith
+    pub summed_more : n + (q - p) ≤ 16384 → Summed s t from (i + 1) (n + (q - p))
+    summed_more l = record { size = sym size-next; few = l }
 
-    pub measured-all : (count : ℕ) → i ≡ count → n ≤ 16384 → n ≡ min (length (arena (names count))) 16385
-    measured-all count q m = let x : length (arena (names i)) ≡ length (arena (names count)) = ap (λ (k : ℕ). length (arena (names k))) q in omega arith
+    pub summed-over : {count : ℕ} → i < count → 16384 - n < q - p → 16385 ≡ min (length (arena (line_names s t from count))) 16385
+    summed-over {count} l o = let y = arena-grows s t from (i + 1) count (omega arith) in let z = size-next in omega (arith, x.few)
 
-  -- ---------------------------------------------------------------- writing them
+  pub summed_all : {count : ℕ} → i ≡ count → n ≡ min (length (arena (line_names s t from count))) 16385
+  summed_all {count} q = let y : length (arena (line_names s t from i)) ≡ length (arena (line_names s t from count)) = ap (λ (k : ℕ). length (arena (line_names s t from k))) q in omega (arith, x.size, x.few)
 
-  -- the first i names are written, and the next goes to place `at`
-  pub record Written (i at : ℕ) (a₀ b₀ c₀ a b c : List ℕ) : Type 0 where
-    pub place : at ≡ length (arena (names i))
-    pub bytes : a ≡ at_front (arena (names i)) a₀
-    pub starts : b ≡ at_front (starts_counted_from 0 (names i)) b₀
-    pub lengths : c ≡ at_front (map length (names i)) c₀
+-- ---------------------------------------------------------------- writing them
 
-  pub written_none : (a b c : List ℕ) → Written 0 0 a b c a b c
-  unfolding line_names arena starts_counted_from
-  written_none a b c = record { place = refl; bytes = front-none a; starts = front-none b; lengths = front-none c }
+-- the first i names of lines are written, and the next goes to place `at`
+pub record Written (s : List ℕ) (t : Table) (from i at : ℕ) (a₀ b₀ c₀ a b c : List ℕ) : Type 0 where
+  pub place : at ≡ length (arena (line_names s t from i))
+  pub bytes : a ≡ at_front (arena (line_names s t from i)) a₀
+  pub starts : b ≡ at_front (starts_counted_from 0 (line_names s t from i)) b₀
+  pub lengths : c ≡ at_front (map length (line_names s t from i)) c₀
 
-  module _ {i at : ℕ} {a₀ b₀ c₀ a b c : List ℕ} (w : Written i at a₀ b₀ c₀ a b c) where
-    pub written-bytes : length (arena (names i)) ≤ length a₀ → length a ≡ length a₀
-    written-bytes l = ap length w.bytes ∙ front_long (arena (names i)) a₀ l
+pub written_none : (s : List ℕ) (t : Table) (from : ℕ) (a b c : List ℕ) → Written s t from 0 0 a b c a b c
+unfolding line_names arena starts_counted_from
+written_none s t from a b c = record { place = refl; bytes = front-none a; starts = front-none b; lengths = front-none c }
 
-    pub written-starts : i ≤ length b₀ → length b ≡ length b₀
-    written-starts l = let x = starts-long (names i) in let y = names-long i in ap length w.starts ∙ front_long (starts_counted_from 0 (names i)) b₀ (omega arith)
+module _ {s : List ℕ} {t : Table} {from count i at : ℕ} {a₀ b₀ c₀ a b c : List ℕ} (w : Written s t from i at a₀ b₀ c₀ a b c) where
+  -- all names are written
+  pub written_all : i ≡ count → NamesFilled (line_names s t from count) a₀ b₀ c₀ a b c
+  written_all e =
+      let q : line_names s t from i ≡ line_names s t from count = ap (line_names s t from) e in
+      record {
+        names = w.bytes ∙ ap (λ (ns : List Name). at_front (arena ns) a₀) q;
+        starts = w.starts ∙ ap (λ (ns : List Name). at_front (starts_counted_from 0 ns) b₀) q;
+        lengths = w.lengths ∙ ap (λ (ns : List Name). at_front (map length ns) c₀) q;
+      }
 
-    pub written-lengths : i ≤ length c₀ → length c ≡ length c₀
-    written-lengths l = let x = length-map (names i) length in let y = names-long i in ap length w.lengths ∙ front_long (map length (names i)) c₀ (omega arith)
+  -- there is room for one name more
+  module _ (l : i < count) (f : NamesFit (line_names s t from count) a₀ b₀ c₀) where
+    pub starts-room : i < length b
+    starts-room =
+        let x = starts-long (line_names s t from i) in
+        let y = names-long s t from i in
+        let z = names-long s t from count in
+        let u = front_long (starts_counted_from 0 (line_names s t from i)) b₀ (omega (arith, f.starts)) in
+        omega (arith, ap length w.starts, f.starts)
 
-    module _ (p e : ℕ) (here : p ≡ place_of t (from + i)) (st : Stretch ends_name s p e) where
+    pub lengths-room : i < length c
+    lengths-room =
+        let x = length-map (line_names s t from i) length in
+        let y = names-long s t from i in
+        let z = names-long s t from count in
+        let u = front_long (map length (line_names s t from i)) c₀ (omega (arith, f.lengths)) in
+        omega (arith, ap length w.lengths, f.lengths)
+
+    module _ {p e : ℕ} (here : p ≡ place_of t (from + i)) (st : Stretch ends_name s p e) where
       name-is : line_name s t (from + i) ≡ between s p e
-      name-is = ap (λ (k : ℕ). name_here (drop k s)) (sym here) ∙ stretch-name p e st
+      name-is = ap (λ (k : ℕ). name_here (drop k s)) (sym here) ∙ stretch-name s t from p e st
+
+      between-long : length (between s p e) ≡ e - p
+      between-long = between-length s p e st.low st.high
 
       name-long : length (line_name s t (from + i)) ≡ e - p
-      name-long = ap length name-is ∙ between-length s p e st.low st.high
+      name-long = ap length name-is ∙ between-long
 
-      -- there is room for the name
-      pub written-room : (count : ℕ) → i < count → length (arena (names count)) ≤ length a₀ → at + (e - p) ≤ length a₀
-      written-room count l m =
-          let x = arena-grows (i + 1) count (omega arith) in
-          let y = arena-next i in
-          omega (arith, w.place, name-long)
+      pub names-room : at + (e - p) ≤ length a
+      names-room =
+          let x = arena-grows s t from (i + 1) count (omega arith) in
+          let y = arena-next s t from i in
+          let z = front_long (arena (line_names s t from i)) a₀ (omega (arith, f.names)) in
+          omega (arith, w.place, name-long, ap length w.bytes, f.names)
 
-      pub written-more : i < length b₀ → i < length c₀ → {a' : List ℕ} → a' ≡ paste a at (between s p e) (e - p)
-          → Written (i + 1) (at + (e - p)) a₀ b₀ c₀ a' (set b i at) (set c i (e - p))
-      written-more l m q =
+      pub written-more : {part : List ℕ} → part ≡ between s p e
+          → Written s t from (i + 1) (at + (e - p)) a₀ b₀ c₀ (put_mid at (at + (e - p) - at) a part) (set b i at) (set c i (e - p))
+      written-more {part} q =
           let n : Name = line_name s t (from + i) in
-          let x = starts-long (names i) in
-          let y = length-map (names i) length in
-          let z = names-long i in
+          let x = starts-long (line_names s t from i) in
+          let y = length-map (line_names s t from i) length in
+          let z = names-long s t from i in
+          let next : line_names s t from (i + 1) ≡ line_names s t from i ++ (n ∷ []) = names-next s t from i in
           record {
-            place = (let v = arena-next i in omega (arith, w.place, name-long));
+            place = (let v = arena-next s t from i in omega (arith, w.place, name-long));
             bytes =
-                q ∙ (λ j. paste (w.bytes j) at (sym name-is j) (e - p)) ∙ front-paste (arena (names i)) a₀ n at (e - p) (sym w.place) name-long
-                ∙ ap (λ (l : List ℕ). at_front l a₀) (sym (ap arena (names-next i) ∙ arena-more (names i) n));
+                put_mid-paste at (at + (e - p) - at) a part (between s p e) (e - p) q (omega arith) (sym between-long)
+                ∙ (λ j. paste (w.bytes j) at (sym name-is j) (e - p)) ∙ front-paste (arena (line_names s t from i)) a₀ n at (e - p) (sym w.place) name-long
+                ∙ ap (λ (l : List ℕ). at_front l a₀) (sym (ap arena next ∙ arena-more (line_names s t from i) n));
             starts =
-                ap (λ (l : List ℕ). set l i at) w.starts ∙ front-more (starts_counted_from 0 (names i)) b₀ i at (omega arith) l
+                ap (λ (l : List ℕ). set l i at) w.starts ∙ front-more (starts_counted_from 0 (line_names s t from i)) b₀ i at (omega arith) (omega (arith, f.starts, names-long s t from count))
                 ∙ ap (λ (l : List ℕ). at_front l b₀)
-                (ap (λ (k : ℕ). starts_counted_from 0 (names i) ++ (k ∷ [])) w.place ∙ sym (ap (starts_counted_from 0) (names-next i) ∙ starts_more (names i) n));
+                (ap (λ (k : ℕ). starts_counted_from 0 (line_names s t from i) ++ (k ∷ [])) w.place ∙ sym (ap (starts_counted_from 0) next ∙ starts_more (line_names s t from i) n));
             lengths =
-                ap (λ (l : List ℕ). set l i (e - p)) w.lengths ∙ front-more (map length (names i)) c₀ i (e - p) (omega arith) m
+                ap (λ (l : List ℕ). set l i (e - p)) w.lengths ∙ front-more (map length (line_names s t from i)) c₀ i (e - p) (omega arith) (omega (arith, f.lengths, names-long s t from count))
                 ∙ ap (λ (l : List ℕ). at_front l c₀)
-                (ap (λ (k : ℕ). map length (names i) ++ (k ∷ [])) (sym name-long) ∙ sym (ap (map length) (names-next i) ∙ lengths-more (names i) n));
+                (ap (λ (k : ℕ). map length (line_names s t from i) ++ (k ∷ [])) (sym name-long) ∙ sym (ap (map length) next ∙ lengths-more (line_names s t from i) n));
           }
-
--- all names are written
-pub written_all : (s : List ℕ) (t : Table) (from count : ℕ) {i at : ℕ} {a₀ b₀ c₀ a b c : List ℕ} → Written s t from i at a₀ b₀ c₀ a b c → i ≡ count → NamesFilled 0 (line_names s t from count) a₀ b₀ c₀ a b c
-written_all s t from count {i} {at} {a₀} {b₀} {c₀} {a} {b} {c} w e =
-    let q : line_names s t from i ≡ line_names s t from count = ap (line_names s t from) e in
-    record {
-      names = change-write (arena (line_names s t from count)) a₀ refl (w.bytes ∙ ap (λ (ns : List Name). at_front (arena ns) a₀) q);
-      starts = change-write (starts_counted_from 0 (line_names s t from count)) b₀ refl (w.starts ∙ ap (λ (ns : List Name). at_front (starts_counted_from 0 ns) b₀) q);
-      lengths = change-write (map length (line_names s t from count)) c₀ refl (w.lengths ∙ ap (λ (ns : List Name). at_front (map length ns) c₀) q);
-    }
-
--- ---------------------------------------------------------------- the columns of names
-
-module _ {number : ℕ} {ns : List Name} {a b c a' b' c' : List ℕ} where
-  pub filled-write : number ≡ 0 → NamesFilled 0 ns a b c a' b' c' → NamesFilled number ns a b c a' b' c'
-  filled-write e w = subst (λ (k : ℕ). NamesFilled k ns a b c a' b' c') (sym e) w
-
-  pub filled-clear : (number ≡ 0 → ⊥) → a' ≡ zeroed a → b' ≡ zeroed b → c' ≡ zeroed c → NamesFilled number ns a b c a' b' c'
-  filled-clear f x y z = record { names = change-clear number (arena ns) a f x; starts = change-clear number (starts_counted_from 0 ns) b f y; lengths = change-clear number (map length ns) c f z }
-
-  -- only an acceptance depends on the names
-  pub filled-same : {ms : List Name} → (number ≡ 0 → ns ≡ ms) → NamesFilled number ns a b c a' b' c' → NamesFilled number ms a b c a' b' c'
-  filled-same f w = record {
-    names = w.names ∙ change-same number a (λ e. ap arena (f e));
-    starts = w.starts ∙ change-same number b (λ e. ap (starts_counted_from 0) (f e));
-    lengths = w.lengths ∙ change-same number c (λ e. ap (map length) (f e));
-  }
 
 -- ---------------------------------------------------------------- the lines of a known table
 

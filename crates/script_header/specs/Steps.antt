@@ -1,5 +1,5 @@
 -- Laws of the header, a step at a time.
-use Rattle.std.specs.Prelude.{ℕ, zero, suc, ◌-◌, ◌≤◌, ◌<◌, ◌≡◌, Bool, true, false, ◌&&◌, cond, length, drop}
+use Rattle.std.specs.Prelude.{ℕ, ◌-◌, ◌≤◌, ◌<◌, ◌≡◌, Bool, true, false, ◌&&◌, cond, length, drop}
 use Rattle.std.proofs.Math.Path.{refl, ap, sym}
 use Rattle.std.proofs.Common.{◌∙◌, arith, length-drop}
 use mathlib.Core.List.{List, [], ◌∷◌, ◌++◌, map}
@@ -118,22 +118,3 @@ module _ (s : List ℕ) (at : ℕ) where
               names = k.names ∙ ap (λ (ns : List Name). ns ++ function_names_in D) (y.names ∙ ap (λ (ns : List Name). ns ++ array_names_in D) x.names);
               tabled = k.ready.tabled;
             }
-
--- ---------------------------------------------------------------- the logic
-
-pub logic-functions : (f a : ℕ) → 0 < f → bytes "QF_AUFBV" ≡ logic_for f a
-unfolding logic_for
-logic-functions zero a h = absurd (omega arith)
-logic-functions (suc f) a h = refl
-
-pub logic-arrays : (f a : ℕ) → f ≤ 0 → 0 < a → bytes "QF_ABV" ≡ logic_for f a
-unfolding logic_for
-logic-arrays (suc f) a h l = absurd (omega arith)
-logic-arrays zero zero h l = absurd (omega arith)
-logic-arrays zero (suc a) h l = refl
-
-pub logic-plain : (f a : ℕ) → f ≤ 0 → a ≤ 0 → bytes "QF_BV" ≡ logic_for f a
-unfolding logic_for
-logic-plain (suc f) a h l = absurd (omega arith)
-logic-plain zero (suc a) h l = absurd (omega arith)
-logic-plain zero zero h l = refl

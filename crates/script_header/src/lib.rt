@@ -10,7 +10,7 @@ ghost use Rattle.script_header.specs.Header.{ends_logic, begun, logic_for, Heade
 
 use echo_names::same_bytes;
 use script_decls::{Stage, read_lines};
-use script_names::Table;
+use script_names::{Declared, Table};
 use script_tokens::{Ending, literal, stretch_end};
 
 // Where the declarations begin; how many variables there are, how many variables and arrays, how many names in all; where they end.
@@ -34,18 +34,24 @@ impl Ending for Bracket {
     }
 }
 
+// The logic of so many functions and arrays.
+#[tactic(auto, unfolding(lists::specs::Bytes::bytes, crate::specs::Header::logic_for))]
+fn logic_for(functions: usize, arrays: usize) -> &'static [u8]
+    ensures { result.now ≡ logic_for functions arrays }
+{
+    match (functions, arrays) {
+        (0, 0) => b"QF_BV",
+        (0, _) => b"QF_ABV",
+        _ => b"QF_AUFBV",
+    }
+}
+
 // Is this part of the script the logic of so many functions and arrays?
 fn logic_is(s: &[u8], a: usize, e: usize, functions: usize, arrays: usize) -> bool
     requires { (a ≤ e) × (e ≤ length s.now) }
     ensures { result ≡ same (between s.now a e) (logic_for functions arrays) }
 {
-    if functions > 0 {
-        return same_bytes(&s[a..e], b"QF_AUFBV");
-    }
-    if arrays > 0 {
-        return same_bytes(&s[a..e], b"QF_ABV");
-    }
-    same_bytes(&s[a..e], b"QF_BV")
+    same_bytes(&s[a..e], logic_for(functions, arrays))
 }
 
 // Does an assertion or the last line begin here?
@@ -53,10 +59,7 @@ fn has_begun(s: &[u8], at: usize) -> bool
     requires { at ≤ length s.now }
     ensures { result ≡ begun (drop at s.now) }
 {
-    if literal(s, at, b"(assert ").is_some() {
-        return true;
-    }
-    literal(s, at, b"(check-sat)\n").is_some()
+    literal(s, at, b"(assert ").is_some() || literal(s, at, b"(check-sat)\n").is_some()
 }
 
 // The logic and the declarations from place `at` on; the table has every name. Ruled out: another logic than that of the declarations; a
@@ -68,9 +71,12 @@ pub fn read_header(s: &[u8], t: &mut Table, at: usize) -> Option<Header>
     let p = literal(s, at, b"(set-logic ")?;
     let z = stretch_end::<Bracket>(s, p);
     let first = literal(s, z, b")\n")?;
-    let variables = read_lines(Stage::Variables, s, t, first, 0, first)?;
-    let arrays = read_lines(Stage::Arrays, s, t, first, variables.names, variables.end)?;
-    let functions = read_lines(Stage::Functions, s, t, first, arrays.names, arrays.end)?;
+    let mut lines = Declared { first, count: 0 };
+    let variables = read_lines(Stage::Variables, s, t, lines, first)?;
+    lines.count = variables.names;
+    let arrays = read_lines(Stage::Arrays, s, t, lines, variables.end)?;
+    lines.count = arrays.names;
+    let functions = read_lines(Stage::Functions, s, t, lines, arrays.end)?;
     if !logic_is(
         s,
         p,

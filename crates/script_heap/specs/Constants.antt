@@ -14,12 +14,12 @@ use Rattle.readback.specs.Records.{record_bytes, holdable}
 use Rattle.readback.specs.Rebuild.{Item, a_constant, find_constant, with_constant, with_constants, Ref, here, pending, node_of, bits_in, record_of}
 use Rattle.rebuilt.specs.Constants.{HasAll, node-of-constant, with-constants-has}
 use Rattle.script_tokens.specs.Reached.{between, ends_digits, Stretch}
-use Rattle.heap_laws.specs.Heap.{within, nodes_size, bits_size, constant_at, hash_of, bits_at, pending_in, Held}
+use Rattle.heap_laws.specs.Heap.{within, bits_size, constant_at, hash_of, bits_at, pending_in, Held}
 use Rattle.heap_laws.specs.declared.Heap.{Heap}
 use Rattle.heap_laws.specs.Filled.{filled, length-filled, front-filled, part_filled}
 use Rattle.heap_laws.specs.Within.{within-parts, over-nodes, over-bits, over-record}
 use Rattle.heap_laws.specs.Adding.{held-bits}
-use Rattle.heap_laws.specs.Entering.{entered, held-entered, hash-small}
+use Rattle.heap_laws.specs.Entering.{entered, held-entered}
 use Rattle.heap_laws.specs.Settling.{constant-found, constant-new}
 use Rattle.heap_laws.specs.Candidates.{bits-at-is, length-between, compared, compared-apart}
 use Rattle.heap_laws.specs.Chains.{Sought, sought-next, sought-less, sought-none, sought-found}
@@ -32,23 +32,22 @@ recorded-over heap heap' n r w e = subst (Recorded heap heap' n) e w
 
 pub recorded-at : (heap heap' : Heap) (n : Node) (r : Option ℕ) (m : ℕ) → Recorded heap heap' n r → r ≡ Some m
     → (m ≡ heap.count) × (heap.count < 2048) × T (holdable n)
-    × (length heap.records ≡ nodes_size → heap' ≡ record heap { count = heap.count + 1; records = filled heap.records (17 * heap.count) (record_bytes n) })
+    × (heap' ≡ record heap { count = heap.count + 1; records = filled heap.records (17 * heap.count) (record_bytes n) })
 recorded-at heap heap' n r m w e = subst (Recorded heap heap' n) e w
 
 -- the stores of a constant
 pub entered-stores : (heap heap₁ : Heap) (j w m : ℕ) → m ≡ heap.count
-    → (length heap.records ≡ nodes_size → heap₁ ≡ record heap { count = heap.count + 1; records = filled heap.records (17 * heap.count) (record_bytes (constant_record heap w)) })
-    → length heap.records ≡ nodes_size
+    → heap₁ ≡ record heap { count = heap.count + 1; records = filled heap.records (17 * heap.count) (record_bytes (constant_record heap w)) }
     → record heap₁ {
       bit_count = heap.bit_count + w;
       constants = set heap₁.constants m (record { start = heap.bit_count; width = w; before = get_or heap.heads j 0 });
       heads = set heap₁.heads j (m + 1);
     } ≡ entered heap j w (constant_record heap w)
-entered-stores heap heap₁ j w m a e long =
-    λ i. record (e long i) {
+entered-stores heap heap₁ j w m a e =
+    λ i. record (e i) {
       bit_count = heap.bit_count + w;
-      constants = set (e long i).constants (a i) (record { start = heap.bit_count; width = w; before = get_or heap.heads j 0 });
-      heads = set (e long i).heads j (a i + 1);
+      constants = set (e i).constants (a i) (record { start = heap.bit_count; width = w; before = get_or heap.heads j 0 });
+      heads = set (e i).heads j (a i + 1);
     }
 
 -- ---------------------------------------------------------------- the constant of the bits behind those in use
@@ -104,7 +103,7 @@ module _ {heap : Heap} {s : List Item} (h : Held heap s) (w : ℕ) (few : w ≤ 
         by_answer (Some m) (a, b, f, g) =
             let (u, n) = constant-new bs s new in
             let c : Node = record_of heap.bit_count heap.side_count (a_constant bs) in
-            let y : heap' ≡ entered heap (hash_of bs) (length bs) c = g h.nodes_long ∙ (λ i. entered heap (z i) (sym long i) (record_is i)) in
+            let y : heap' ≡ entered heap (hash_of bs) (length bs) c = g ∙ (λ i. entered heap (z i) (sym long i) (record_is i)) in
             let k : Held (entered heap (hash_of bs) (length bs) c) t =
             held-entered h bs new b (omega (arith, long, bit-room h)) (ap (λ (i : ℕ). take i (drop heap.bit_count heap.bits)) long)
             (subst (λ (x : Node). T (holdable x)) record_is f) in (
@@ -169,7 +168,7 @@ module _ {heap : Heap} {s : List Item} (x : Ref) where
 
 pub told-constant : (heap heap' : Heap) (s : List Item) (x : Ref) (bs : List ℕ) (r : Option ℕ) → x ≡ pending bs → ConstantTold heap heap' bs s r → RefTold heap heap' x s r
 unfolding pending_in with_constants
-told-constant heap heap' s x bs r e v = subst (λ (y : Ref). RefTold heap heap' y s r) (sym e) v
+told-constant heap heap' s x _ r e v = subst (λ (y : Ref). RefTold heap heap' y s r) (sym e) v
 
 -- ---------------------------------------------------------------- comparisons
 

@@ -1,14 +1,15 @@
 -- Laws of single stores, and of a record that is written and counted. Assumes nothing.
-use Rattle.std.specs.Prelude.{ℕ, ◌+◌, ◌*◌, ◌/◌, ◌%◌, ◌≤◌, ◌<◌, ◌≡◌, List, [], ◌∷◌, ◌++◌, false, T, leb, length, set, Option, Some, None}
-use Rattle.std.proofs.Common.{ap, sym, ◌∙◌, subst, inl, inr, arith, le-leb, leb→le, length-set, get_or-set_other}
+use Rattle.std.specs.Prelude.{ℕ, ◌+◌, ◌*◌, ◌/◌, ◌%◌, ◌≤◌, ◌<◌, ◌≡◌, List, [], ◌∷◌, ◌++◌, false, T, leb, length, take, drop, set, Option, Some, None}
+use Rattle.std.proofs.Common.{ap, sym, ◌∙◌, subst, inl, inr, arith, le-leb, leb→le}
+use borrow.Rule.Slice.PartMut.{put_mid}
+use lib.Seq.{drop-drop}
 use Rattle.std.proofs.lemmas.Bool.{lt-leb}
-use Rattle.std.proofs.lemmas.List.{set-get_or}
 use Rattle.lists.specs.Tests.{and_0, and-1}
 use Rattle.echo_spec.specs.Input.{Node}
 use Rattle.readback.specs.Records.{le32, record_bytes, holdable}
 use Rattle.readback.specs.Rebuild.{Item, side_in, record_of}
-use Rattle.heap_laws.specs.Heap.{nodes_size, Held}
-use Rattle.heap_laws.specs.Filled.{filled, filled_none, filled_more, filled-filled, length-filled}
+use Rattle.heap_laws.specs.Heap.{Held}
+use Rattle.heap_laws.specs.Filled.{filled, filled_none, filled_more, filled-filled}
 use Rattle.heap_laws.specs.Within.{over-nodes, over-record}
 use Rattle.heap_laws.specs.Adding.{Plain, added, held-added}
 use Rattle.heap_laws.specs.declared.Heap.{Heap}
@@ -29,32 +30,26 @@ pub fill-next : (l : List ℕ) {l' l'' : List ℕ} (at : ℕ) (xs : List ℕ) (k
 fill-next l at xs k ys e z h f = f ∙ (λ i. filled (e i) (z i) ys) ∙ filled-filled l at xs ys (omega arith)
 
 -- a word of four bytes
-pub word-stored : (l : List ℕ) (at v : ℕ) → at + 4 ≤ length l
-    → set (set (set (set l at (v % 256)) (at + 1) (v / 256 % 256)) (at + 2) (v / 65536 % 256)) (at + 3) (v / 16777216) ≡ filled l at (le32 v)
-word-stored l at v h =
-    let a : ℕ = v % 256 in
-    let b : ℕ = v / 256 % 256 in
-    let c : ℕ = v / 65536 % 256 in
-    let one = store-first l at a (omega arith) in
-    let two = store-next l at (a ∷ []) (at + 1) b one (omega arith) (omega arith) in
-    let three = store-next l at (a ∷ b ∷ []) (at + 2) c two (omega arith) (omega arith) in
-    store-next l at (a ∷ b ∷ c ∷ []) (at + 3) (v / 16777216) three (omega arith) (omega arith)
+pub word-stored : (l ys : List ℕ) (at k v : ℕ) → v ≤ 4294967295 → k ≡ 4 → ys ≡ v % 256 ∷ v / 256 % 256 ∷ v / 65536 % 256 ∷ v / 16777216 % 256 ∷ []
+    → put_mid at k l ys ≡ filled l at (le32 v)
+unfolding filled
+word-stored l ys at k v small z e =
+    let last : v / 16777216 % 256 ≡ v / 16777216 = omega arith in
+    (λ i. take at l ++ (e i ++ drop (z i) (drop at l)))
+    ∙ (λ i. take at l ++ ((v % 256 ∷ v / 256 % 256 ∷ v / 65536 % 256 ∷ last i ∷ []) ++ drop-drop 4 at l i))
 
 -- a record of 17 bytes
-pub record-stored : (l : List ℕ) {l₁ l₂ l₃ l₄ : List ℕ} (at : ℕ) (n : Node) → length l ≡ nodes_size → at + 17 ≤ nodes_size
-    → (length (set l at n.kind) ≡ nodes_size → l₁ ≡ filled (set l at n.kind) (at + 1) (le32 n.a)) → (length l₁ ≡ nodes_size → l₂ ≡ filled l₁ (at + 5) (le32 n.b))
-    → (length l₂ ≡ nodes_size → l₃ ≡ filled l₂ (at + 9) (le32 n.c)) → (length l₃ ≡ nodes_size → l₄ ≡ filled l₃ (at + 13) (le32 n.d)) → l₄ ≡ filled l at (record_bytes n)
+pub record-stored : (l : List ℕ) {l₁ l₂ l₃ l₄ : List ℕ} (at : ℕ) (n : Node) → at + 17 ≤ length l
+    → l₁ ≡ filled (set l at n.kind) (at + 1) (le32 n.a) → l₂ ≡ filled l₁ (at + 5) (le32 n.b)
+    → l₃ ≡ filled l₂ (at + 9) (le32 n.c) → l₄ ≡ filled l₃ (at + 13) (le32 n.d) → l₄ ≡ filled l at (record_bytes n)
 unfolding record_bytes
-record-stored l {l₁} {l₂} {l₃} {l₄} at n long h e₁ e₂ e₃ e₄ =
+record-stored l at n h e₁ e₂ e₃ e₄ =
     let k : List ℕ = n.kind ∷ [] in
     let f₀ = store-first l at n.kind (omega arith) in
-    let f₁ = fill-next l at k (at + 1) (le32 n.a) f₀ (omega arith) (omega arith) (e₁ (length-set l at n.kind ∙ long)) in
-    let g₁ : length l₁ ≡ nodes_size = ap length f₁ ∙ length-filled l at (k ++ le32 n.a) (omega arith) ∙ long in
-    let f₂ = fill-next l at (k ++ le32 n.a) (at + 5) (le32 n.b) f₁ (omega arith) (omega arith) (e₂ g₁) in
-    let g₂ : length l₂ ≡ nodes_size = ap length f₂ ∙ length-filled l at ((k ++ le32 n.a) ++ le32 n.b) (omega arith) ∙ long in
-    let f₃ = fill-next l at ((k ++ le32 n.a) ++ le32 n.b) (at + 9) (le32 n.c) f₂ (omega arith) (omega arith) (e₃ g₂) in
-    let g₃ : length l₃ ≡ nodes_size = ap length f₃ ∙ length-filled l at (((k ++ le32 n.a) ++ le32 n.b) ++ le32 n.c) (omega arith) ∙ long in
-    fill-next l at (((k ++ le32 n.a) ++ le32 n.b) ++ le32 n.c) (at + 13) (le32 n.d) f₃ (omega arith) (omega arith) (e₄ g₃)
+    let f₁ = fill-next l at k (at + 1) (le32 n.a) f₀ (omega arith) (omega arith) e₁ in
+    let f₂ = fill-next l at (k ++ le32 n.a) (at + 5) (le32 n.b) f₁ (omega arith) (omega arith) e₂ in
+    let f₃ = fill-next l at ((k ++ le32 n.a) ++ le32 n.b) (at + 9) (le32 n.c) f₂ (omega arith) (omega arith) e₃ in
+    fill-next l at (((k ++ le32 n.a) ++ le32 n.b) ++ le32 n.c) (at + 13) (le32 n.d) f₃ (omega arith) (omega arith) e₄
 
 -- ---------------------------------------------------------------- what a record can hold
 
@@ -85,29 +80,39 @@ module _ (n : Node) where
 
 -- ---------------------------------------------------------------- a node more
 
-module _ {heap : Heap} {s : List Item} (h : Held heap s) (x : Item) (p : Plain x) where
+-- whatever the bits are
+module _ (heap : Heap) {bits : List ℕ} {s : List Item} (h : Held (record heap { bits = bits }) s) (x : Item) (p : Plain x) where
   -- where the side entries, their number and the number of operands that are left stand already
   pub told-record : (xs : List ℕ) (top : ℕ) → side_in x ≡ xs → heap.side_count + length xs ≤ 8192 → (heap₁ heap' : Heap) (n : Node) (r : Option ℕ)
       → heap₁ ≡ record heap { side_count = heap.side_count + length xs; top = top; side = filled heap.side heap.side_count xs } → n ≡ record_of heap.bit_count heap.side_count x
-      → Recorded heap₁ heap' n r → Told heap heap' top (s ++ (x ∷ [])) (length s) r
+      → Recorded heap₁ heap' n r → Told (record heap { bits = bits }) (record heap' { bits = bits }) top (s ++ (x ∷ [])) (length s) r
   told-record xs top q room heap₁ heap' n r e f w = by_answer r w
     where
       same : heap₁.count ≡ length s
       same = ap (λ (y : Heap). y.count) e ∙ h.count
 
-      by_answer : (r : Option ℕ) → Recorded heap₁ heap' n r → Told heap heap' top (s ++ (x ∷ [])) (length s) r
+      by_answer : (r : Option ℕ) → Recorded heap₁ heap' n r → Told (record heap { bits = bits }) (record heap' { bits = bits }) top (s ++ (x ∷ [])) (length s) r
       by_answer None (inl a) = over-nodes s x (omega (arith, same))
       by_answer None (inr a) = over-record s x (sym (λ i. holdable (record_of (h.bit_count i) (h.side_count i) x)) ∙ ap holdable (sym f) ∙ a)
       by_answer (Some m) (a, b, c, d) =
           let n' : Node = record_of heap.bit_count heap.side_count x in
           let z : heap' ≡ added heap xs top n' =
-          d (ap (λ (y : Heap). length y.records) e ∙ h.nodes_long)
-          ∙ (λ i. record (e i) { count = (e i).count + 1; records = filled (e i).records (17 * (e i).count) (record_bytes (f i)) }) in (
+          d ∙ (λ i. record (e i) { count = (e i).count + 1; records = filled (e i).records (17 * (e i).count) (record_bytes (f i)) }) in (
             a ∙ same,
-            subst (λ (y : Heap). Held y (s ++ (x ∷ []))) (sym z) (held-added h xs top room x p q (omega (arith, same)) (subst (λ (y : Node). T (holdable y)) f c)),
+            subst (λ (y : Heap). Held (record y { bits = bits }) (s ++ (x ∷ []))) (sym z) (held-added h xs top room x p q (omega (arith, same)) (subst (λ (y : Node). T (holdable y)) f c)),
             ap (λ (y : Heap). y.top) z,
             ap (λ (y : Heap). y.stack) z,
           )
+
+-- of the bits, which are as they were, an addition tells what it tells of any
+pub told-own : (heap heap' : Heap) (n : ℕ) (t : List Item) (k : ℕ) (r : Option ℕ) → heap'.bits ≡ heap.bits → Told heap (record heap' { bits = heap.bits }) n t k r → Told heap heap' n t k r
+told-own heap heap' n t k r e w = subst (λ (bits : List ℕ). Told heap (record heap' { bits = bits }) n t k r) (sym e) w
+
+-- of the records and the bits, which are as they were, holds what holds of any
+pub held-own : (heap heap' : Heap) (s : List Item) → heap'.records ≡ heap.records → heap'.bits ≡ heap.bits → Held (record heap' { records = heap.records; bits = heap.bits }) s → Held heap' s
+held-own heap heap' s e f h =
+    subst (λ (bits : List ℕ). Held (record heap' { bits = bits }) s) (sym f)
+    (subst (λ (records : List ℕ). Held (record heap' { records = records; bits = heap.bits }) s) (sym e) h)
 
 -- nothing is stored
 pub same_heap : (heap : Heap) → heap ≡ record heap { side_count = heap.side_count + 0; side = filled heap.side heap.side_count [] }

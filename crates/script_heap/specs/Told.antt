@@ -8,7 +8,7 @@ use Rattle.readback.specs.Reader.{up_to}
 use Rattle.readback.specs.Records.{record_bytes, holdable}
 use Rattle.readback.specs.Rebuild.{Item, a_constant, Ref, pending, node_of, with_constant, with_constants}
 use Rattle.script_tokens.specs.Reached.{between, ends_digits}
-use Rattle.heap_laws.specs.Heap.{within, nodes_size, stack_size, pending_in, settled, Held, Stacked}
+use Rattle.heap_laws.specs.Heap.{within, stack_size, pending_in, settled, Held, Stacked}
 use Rattle.heap_laws.specs.Filled.{filled}
 use Rattle.heap_laws.specs.Entering.{entered}
 use Rattle.heap_laws.specs.declared.Heap.{Heap}
@@ -44,7 +44,7 @@ abbrev pub Recorded : Heap → Heap → Node → Option ℕ → Type 0
 Recorded heap heap' n None = (2048 ≤ heap.count) ⊎ (holdable n ≡ false)
 Recorded heap heap' n (Some m) =
     (m ≡ heap.count) × (heap.count < 2048) × T (holdable n)
-    × (length heap.records ≡ nodes_size → heap' ≡ record heap { count = heap.count + 1; records = filled heap.records (17 * heap.count) (record_bytes n) })
+    × (heap' ≡ record heap { count = heap.count + 1; records = filled heap.records (17 * heap.count) (record_bytes n) })
 
 -- the record of a constant, of the bits behind those in use
 abbrev pub constant_record : Heap → ℕ → Node
@@ -54,7 +54,7 @@ constant_record heap w = record { kind = 1; a = heap.bit_count; b = w; c = 0; d 
 abbrev pub Entered : Heap → Heap → ℕ → ℕ → Option ℕ → Type 0
 Entered heap heap' j w None = (2048 ≤ heap.count) ⊎ (holdable (constant_record heap w) ≡ false)
 Entered heap heap' j w (Some m) =
-    (m ≡ heap.count) × (heap.count < 2048) × T (holdable (constant_record heap w)) × (length heap.records ≡ nodes_size → heap' ≡ entered heap j w (constant_record heap w))
+    (m ≡ heap.count) × (heap.count < 2048) × T (holdable (constant_record heap w)) × (heap' ≡ entered heap j w (constant_record heap w))
 
 -- An operand more waits; or there is no room for it.
 abbrev pub Pushed : List ℕ → Heap → List Ref → Ref → Option ⊤ → Type 0

@@ -31,20 +31,17 @@ ghost use Rattle.heap_laws.specs.Filled.{filled};
 ghost use Rattle.script_heap.specs.Told.{Holds, HoldsNodes, Told, ConstantTold, RefTold, Half, Pushed, AllTold, Recorded, Entered, Compared, DigitsTo, ConstantAt, found_as};
 
 use echo_names::same_bytes;
-use heap_laws::{BITS, Constant, Heap, NODES};
+use heap_laws::{Constant, Heap, SIDE, STACK};
 use lent::Node;
 use script_tokens::digits_end;
-
-const STACK_SIZE: u64 = 16384;
 
 const MAX_NODES: u64 = 2048;
 
 const MAX_BITS: usize = 131072;
 
-const MAX_SIDE: usize = 8192;
-
 const LARGEST: u64 = 4294967295;
 
+// Kept: the bytes that a record has for these kinds, as the format of the nodes numbers them.
 const CONST: u8 = 1;
 
 const SELECT: u8 = 37;
@@ -54,19 +51,18 @@ const CALL: u8 = 38;
 // ---------------------------------------------------------------- records
 
 // 32 bits, the lowest byte first.
-fn write_word(records: &mut [u8; NODES], at: usize, v: u64)
-    requires { (at + 4 ≤ nodes_size) × (v ≤ 4294967295) }
-    ensures { length records.old ≡ nodes_size → records.new ≡ filled records.old at (le32 v) }
+fn write_word(records: &mut [u8], at: usize, v: u64)
+    requires room { at + 4 ≤ length records.old }
+    requires small { v ≤ 4294967295 }
+    ensures { records.new ≡ filled records.old at (le32 v) }
 {
-    records[at] = (v % 256) as u8;
-    records[at + 1] = (v / 256 % 256) as u8;
-    records[at + 2] = (v / 65536 % 256) as u8;
-    records[at + 3] = (v / 16777216) as u8;
+    records[at..at + 4].copy_from_slice(&(v as u32).to_le_bytes());
 }
 
-fn write_record(records: &mut [u8; NODES], at: usize, n: Node)
-    requires { (at + 17 ≤ nodes_size) × T (holdable (node_of n)) }
-    ensures { length records.old ≡ nodes_size → records.new ≡ filled records.old at (record_bytes (node_of n)) }
+fn write_record(records: &mut [u8], at: usize, n: Node)
+    requires room { at + 17 ≤ length records.old }
+    requires fits { T (holdable (node_of n)) }
+    ensures { records.new ≡ filled records.old at (record_bytes (node_of n)) }
 {
     records[at] = n.kind;
     write_word(records, at + 1, n.a);
@@ -84,7 +80,8 @@ fn fits(n: Node) -> bool
 
 // The next record, and one node more.
 fn add_record(heap: &mut Heap, n: Node) -> Option<u64>
-    ensures { Recorded heap.old heap.new (node_of n) result }
+    ensures bits { heap.new.bits ≡ heap.old.bits }
+    ensures recorded { Recorded heap.old heap.new (node_of n) result }
 {
     let k = heap.count;
     if k >= MAX_NODES {
@@ -102,7 +99,9 @@ fn add_record(heap: &mut Heap, n: Node) -> Option<u64>
 
 // A variable. Ruled out: a width of 33 bits cut to 32; node 2,048.
 pub fn add_variable(heap: &mut Heap, width: u64) -> Option<u64>
-    ensures { (s : List Item) → Held heap.old s → Told heap.old heap.new heap.old.top (s ++ (a_variable width ∷ [])) (length s) result }
+    ensures bits { heap.new.bits ≡ heap.old.bits }
+    ensures told { (bits : List ℕ) (s : List Item) → let before = record heap.old { bits = bits } in let after = record heap.new { bits = bits } in
+        Held before s → Told before after heap.old.top (s ++ (a_variable width ∷ [])) (length s) result }
 {
     add_record(
         heap,
@@ -119,8 +118,10 @@ pub fn add_variable(heap: &mut Heap, width: u64) -> Option<u64>
 // An operator, by its record; of the operands that wait `base` are left. Ruled out: an operand over 32 bits; the record of the node
 // before it written over.
 pub fn add_operator(heap: &mut Heap, base: usize, n: Node) -> Option<u64>
-    ensures { (s : List Item) (ks xs ms : List ℕ) → Held heap.old s → node_with n.kind (fields (shape_of n.kind) ks xs ms) ≡ node_of n
-        → Told heap.old heap.new base (s ++ (an_operator n.kind ks xs ms ∷ [])) (length s) result }
+    ensures bits { heap.new.bits ≡ heap.old.bits }
+    ensures told { (bits : List ℕ) (s : List Item) (ks xs ms : List ℕ) → let before = record heap.old { bits = bits } in let after = record heap.new { bits = bits } in
+        Held before s → node_with n.kind (fields (shape_of n.kind) ks xs ms) ≡ node_of n
+        → Told before after base (s ++ (an_operator n.kind ks xs ms ∷ [])) (length s) result }
 {
     heap.top = base as u64;
     add_record(heap, n)
@@ -129,12 +130,14 @@ pub fn add_operator(heap: &mut Heap, base: usize, n: Node) -> Option<u64>
 // ---------------------------------------------------------------- operands that wait
 
 fn push(heap: &mut Heap, v: u64) -> Option<()>
-    ensures held { (s : List Item) → Held heap.old s → Held heap.new s }
-    ensures pushed { (s : List Item) (script : List ℕ) (refs : List Ref) → Held heap.old s → Stacked script heap.old refs
-        → Pushed script heap.new refs (ref_at script v) result }
+    ensures same { (heap.new.records ≡ heap.old.records) × (heap.new.bits ≡ heap.old.bits) }
+    ensures held { (records bits : List ℕ) (s : List Item) → let before = record heap.old { records = records; bits = bits } in let after = record heap.new { records = records; bits = bits } in
+        Held before s → Held after s }
+    ensures pushed { (records bits : List ℕ) (s : List Item) (script : List ℕ) (refs : List Ref) → Held (record heap.old { records = records; bits = bits }) s
+        → Stacked script heap.old refs → Pushed script heap.new refs (ref_at script v) result }
 {
     let t = heap.top;
-    if t >= STACK_SIZE {
+    if t >= STACK as u64 {
         return None;
     }
     heap.stack[t as usize] = v;
@@ -146,9 +149,11 @@ fn push(heap: &mut Heap, v: u64) -> Option<()>
 // constant's place.
 pub fn push_node(heap: &mut Heap, i: u64) -> Option<()>
     requires { i < 2 ^ 63 }
-    ensures held { (s : List Item) → Held heap.old s → Held heap.new s }
-    ensures pushed { (s : List Item) (script : List ℕ) (refs : List Ref) → Held heap.old s → Stacked script heap.old refs
-        → Pushed script heap.new refs (here i) result }
+    ensures same { (heap.new.records ≡ heap.old.records) × (heap.new.bits ≡ heap.old.bits) }
+    ensures held { (records bits : List ℕ) (s : List Item) → let before = record heap.old { records = records; bits = bits } in let after = record heap.new { records = records; bits = bits } in
+        Held before s → Held after s }
+    ensures pushed { (records bits : List ℕ) (s : List Item) (script : List ℕ) (refs : List Ref) → Held (record heap.old { records = records; bits = bits }) s
+        → Stacked script heap.old refs → Pushed script heap.new refs (here i) result }
 {
     push(heap, 2 * i)
 }
@@ -156,9 +161,11 @@ pub fn push_node(heap: &mut Heap, i: u64) -> Option<()>
 // A constant, by the place of its digits. Ruled out: the place taken for a node's number; the digits one place on.
 pub fn push_constant(s: &[u8], heap: &mut Heap, p: usize) -> Option<()>
     requires { p ≤ length s.now }
-    ensures held { (t : List Item) → Held heap.old t → Held heap.new t }
-    ensures pushed { (t : List Item) (refs : List Ref) → Held heap.old t → Stacked s.now heap.old refs
-        → Pushed s.now heap.new refs (pending (bits_at s.now p)) result }
+    ensures same { (heap.new.records ≡ heap.old.records) × (heap.new.bits ≡ heap.old.bits) }
+    ensures held { (records bits : List ℕ) (t : List Item) → let before = record heap.old { records = records; bits = bits } in let after = record heap.new { records = records; bits = bits } in
+        Held before t → Held after t }
+    ensures pushed { (records bits : List ℕ) (t : List Item) (refs : List Ref) → Held (record heap.old { records = records; bits = bits }) t
+        → Stacked s.now heap.old refs → Pushed s.now heap.new refs (pending (bits_at s.now p)) result }
 {
     push(heap, 2 * (p as u64) + 1)
 }
@@ -205,13 +212,14 @@ pub fn add_call(heap: &mut Heap, base: usize, g: u64, width: u64) -> Option<u64>
     requires holds { HoldsNodes heap.old }
     requires low { base ≤ heap.old.top }
     requires room { heap.old.top ≤ stack_size }
-    ensures { (s : List Item) (script : List ℕ) (refs : List Ref) (xs : List ℕ) → Held heap.old s
-        → Stacked script heap.old refs → drop base refs ≡ map here xs
-        → Told heap.old heap.new base (s ++ (a_call g width xs ∷ [])) (length s) result }
+    ensures bits { heap.new.bits ≡ heap.old.bits }
+    ensures told { (bits : List ℕ) (s : List Item) (script : List ℕ) (refs : List Ref) (xs : List ℕ) → let before = record heap.old { bits = bits } in let after = record heap.new { bits = bits } in
+        Held before s → Stacked script heap.old refs → drop base refs ≡ map here xs
+        → Told before after base (s ++ (a_call g width xs ∷ [])) (length s) result }
 {
     let count = heap.top as usize - base;
     let side = heap.side_count as usize;
-    if count > MAX_SIDE - side {
+    if count > SIDE - side {
         return None;
     }
     copy_operands(&mut heap.side, &heap.stack, side, base, count);
@@ -234,12 +242,13 @@ pub fn add_call(heap: &mut Heap, base: usize, g: u64, width: u64) -> Option<u64>
 pub fn add_select(heap: &mut Heap, base: usize, stores: usize, array: u64) -> Option<u64>
     requires holds { HoldsNodes heap.old }
     requires room { base + (2 * stores + 1) ≤ stack_size }
-    ensures { (s : List Item) (script : List ℕ) (refs : List Ref) (xs : List ℕ) → Held heap.old s
-        → Stacked script heap.old refs → drop base refs ≡ map here xs → length xs ≡ 2 * stores + 1
-        → Told heap.old heap.new base (s ++ (a_select array (get_or xs (2 * stores) 0) (pairs_back stores xs) ∷ [])) (length s) result }
+    ensures bits { heap.new.bits ≡ heap.old.bits }
+    ensures told { (bits : List ℕ) (s : List Item) (script : List ℕ) (refs : List Ref) (xs : List ℕ) → let before = record heap.old { bits = bits } in let after = record heap.new { bits = bits } in
+        Held before s → Stacked script heap.old refs → drop base refs ≡ map here xs → length xs ≡ 2 * stores + 1
+        → Told before after base (s ++ (a_select array (get_or xs (2 * stores) 0) (pairs_back stores xs) ∷ [])) (length s) result }
 {
     let side = heap.side_count as usize;
-    if stores > (MAX_SIDE - side) / 2 {
+    if stores > (SIDE - side) / 2 {
         return None;
     }
     let index = operand(heap, base + 2 * stores);
@@ -306,6 +315,7 @@ fn find_bits(heap: &Heap, j: usize, at: usize, w: usize) -> Option<u64>
     ensures { (s : List Item) → Held heap.now s → result ≡ found_as (find_constant (take w (drop at heap.now.bits)) s) }
 {
     let mut c = heap.heads[j];
+    // Kept: a walk along a chain of links.
     while c > 0 {
         let k = c - 1;
         if is_at(heap, k as usize, at, w) {
@@ -374,10 +384,10 @@ fn digits_to(s: &[u8], p: usize) -> usize
 }
 
 // The bits of the digits between two places, stored from place `at` on, the lowest first.
-fn digits_in(s: &[u8], bits: &mut [u8; BITS], at: usize, p: usize, e: usize)
+fn digits_in(s: &[u8], bits: &mut [u8], at: usize, p: usize, e: usize)
     requires digits { DigitsTo s.now p e }
-    requires room { at + (e - p) ≤ bits_size }
-    ensures { length bits.old ≡ bits_size → bits.new ≡ filled bits.old at (bits_of (between s.now p e)) }
+    requires room { at + (e - p) ≤ length bits.old }
+    ensures { bits.new ≡ filled bits.old at (bits_of (between s.now p e)) }
 {
     let n = e - p;
     for i in 0..n {
@@ -387,9 +397,9 @@ fn digits_in(s: &[u8], bits: &mut [u8; BITS], at: usize, p: usize, e: usize)
 }
 
 // The w lowest bits of a number, stored from place `at` on, the lowest first.
-fn number_in(bits: &mut [u8; BITS], at: usize, value: u64, w: usize)
-    requires { at + w ≤ bits_size }
-    ensures { length bits.old ≡ bits_size → bits.new ≡ filled bits.old at (low_bits w value) }
+fn number_in(bits: &mut [u8], at: usize, value: u64, w: usize)
+    requires { at + w ≤ length bits.old }
+    ensures { bits.new ≡ filled bits.old at (low_bits w value) }
 {
     let mut v = value;
     for i in 0..w {

@@ -1,8 +1,7 @@
 -- Laws of the names between bars, and of their hashes.
-use Rattle.std.specs.Prelude.{ℕ, zero, suc, ◌+◌, ◌*◌, ◌-◌, ◌%◌, ◌≤◌, ◌<◌, min, ◌≡◌, refl, List, [], ◌∷◌, ◌++◌, Bool, true, false, ◌&&◌, T, eqb, leb, ltb, length, take, drop, get_or, Some, None, unwrap_or}
+use Rattle.std.specs.Prelude.{ℕ, zero, suc, ◌+◌, ◌*◌, ◌-◌, ◌%◌, ◌≤◌, ◌<◌, ◌≡◌, refl, List, [], ◌∷◌, ◌++◌, Bool, true, false, T, eqb, leb, ltb, length, take, drop, get_or, Some, None, unwrap_or}
 use Rattle.std.specs.Prelude.{Option as Maybe}
-use Rattle.std.specs.Cmp.Lexicographic.{pointwise}
-use Rattle.std.proofs.Common.{drop_of_length-le, ap, sym, ◌∙◌, subst, append_assoc, arith, eqb→eq, ltb→lt, nltb→le, le-leb, length-take, length-drop, take-append-drop, drop-drop, drop-cons, take-take, length-take-le}
+use Rattle.std.proofs.Common.{drop_of_length-le, ap, sym, ◌∙◌, subst, append_assoc, arith, eqb→eq, ltb→lt, nltb→le, le-leb, length-drop, take-append-drop, drop-drop, drop-cons, take-take, length-take-le}
 use Rattle.std.proofs.Math.Option.{Option, none}
 use Rattle.std.proofs.lemmas.Bool.{eqb-false, lt-leb}
 use Rattle.std.proofs.Math.Seq.{drop-length, take-nil}
@@ -164,24 +163,6 @@ other-hash n m f = no→false (same n m) (λ h. f (ap hash_of (sym (same→eq n 
 pub after-place : (s : List ℕ) (at : ℕ) (r : Maybe ℕ) → NameTo s at (name_read (drop at s)) r → (unwrap_or r (length s) ≤ length s) × (drop (unwrap_or r (length s)) s ≡ after_bar (drop at s))
 after-place s at None h = (omega arith, drop-length s ∙ sym (after_open (drop at s) h))
 after-place s at (Some e) h = (h.1, sym (taken (drop at s) (between s at (e - 1)) (drop e s) h.2).after)
-
-pub name-short : (s : List ℕ) (a f p : ℕ) → a ≤ f → f ≤ length s → length s - p < f - a → false ≡ same (between s a f) (take (f - a) (drop p s))
-name-short s a f p l m k = sym (no→false (same (between s a f) (take (f - a) (drop p s))) (λ h.
-    lengths (length (take (f - a) (drop p s))) (ap length (sym (same→eq (between s a f) (take (f - a) (drop p s)) h)) ∙ between-length s a f l m) (length-take (f - a) (drop p s)) (length-drop p s)))
-  where
-    lengths : (x : ℕ) → x ≡ f - a → x ≡ min (f - a) (length (drop p s)) → length (drop p s) ≡ length s - p → ⊥
-    lengths x e g d = omega (arith, e, g, d, k)
-
-pub name-part : (s : List ℕ) (a f p : ℕ) → same (between s a f) (take (p + (f - a) - p) (drop p s)) ≡ same (between s a f) (take (f - a) (drop p s))
-name-part s a f p = let z : p + (f - a) - p ≡ f - a = omega arith in rw z refl
-
--- comparing as slices
-pub same-slices : (x y : List ℕ) → pointwise eqb x y ≡ same x y
-unfolding same
-same-slices [] [] = refl
-same-slices [] (y ∷ ys) = refl
-same-slices (x ∷ xs) [] = refl
-same-slices (x ∷ xs) (y ∷ ys) = ap (λ (t : Bool). eqb x y && t) (same-slices xs ys)
 
 -- what holds of each number below k, and of k
 pub all_more : (P : ℕ → Type 0) (k : ℕ) → ((j : ℕ) → j < k → P j) → P k → (j : ℕ) → j < k + 1 → P j

@@ -7,7 +7,6 @@ ghost use Rattle.lists.specs.Tests.{same};
 ghost use Rattle.script_tokens.specs.Reached.{between};
 ghost use Rattle.script_names.specs.Entries.{after_bar, entry_from, hash_of, hash_from, AllClosed, Named, Sought, Empty, Tabled};
 
-use echo_names::same_bytes;
 use script_tokens::name_end;
 
 // How many lines the table holds.
@@ -39,6 +38,13 @@ pub struct Table {
     pub measures: [Measure; LINES],
 }
 
+// The lines of declarations so far: where the first of them begins, and how many there are.
+#[derive(Clone, Copy, Debug, PartialEq, Eq)]
+pub struct Declared {
+    pub first: usize,
+    pub count: usize,
+}
+
 // The line that declares a name, and the place where the name begins there.
 #[derive(Clone, Copy, Debug, PartialEq, Eq)]
 pub struct Found {
@@ -47,7 +53,7 @@ pub struct Found {
 }
 
 impl Table {
-    // The table of no line. Ruled out: a line that has a hash.
+    // The table of no line. Ruled out: a line that has a hash; room for fewer lines than a script may have.
     pub fn new() -> Table
         ensures { Empty result }
     {
@@ -98,29 +104,23 @@ fn after_bar(s: &[u8], at: usize) -> usize
     name_end(s, at).unwrap_or(s.len())
 }
 
-// Do the bytes at place p begin with the name from a on, up to and with its bar before f? (Most names are short, and are compared here.)
-fn name_is(s: &[u8], a: usize, f: usize, p: usize) -> bool
-    requires { (a ≤ f) × (f ≤ length s.now) × (p ≤ length s.now) }
-    ensures { result ≡ same (between s.now a f) (take (f - a) (drop p s.now)) }
+// Do the bytes at place p begin with those from place a up to place e? Ruled out: one that compares no more bytes than are left; yes for bytes
+// that differ in the last.
+pub fn stands(s: &[u8], a: usize, e: usize, p: usize) -> bool
+    requires { (a ≤ e) × (e ≤ length s.now) × (p ≤ length s.now) }
+    ensures { result ≡ same (between s.now a e) (take (e - a) (drop p s.now)) }
 {
-    let m = f - a;
-    if m > s.len() - p {
-        return false;
-    }
-    if m <= 16 {
-        return s[a..f] == s[p..p + m];
-    }
-    same_bytes(&s[a..f], &s[p..p + m])
+    s[p..].starts_with(&s[a..e])
 }
 
 // The lines one after the other.
-fn scanned(s: &[u8], first: usize, count: usize, a: usize, f: usize) -> Option<Found>
-    requires { (first ≤ length s.now) × Named s.now a f × AllClosed (drop first s.now) count }
-    ensures { Sought s.now first count (between s.now a (f - 1)) result }
+fn scanned(s: &[u8], lines: Declared, a: usize, f: usize) -> Option<Found>
+    requires { (lines.first ≤ length s.now) × Named s.now a f × AllClosed (drop lines.first s.now) lines.count }
+    ensures { Sought s.now lines.first lines.count (between s.now a (f - 1)) result }
 {
-    let mut p = after_bar(s, first);
-    for k in 0..count {
-        if name_is(s, a, f, p) {
+    let mut p = after_bar(s, lines.first);
+    for k in 0..lines.count {
+        if stands(s, a, f, p) {
             return Some(Found { line: k, place: p });
         }
         p = after_bar(s, after_bar(s, p));
@@ -129,14 +129,15 @@ fn scanned(s: &[u8], first: usize, count: usize, a: usize, f: usize) -> Option<F
 }
 
 // The lines with the hash of the name, the last first.
-fn chained(s: &[u8], t: &Table, count: usize, a: usize, f: usize, first: usize) -> Option<Found>
-    requires { (count ≤ 1536) × Named s.now a f × Tabled s.now first t.now count }
-    ensures { Sought s.now first count (between s.now a (f - 1)) result }
+fn chained(s: &[u8], t: &Table, lines: Declared, a: usize, f: usize) -> Option<Found>
+    requires { (lines.count ≤ 1536) × Named s.now a f × Tabled s.now lines.first t.now lines.count }
+    ensures { Sought s.now lines.first lines.count (between s.now a (f - 1)) result }
 {
     let mut c = t.last[hash_part(s, a, f - 1)];
+    // Kept: a walk along a chain of links.
     while c > 0 {
         let line = t.lines[c - 1];
-        if name_is(s, a, f, line.place) {
+        if stands(s, a, f, line.place) {
             return Some(Found {
                 line: c - 1,
                 place: line.place,
@@ -149,35 +150,29 @@ fn chained(s: &[u8], t: &Table, count: usize, a: usize, f: usize, first: usize) 
 
 // The line that declares the name from place a on, up to and with its bar before place f. Ruled out: a line whose name begins with this
 // one; one that has the same hash and another name; none where a line past the table has it.
-pub fn find_line(
-    s: &[u8],
-    t: &Table,
-    first: usize,
-    count: usize,
-    a: usize,
-    f: usize,
-) -> Option<Found>
-    requires { (first ≤ length s.now) × Named s.now a f × Tabled s.now first t.now count }
-    ensures { Sought s.now first count (between s.now a (f - 1)) result }
+pub fn find_line(s: &[u8], t: &Table, lines: Declared, a: usize, f: usize) -> Option<Found>
+    requires { (lines.first ≤ length s.now) × Named s.now a f × Tabled s.now lines.first t.now lines.count }
+    ensures { Sought s.now lines.first lines.count (between s.now a (f - 1)) result }
 {
-    if count > LINES {
-        return scanned(s, first, count, a, f);
+    if lines.count > LINES {
+        scanned(s, lines, a, f)
+    } else {
+        chained(s, t, lines, a, f)
     }
-    chained(s, t, count, a, f, first)
 }
 
 // The next line, with its name from place a on, is entered into the table. Ruled out: a line that the one before it in the chain is
 // forgotten by; a place one off.
-pub fn enter(s: &[u8], t: &mut Table, first: usize, count: usize, a: usize, f: usize)
-    requires { Named s.now a f × Tabled s.now first t.old count × (drop a s.now ≡ entry_from count (drop first s.now)) }
-    ensures { Tabled s.now first t.new (count + 1) }
+pub fn enter(s: &[u8], t: &mut Table, lines: Declared, a: usize, f: usize)
+    requires { Named s.now a f × Tabled s.now lines.first t.old lines.count × (drop a s.now ≡ entry_from lines.count (drop lines.first s.now)) }
+    ensures { Tabled s.now lines.first t.new (lines.count + 1) }
 {
-    if count < LINES {
+    if lines.count < LINES {
         let h = hash_part(s, a, f - 1);
-        t.lines[count] = Line {
+        t.lines[lines.count] = Line {
             place: a,
             before: t.last[h],
         };
-        t.last[h] = count + 1;
+        t.last[h] = lines.count + 1;
     }
 }

@@ -27,8 +27,6 @@ use Rattle.script_heads.specs.Heads.{numerals_of, name_to, select_name, NullaryA
 use Rattle.script_ends.specs.declared.Seen.{Seen}
 use Rattle.script_ends.specs.Ends.{EndedAs, Ending, OperatorEnds, operator_item}
 use Rattle.script_place.specs.declared.Unread.{Unread}
-use Rattle.script_place.specs.declared.Unread.TheVariants.{Limit}
-use Rattle.script_place.specs.declared.Operand.TheVariants.{Node}
 use Rattle.script_place.specs.declared.Placed.{Placed}
 use Rattle.script_place.specs.Terms.{PlacedTo, Finished, Closing}
 use Rattle.script_place.specs.Forms.{at_byte, leaf-form, operator-form, call-form, select-form}

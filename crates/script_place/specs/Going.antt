@@ -5,7 +5,7 @@ use Rattle.std.proofs.Math.Path.{ap, sym, subst}
 use Rattle.std.proofs.Common.{◌∙◌}
 use Rattle.std.proofs.Math.Option.{Option, none, some}
 use native.Mathlib.Omega.{arith}
-use Rattle.reading.specs.Trees.{Tree, variable, Trees, Declarations}
+use Rattle.reading.specs.Trees.{Tree, Trees, Declarations}
 use Rattle.echo_spec.specs.TreeSorts.{TreeSort, bits as vector, width_of, tree_sort}
 use Rattle.readback.specs.Rebuild.{here, pending, Put, number_or0, put, variable_number}
 use Rattle.readback.specs.Reader.{Took, took}
@@ -32,7 +32,6 @@ use Rattle.script_terms.specs.Turns.{head_end}
 use Rattle.script_terms.specs.OpenLaws.{nothing-open, constant-going, variable-going, nullary-going}
 use Rattle.script_place.specs.declared.Unread.{Unread}
 use Rattle.script_place.specs.declared.Unread.TheVariants.{NoScript, Limit}
-use Rattle.script_place.specs.declared.Operand.{Operand}
 use Rattle.script_place.specs.declared.Operand.TheVariants.{Node, Constant as Digits}
 use Rattle.script_place.specs.declared.Placed.{Placed}
 use Rattle.script_place.specs.declared.Begun.{Begun}

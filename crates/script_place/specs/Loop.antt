@@ -1,11 +1,11 @@
 -- The operands of a term, one after the other: what holds at each turn, and what a turn brings.
-use Rattle.std.specs.Prelude.{ℕ, suc, ◌+◌, ◌-◌, ◌≤◌, ◌<◌, ◌≡◌, refl, List, [], ◌∷◌, ◌++◌, length, drop, get_or, Result, Ok, Err, Some, ⊤}
+use Rattle.std.specs.Prelude.{ℕ, suc, ◌+◌, ◌-◌, ◌≤◌, ◌<◌, ◌≡◌, refl, List, [], ◌∷◌, ◌++◌, length, drop, get_or, Ok, Err, Some, ⊤}
 use Rattle.std.proofs.Common.{ap, sym, ◌∙◌, subst, append_assoc, append-nil, arith, add-one, ne_eqb, length-append, drop-cons}
-use Rattle.std.proofs.Math.Option.{Option, some}
+use Rattle.std.proofs.Math.Option.{Option}
 use Rattle.lists.specs.Places.{grows-length}
 use Rattle.reading.specs.Trees.{Trees, more, Declarations}
 use Rattle.echo_spec.specs.TreeSorts.{TreeSort, width_of, tree_sort}
-use Rattle.readback.specs.Rebuild.{Item, Ref, here, pending, Put, put}
+use Rattle.readback.specs.Rebuild.{Item, Ref, Put, put}
 use Rattle.heap_laws.specs.Heap.{stack_size, Held, Stacked}
 use Rattle.heap_laws.specs.declared.Heap.{Heap}
 use Rattle.place_laws.specs.Ahead.{Ahead, Next, at-blank, at-close, at-end, begins}
@@ -21,10 +21,9 @@ use Rattle.script_ends.specs.Parts.{SeenOf, OneMore}
 use Rattle.script_ends.specs.Ends.{Ending}
 use Rattle.script_place.specs.declared.Unread.{Unread}
 use Rattle.script_place.specs.declared.Unread.TheVariants.{NoScript, Limit}
-use Rattle.script_place.specs.declared.Operand.{Operand}
-use Rattle.script_place.specs.declared.Operand.TheVariants.{Node, Constant as Digits}
 use Rattle.script_place.specs.declared.Placed.{Placed}
-use Rattle.script_place.specs.Terms.{Term, State, After, ref_of, Pushable, PlacedAs, MoreTo, Opening, Closing}
+use Rattle.script_heap.specs.Laws.{held-own}
+use Rattle.script_place.specs.Terms.{Term, State, ref_of, PlacedAs, MoreTo, Opening, Closing}
 use Rattle.script_place.specs.Forms.{at_byte}
 use Rattle.script_place.specs.Going.{Opened}
 
@@ -167,12 +166,12 @@ module _ {s : List ℕ} {t : Table} {h : Header} {heap₀ : Heap} {heap : Heap} 
     -- NO ROOM for an operand that is placed: there is none for its term.
     pub step-over : (heap₁ heap₂ : Heap) (z : Placed) (u : Unread) → PlacedAs operand_term operand_state heap₁ (Ok z) → MoreTo s heap₁ heap₂ z.operand (Err u) → PlacedAs q g heap₂ (Err u)
     step-over heap₁ heap₂ z NoScript p m = m
-    step-over heap₁ heap₂ z Limit (p, _) m = λ r. stack-full (m _ (g.refs ++ w.rs) p.held p.stacked) r
+    step-over heap₁ heap₂ z Limit (p, _) m = λ r. stack-full (m heap₁.records heap₁.bits _ (g.refs ++ w.rs) p.held p.stacked) r
 
     -- AN OPERAND that is placed and waits.
     pub step-going : (heap₁ heap₂ : Heap) (z : Placed) (u : ⊤) (v' : Seen) → PlacedAs operand_term operand_state heap₁ (Ok z) → MoreTo s heap₁ heap₂ z.operand (Ok u) → OneMore v z.width v'
         → Going q g heap₂ base z.end n v' × (e < z.end) × (z.end ≤ length s)
-    step-going heap₁ heap₂ z u v' (a, _) (k, l) o =
+    step-going heap₁ heap₂ z u v' (a, _) (i, j, k, l) o =
         let low = a.low in
         let p : Put = put q.declarations next_here.tree w.now in
         let m = grows-length w.now p.items (put-grows q.declarations next_here.tree w.now) in
@@ -184,8 +183,8 @@ module _ {s : List ℕ} {t : Table} {h : Header} {heap₀ : Heap} {heap : Heap} 
             os = w.os ++ (tree_sort q.declarations next_here.tree ∷ []);
             left = next_here.others;
             far = so-far-next q.declarations (operands_of q.tree) g.items w.now w.rs w.os next_here.tree next_here.others far-here;
-            held = k p.items a.held;
-            stacked = subst (λ (y : List Ref). Stacked s heap₂ y) (append_assoc g.refs w.rs (ref_of s z.operand ∷ []) ∙ ap (λ (y : Ref). g.refs ++ (w.rs ++ (y ∷ []))) (sym a.is)) (l p.items (g.refs ++ w.rs) a.held a.stacked);
+            held = held-own heap₁ heap₂ p.items i j (k heap₁.records heap₁.bits p.items a.held);
+            stacked = subst (λ (y : List Ref). Stacked s heap₂ y) (append_assoc g.refs w.rs (ref_of s z.operand ∷ []) ∙ ap (λ (y : Ref). g.refs ++ (w.rs ++ (y ∷ []))) (sym a.is)) (l heap₁.records heap₁.bits p.items (g.refs ++ w.rs) a.held a.stacked);
             below = w.below;
             seen = o w.os (tree_sort q.declarations next_here.tree) w.seen (a.wide ∙ ap width_of (sym sorts-here.0.1));
             ahead = subst (λ (y : List ℕ). Ahead q.declarations n y next_here.others q.rest) a.ends next_here.ahead;

@@ -15,11 +15,9 @@ use Rattle.script_entries.specs.Entries.{Known}
 use Rattle.script_heads.specs.declared.Head.{Head}
 use Rattle.script_heads.specs.declared.Head.TheVariants.{Constant, Variable, Nullary, Operator, Call, Select}
 use Rattle.script_heads.specs.Heads.{HeadAt}
-use Rattle.script_terms.specs.declared.Opened.{Opened}
-use Rattle.script_terms.specs.States.{SortAt, Going as Reads}
+use Rattle.script_terms.specs.States.{SortAt}
 use Rattle.script_names.specs.declared.Table.{Table}
 use Rattle.script_header.specs.declared.Header.{Header}
-use Rattle.script_terms.specs.Turns.{head_end}
 use Rattle.script_ends.specs.declared.Seen.{Seen}
 use Rattle.script_ends.specs.Parts.{SeenOf}
 use Rattle.script_place.specs.declared.Unread.{Unread}
@@ -100,20 +98,6 @@ pub record PlacedAt (s : List ℕ) (t : Table) (h : Header) (heap : Heap) (at le
 
 -- ---------------------------------------------------------------- heads
 
--- there is no room for one node more under the others; or the term's operands begin, in this state
-abbrev pub OpenedTo : ℕ → Head → ℕ → ℕ → Result Opened Unread → Type 0
-OpenedTo count x at levels (Err NoScript) = ⊥
-OpenedTo count x at levels (Err Limit) = 2048 ≤ count + levels
-OpenedTo count x at levels (Ok o) = (count + levels < 2048) × (o.end ≡ head_end x) × ((s : List ℕ) (D : Declarations) → HeadAt s D at (Some x) → Reads s D at o.state o.end)
-
--- where the head says that the term goes on
-pub record Begins (heap : Heap) (x : Head) (at levels : ℕ) : Type 0 where
-  pub script : List ℕ
-  pub declarations : Declarations
-  pub head : HeadAt script declarations at (Some x)
-  pub few : levels ≤ 2048
-  pub count : heap.count ≤ 2048
-
 abbrev pub BegunTo : Head → ℕ → Begun → Type 0
 BegunTo (Constant e) at r = r ≡ Done (record { operand = Digits (at + 2); width = e - (at + 2); end = e })
 BegunTo (Variable k w e) at r = r ≡ Done (record { operand = Node k; width = w; end = e })
@@ -124,12 +108,15 @@ BegunTo (Select a i v n e) at r = r ≡ Open
 
 -- ---------------------------------------------------------------- operands
 
--- one operand more waits, or there is no room for it
+-- one operand more waits, or there is no room for it, whatever the records and the bits are, which stay as they were
 abbrev pub MoreTo : List ℕ → Heap → Heap → Operand → Result ⊤ Unread → Type 0
 MoreTo s heap heap' x (Err NoScript) = ⊥
-MoreTo s heap heap' x (Err Limit) = (t : List Item) (refs : List Ref) → Held heap t → Stacked s heap refs → length refs ≡ stack_size
+MoreTo s heap heap' x (Err Limit) =
+    (records bits : List ℕ) (t : List Item) (refs : List Ref) → Held (record heap { records = records; bits = bits }) t → Stacked s heap refs → length refs ≡ stack_size
 MoreTo s heap heap' x (Ok _) =
-    ((t : List Item) → Held heap t → Held heap' t) × ((t : List Item) (refs : List Ref) → Held heap t → Stacked s heap refs → Stacked s heap' (refs ++ (ref_of s x ∷ [])))
+    (heap'.records ≡ heap.records) × (heap'.bits ≡ heap.bits)
+    × ((records bits : List ℕ) (t : List Item) → Held (record heap { records = records; bits = bits }) t → Held (record heap' { records = records; bits = bits }) t)
+    × ((records bits : List ℕ) (t : List Item) (refs : List Ref) → Held (record heap { records = records; bits = bits }) t → Stacked s heap refs → Stacked s heap' (refs ++ (ref_of s x ∷ [])))
 
 -- ---------------------------------------------------------------- ends
 

@@ -4,14 +4,14 @@ use Rattle.std.specs.Prelude as code
 use Rattle.std.proofs.Common.{ap, sym, ◌∙◌, subst, inl, inr, arith, length-append, length-drop}
 use Rattle.std.proofs.Math.Option.{Option, none, some}
 use Rattle.lists.specs.Places.{grows-length}
-use Rattle.reading.specs.Trees.{Tree, Trees, Declarations}
+use Rattle.reading.specs.Trees.{Trees, Declarations}
 use Rattle.echo_spec.specs.Render.{term}
 use Rattle.echo_spec.specs.TreeSorts.{TreeSort, width_of}
-use Rattle.readback.specs.Rebuild.{Item, a_call, Ref, here, pending, Put, ended as endedWith, put}
+use Rattle.readback.specs.Rebuild.{Item, a_call, Ref, Put, ended as endedWith, put}
 use Rattle.readback.specs.Reader.{Took, took, and_then}
 use Rattle.reader_laws.specs.TermsStrict.{and-then, term-strict}
 use Rattle.sort_reader.specs.Sorted.{sorted}
-use Rattle.heap_laws.specs.Heap.{pending_in, Held, Stacked}
+use Rattle.heap_laws.specs.Heap.{pending_in}
 use Rattle.heap_laws.specs.declared.Heap.{Heap}
 use Rattle.place_laws.specs.Ahead.{Ahead, ends, closes, next, at-close, at-end}
 use Rattle.place_laws.specs.Room.{put-grows}
@@ -25,7 +25,7 @@ use Rattle.script_terms.specs.declared.Coded.{Coded}
 use Rattle.script_terms.specs.declared.Opened.{Opened as Begins}
 use Rattle.script_terms.specs.States.{sort_from, State as Standing, rest, after, Held as HeldIn, enough, Going as Reads, Asking, SortedTo, SortAt}
 use Rattle.script_terms.specs.SortLaws.{sorted-term}
-use Rattle.script_terms.specs.Turns.{Begun, Ended, MovedTo, NextTo}
+use Rattle.script_terms.specs.Turns.{Begun, Ended, MovedTo, NextTo, head_end}
 use Rattle.script_terms.specs.TurnLaws.{came, went, asking-of, sorted_of}
 use Rattle.script_terms.specs.OperandLaws.{not-zero}
 use Rattle.script_terms.specs.Lengths.{sorted-takes, after-takes, exact-by}
@@ -34,13 +34,12 @@ use Rattle.script_ends.specs.Ends.{EndedAs, Ending}
 use Rattle.script_ends.specs.Parts.{SeenOf, OneMore}
 use Rattle.script_place.specs.declared.Unread.{Unread}
 use Rattle.script_place.specs.declared.Unread.TheVariants.{NoScript, Limit}
-use Rattle.script_place.specs.declared.Operand.{Operand}
-use Rattle.script_place.specs.declared.Operand.TheVariants.{Node, Constant as Digits}
 use Rattle.script_place.specs.declared.Placed.{Placed}
 use Rattle.script_place.specs.declared.Begun.TheVariants.{Nullary as Alone}
 use Rattle.script_place.specs.declared.Nullary.{Nullary as Applied}
-use Rattle.script_place.specs.Terms.{Term, State, After, ref_of, SortIs, PlacedTo, PlacedAs, PlacedAt, OpenedTo, BegunTo, Pushable, MoreTo, Finished, Opening, Closing, Closes, ClosedTo}
-use Rattle.script_place.specs.Going.{sorted-at, unsorted, sorts-as, alone-sorts, alone-head, open-head, deep-at}
+use Rattle.script_heap.specs.Laws.{held-own}
+use Rattle.script_place.specs.Terms.{Term, State, After, ref_of, SortIs, PlacedTo, PlacedAs, PlacedAt, BegunTo, Pushable, MoreTo, Finished, Opening, Closing, Closes, ClosedTo}
+use Rattle.script_place.specs.Going.{sorted-at, unsorted, sorts-as, alone-sorts, alone-head, open-head}
 use Rattle.script_place.specs.Closing.{alone-placed}
 use Rattle.script_place.specs.Loop.{Going, going_start, alone-ending, bracket-here, operand_term, operand_state, step-not, step-over, step-going, close-going, going-closing}
 
@@ -99,7 +98,7 @@ module _ {s : List ℕ} {t : Table} {h : Header} {heap heap₁ : Heap} {levels p
   ready-pushable z x = (x.placed (term_told z.width z.end r.known (x.sorted r.declarations r.known)) r.state).1
 
   ready-next : (z : Placed) (heap₂ : Heap) (u : ⊤) (v' : Seen) → PlacedAt s t h heap p (levels + 1) heap₁ (Ok z) → MoreTo s heap₁ heap₂ z.operand (Ok u) → OneMore v z.width v' → Ready s t h heap₂ levels v'
-  ready-next z heap₂ u v' x (k, l) o =
+  ready-next z heap₂ u v' x (i, j, k, l) o =
       let q : Term s t h p = term_told z.width z.end r.known (x.sorted r.declarations r.known) in
       let a = (x.placed q r.state).0 in
       let p : Put = put r.declarations q.tree r.state.items in
@@ -114,10 +113,10 @@ module _ {s : List ℕ} {t : Table} {h : Header} {heap heap₁ : Heap} {levels p
         known = r.known;
         state = record {
           items = p.items;
-          held = k p.items a.held;
+          held = held-own heap₁ heap₂ p.items i j (k heap₁.records heap₁.bits p.items a.held);
           variables = omega arith;
           refs = r.state.refs ++ (ref ∷ []);
-          stacked = l p.items r.state.refs a.held a.stacked;
+          stacked = l heap₁.records heap₁.bits p.items r.state.refs a.held a.stacked;
           side = length (r.state.refs ++ (ref ∷ []));
           waiting = omega arith;
           few = r.state.few;
@@ -151,11 +150,6 @@ pub none-placed : {s : List ℕ} {t : Table} {h : Header} {heap : Heap} {at leve
 none-placed k = record { sorted = k; placed = λ q g. unsorted q (k q.declarations q.known) }
 
 -- A TERM WITH OPERANDS that does not begin.
-pub opened-not : {s : List ℕ} {t : Table} {h : Header} {heap : Heap} {at levels : ℕ} (x : Head) → ((D : Declarations) → Known s t h D → HeadAt s D at (Some x)) → Opening x → (u : Unread) → OpenedTo heap.count x at levels (Err u)
-    → PlacedAt s t h heap at levels heap (Err u)
-opened-not x k o NoScript i = absurd i
-opened-not x k o Limit i = deep-at x k o i
-
 -- A CALL WITHOUT ARGUMENTS.
 pub alone_at : {s : List ℕ} {t : Table} {h : Header} {heap : Heap} {at levels : ℕ} {heap' : Heap} (x : Head) (c : Applied) → ((D : Declarations) → Known s t h D → HeadAt s D at (Some x)) → BegunTo x at (Alone c)
     → (r : code.Option ℕ) (p : Result Placed Unread)
@@ -181,9 +175,9 @@ pub record Turning (s : List ℕ) (t : Table) (h : Header) (heap₀ : Heap) (at 
 
 -- BEFORE THE FIRST OPERAND.
 pub turning-start : {s : List ℕ} {t : Table} {h : Header} {heap : Heap} {at levels : ℕ} {D : Declarations} → Known s t h D → State D s heap levels → (x : Head) → ((D : Declarations) → Known s t h D → HeadAt s D at (Some x))
-    → Opening x → (w : Begins) → OpenedTo heap.count x at levels (Ok w)
+    → Opening x → (w : Begins) → heap.count + levels < 2048 → w.end ≡ head_end x → ((s : List ℕ) (D : Declarations) → HeadAt s D at (Some x) → Reads s D at w.state w.end)
     → Turning s t h heap at levels x heap heap.top w.state w.end (record { count = 0; first = 0; second = 0 })
-turning-start {s} {t} {h} {heap} {at} {levels} {D} known g x k o w (l, i, j) =
+turning-start {s} {t} {h} {heap} {at} {levels} {D} known g x k o w l i j =
     let u = g.waiting in
     record {
       opens = o;

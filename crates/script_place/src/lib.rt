@@ -6,14 +6,14 @@ ghost use Rattle.std.specs.Prelude.{◌≡◌, List, ℕ, ◌+◌, ◌≤◌, �
 ghost use Rattle.reading.specs.Trees.{Declarations};
 ghost use Rattle.script_entries.specs.Entries.{Declares};
 ghost use Rattle.script_heads.specs.Heads.{HeadAt};
-ghost use Rattle.script_place.specs.Terms.{State, PlacedAt, OpenedTo, Begins, BegunTo, Pushable, MoreTo, Finished, Closes, ClosedTo};
+ghost use Rattle.script_place.specs.Terms.{State, PlacedAt, BegunTo, Pushable, MoreTo, Finished, Closes, ClosedTo};
 
 use heap_laws::Heap;
-use script_ends::{Seen, end_call, end_operator, end_select, result_width};
+use script_ends::{Operator, Seen, end_call, end_operator, end_select, result_width};
 use script_entries::Script;
 use script_heads::{Head, head_at};
 use script_heap::{push_constant, push_node};
-use script_terms::{Opened, head_state, more, step};
+use script_terms::{head_state, more, step};
 
 // Why a script's problem is not rebuilt.
 #[derive(Clone, Copy, Debug, PartialEq, Eq)]
@@ -56,17 +56,6 @@ struct Nullary {
 }
 
 // ---------------------------------------------------------------- heads
-
-// A term that is to become a node, if there is room for it and those around it.
-fn opening(heap: &Heap, x: Head, at: usize, levels: u64) -> Result<Opened, Unread>
-    requires { Begins heap.now x at levels }
-    ensures { OpenedTo heap.now.count x at levels result }
-{
-    if heap.count + levels >= 2048 {
-        return Err(Unread::Limit);
-    }
-    Ok(head_state(x, at))
-}
 
 // What a term begins with.
 fn begin(x: Head, at: usize) -> Begun
@@ -153,8 +142,13 @@ fn closed(
         } => {
             let a = numeral_or_zero(numerals, 1, first);
             let b = numeral_or_zero(numerals, 2, second);
-            let r = end_operator(s, heap, base, kind, a, b, v.first);
-            finished(r, result_width(kind, a, b, v.first, v.second), e + 1)
+            let o = Operator {
+                kind,
+                first: a,
+                second: b,
+            };
+            let r = end_operator(s, heap, base, o, v.first);
+            finished(r, result_width(o, v.first, v.second), e + 1)
         }
         Head::Call { number, width, .. } => {
             let r = end_call(s, heap, base, number as u64, width);
@@ -195,15 +189,16 @@ pub fn place(script: &Script, heap: &mut Heap, at: usize, levels: u64) -> Result
             finished(r, c.width, c.end)
         }
         Begun::Open => {
-            let o = opening(heap, x, at, levels)?;
+            // There is to be room for its node and for those of the terms around it.
+            if heap.count + levels >= 2048 {
+                return Err(Unread::Limit);
+            }
+            let o = head_state(x, at);
             let base = heap.top as usize;
             let mut w = o.state;
             let mut e = o.end;
-            let mut v = Seen {
-                count: 0,
-                first: 0,
-                second: 0,
-            };
+            let mut v = Seen::default();
+            // Kept: a term tells by its state whether an operand follows.
             while more(script.text, &mut e, &mut w) {
                 let z = place(script, heap, e, levels + 1)?;
                 pushed(script.text, heap, z.operand)?;

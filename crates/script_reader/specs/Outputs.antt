@@ -1,28 +1,23 @@
 -- The outputs of a script that is read back, all eighteen.
-use Rattle.std.specs.Prelude.{ℕ, zero, suc, ◌+◌, ◌-◌, ◌*◌, ◌≤◌, ◌<◌, min, ◌≡◌, refl, Bool, true, false, ◌&&◌, leb, eqb, drop, get_or, Result, Ok, Err}
+use Rattle.std.specs.Prelude.{ℕ, ◌≤◌, ◌<◌, ◌≡◌, get_or, Result, Ok, Err}
 use Rattle.std.proofs.Math.Path.{ap, sym}
-use Rattle.std.proofs.Common.{◌∙◌, subst, arith, leb→le, eqb→eq, length-take}
-use mathlib.Core.List.{List, [], ◌∷◌, ◌++◌, map}
-use Rattle.std.proofs.Math.Option.{none, some}
+use Rattle.std.proofs.Common.{◌∙◌, subst, arith, length-take}
+use mathlib.Core.List.{List, map}
 use Rattle.std.proofs.Math.Dec.{T}
-use Rattle.std.proofs.Math.ListN.{length, take, length-map, length-drop}
-use Rattle.lists.specs.Tests.{among, and_0, and-1, or_r, or_elim}
+use Rattle.std.proofs.Math.ListN.{length, take, length-map}
 use Rattle.reading.specs.Trees.{Variable, Array, Function, Declarations, Reading}
 use Rattle.echo_spec.specs.Input.{Problem}
 use Rattle.echo_spec.specs.Answers.{at_front, zeroed}
 use Rattle.readback.specs.Printable.{variable_names_in, array_names_in, function_names_in}
-use Rattle.readback.specs.Rebuild.{Item, bits_in, side_in, joined, records_from, node_of, dag_for, placed, rebuild}
+use Rattle.readback.specs.Rebuild.{bits_in, side_in, joined, records_from, node_of, dag_for, placed, rebuild}
 use Rattle.readback.specs.Records.{records_bytes, inputs}
 use Rattle.readback.specs.ReadAnswers.{Sizes, no_sizes, sizes_of, each_with, ReadAnswer, read_as, nothing, read_script_answer}
 use Rattle.rebuilt.specs.Layout.{length-starts, length-count}
-use Rattle.lent.specs.Lent.{problem_of}
 use Rattle.header_laws.specs.Body.{reading_of}
-use Rattle.heap_laws.specs.Heap.{Held}
-use Rattle.heap_laws.specs.Within.{length-all, within-parts}
-use Rattle.script_fill.specs.Filling.{change, Few, VariablesFit, VariablesFilled, ArraysFit, ArraysFilled, FunctionsFit, FunctionsFilled}
-use Rattle.script_rebuild.specs.Limits.{Passes, passed, roots-counted as assertions-counted}
-use Rattle.script_rebuild.specs.Rebuilt.{WholeProblem}
-use Rattle.script_rebuild.specs.Steps.{Counts, counts}
+use Rattle.heap_laws.specs.Within.{length-all}
+use Rattle.script_fill.specs.Filling.{Few, VariablesFit, VariablesFilled, ArraysFit, ArraysFilled, FunctionsFit, FunctionsFilled}
+use Rattle.script_rebuild.specs.Limits.{passed, roots-counted as assertions-counted}
+use Rattle.script_rebuild.specs.Steps.{counts}
 use Rattle.heap_laws.specs.declared.Heap.{Heap}
 use Rattle.script_names.specs.declared.Table.{Table}
 use Rattle.script_header.specs.declared.Header.{Header}
@@ -30,7 +25,7 @@ use Rattle.script_rebuild.specs.declared.Sizes.{Sizes as Told}
 use Rattle.script_rebuild.specs.declared.ReadError.{ReadError}
 use Rattle.script_rebuild.specs.declared.ReadError.TheVariants.{NoScript, Limit, Room}
 use Rattle.script_rebuild.specs.Decided.{lengths_of, all_within, needs_of, error_number, Ready}
-use Rattle.script_rebuild.specs.Deciding.{few-names, room-there}
+use Rattle.script_rebuild.specs.Deciding.{all-within, few-names, room-there}
 
 -- ---------------------------------------------------------------- answers
 
@@ -73,30 +68,23 @@ sizes_among l = record {
 -- the arrays have what is needed, and the outputs have room for it
 pub record NodesFit (need : List ℕ) (heap : Heap) (tops a b c d : List ℕ) : Type 0 where
   pub nodes : get_or need 0 0 ≤ length heap.records
-  pub nodes_room : get_or need 0 0 ≤ length a
+  pub nodes_room : length (take (get_or need 0 0) heap.records) ≤ length a
   pub bits : get_or need 1 0 ≤ length heap.bits
-  pub bits_room : get_or need 1 0 ≤ length b
+  pub bits_room : length (take (get_or need 1 0) heap.bits) ≤ length b
   pub side : get_or need 2 0 ≤ length heap.side
-  pub side-room : get_or need 2 0 ≤ length c
+  pub side-room : length (take (get_or need 2 0) heap.side) ≤ length c
   pub roots : get_or need 3 0 ≤ length tops
-  pub roots_room : get_or need 3 0 ≤ length d
+  pub roots_room : length (take (get_or need 3 0) tops) ≤ length d
 
 pub record NodesFilled (need : List ℕ) (heap : Heap) (tops a b c d a' b' c' d' : List ℕ) : Type 0 where
-  pub nodes : a' ≡ change 0 (take (get_or need 0 0) heap.records) a
-  pub bits : b' ≡ change 0 (take (get_or need 1 0) heap.bits) b
-  pub side : c' ≡ change 0 (take (get_or need 2 0) heap.side) c
-  pub roots : d' ≡ change 0 (take (get_or need 3 0) tops) d
+  pub nodes : a' ≡ at_front (take (get_or need 0 0) heap.records) a
+  pub bits : b' ≡ at_front (take (get_or need 1 0) heap.bits) b
+  pub side : c' ≡ at_front (take (get_or need 2 0) heap.side) c
+  pub roots : d' ≡ at_front (take (get_or need 3 0) tops) d
 
 -- ---------------------------------------------------------------- a problem that is ready
 
-all-within : (ns ms : List ℕ) → T (all_within ns ms) → (i : ℕ) → i < length ns → get_or ns i 0 ≤ get_or ms i 0
-unfolding all_within
-all-within [] ms h i l = absurd (omega arith)
-all-within (n ∷ ns) [] h i l = absurd h
-all-within (n ∷ ns) (m ∷ ms) h zero l = leb→le n m (and_0 (leb n m) (all_within ns ms) h)
-all-within (n ∷ ns) (m ∷ ms) h (suc i) l = all-within ns ms (and-1 (leb n m) (all_within ns ms) h) i (omega arith)
-
-module _ {s : List ℕ} {t : Table} {h : Header} {heap : Heap} {tops need room : List ℕ} (x : Ready s t h heap tops need room) (lent : Problem) (l : lengths_of lent ≡ room) where
+module _ {s : List ℕ} {t : Table} {h : Header} {heap : Heap} {tops need room : List ℕ} (x : Ready s t h heap tops need room) where
   abbrev D : Declarations
   D = x.whole.declarations
 
@@ -105,9 +93,6 @@ module _ {s : List ℕ} {t : Table} {h : Header} {heap : Heap} {tops need room :
 
   abbrev p : Problem
   p = inputs (rebuild (reading_of x.whole.declarations x.whole.trees))
-
-  at_most : (i : ℕ) → i < 18 → get_or need i 0 ≤ get_or (lengths_of lent) i 0
-  at_most i k = subst (λ (ms : List ℕ). get_or need i 0 ≤ get_or ms i 0) (sym l) (all-within need room x.fits i (let e : length need ≡ 18 = ap length x.needed in omega (arith, e, k)))
 
   at : (i : ℕ) → get_or need i 0 ≡ get_or (lengths_of p) i 0
   at i = ap (λ (ns : List ℕ). get_or ns i 0) x.needed
@@ -156,82 +141,89 @@ module _ {s : List ℕ} {t : Table} {h : Header} {heap : Heap} {tops need room :
   unfolding inputs rebuild dag_for
   roots-are = ap (λ (k : ℕ). take k tops) roots-counted ∙ x.whole.rooted
 
-  pub ready-nodes : NodesFit need heap tops lent.nodes lent.bits lent.side lent.roots
-  unfolding inputs rebuild dag_for
-  ready-nodes = record {
-    nodes = taken _ heap.records _ records-are (sym n-records);
-    nodes_room = at_most 0 (omega arith);
-    bits = taken _ heap.bits _ bits_are (sym n-bits);
-    bits_room = at_most 1 (omega arith);
-    side = taken _ heap.side _ side-are (sym n-side);
-    side-room = at_most 2 (omega arith);
-    roots = taken _ tops _ roots-are (sym n-roots);
-    roots_room = at_most 3 (omega arith);
-  }
-
-  below : (i : ℕ) → i < 18 → get_or (lengths_of p) i 0 ≤ get_or (lengths_of lent) i 0
-  below i k = omega (arith, at i, at_most i k)
-
-  pub ready-variables : VariablesFit D lent.names lent.name_start lent.name_len lent.var_node lent.var_width
-  unfolding inputs rebuild dag_for
-  ready-variables = record {
-    named = record { names = below 4 (omega arith); starts = (let z = below 5 (omega arith) in let e = length-starts 0 (variable_names_in D) in omega (arith, z, e)); lengths = (let z = below 6 (omega arith) in let e = length-map (variable_names_in D) length in omega (arith, z, e)) };
-    nodes = (let z = below 8 (omega arith) in let y = below 7 (omega arith) in let e = length-count 0 (length (variable_names_in D)) in let f = length-map D.variables (λ (v : Variable). v.name) in omega (arith, y, e, f));
-    widths = (let z = below 8 (omega arith) in let e = length-map D.variables (λ (v : Variable). v.width) in omega (arith, z, e));
-  }
-
-  pub ready-arrays : ArraysFit D lent.anames lent.aname_start lent.aname_len lent.index_width lent.value_width
-  unfolding inputs rebuild dag_for
-  ready-arrays = record {
-    named = record { names = below 9 (omega arith); starts = (let z = below 10 (omega arith) in let e = length-starts 0 (array_names_in D) in omega (arith, z, e)); lengths = (let z = below 11 (omega arith) in let e = length-map (array_names_in D) length in omega (arith, z, e)) };
-    index = (let z = below 12 (omega arith) in let e = length-map D.arrays (λ (a : Array). a.index) in omega (arith, z, e));
-    value = (let z = below 13 (omega arith) in let e = length-map D.arrays (λ (a : Array). a.value) in omega (arith, z, e));
-  }
-
-  pub ready-functions : FunctionsFit D lent.fnames lent.fname_start lent.fname_len lent.func_width
-  unfolding inputs rebuild dag_for
-  ready-functions = record {
-    named = record { names = below 14 (omega arith); starts = (let z = below 15 (omega arith) in let e = length-starts 0 (function_names_in D) in omega (arith, z, e)); lengths = (let z = below 16 (omega arith) in let e = length-map (function_names_in D) length in omega (arith, z, e)) };
-    widths = (let z = below 17 (omega arith) in let e = length-map D.functions (λ (f : Function). f.width) in omega (arith, z, e));
-  }
-
-  -- the eighteen outputs are the problem at the front of what was lent
-  pub ready-filled : {o : Problem} → NodesFilled need heap tops lent.nodes lent.bits lent.side lent.roots o.nodes o.bits o.side o.roots
-      → VariablesFilled 0 D lent.names lent.name_start lent.name_len lent.var_node lent.var_width o.names o.name_start o.name_len o.var_node o.var_width
-      → ArraysFilled 0 D lent.anames lent.aname_start lent.aname_len lent.index_width lent.value_width o.anames o.aname_start o.aname_len o.index_width o.value_width
-      → FunctionsFilled 0 D lent.fnames lent.fname_start lent.fname_len lent.func_width o.fnames o.fname_start o.fname_len o.func_width
-      → o ≡ each_with at_front (inputs (rebuild (reading_of x.whole.declarations x.whole.trees))) lent
-  unfolding inputs rebuild dag_for change
-  ready-filled {o} n v a f = λ i. record {
-    nodes = (n.nodes ∙ ap (λ (k : List ℕ). at_front k lent.nodes) records-are) i;
-    bits = (n.bits ∙ ap (λ (k : List ℕ). at_front k lent.bits) bits_are) i;
-    side = (n.side ∙ ap (λ (k : List ℕ). at_front k lent.side) side-are) i;
-    roots = (n.roots ∙ ap (λ (k : List ℕ). at_front k lent.roots) roots-are) i;
-    names = v.named.names i;
-    name_start = v.named.starts i;
-    name_len = v.named.lengths i;
-    var_node = v.nodes i;
-    var_width = v.widths i;
-    anames = a.named.names i;
-    aname_start = a.named.starts i;
-    aname_len = a.named.lengths i;
-    index_width = a.index i;
-    value_width = a.value i;
-    fnames = f.named.names i;
-    fname_start = f.named.starts i;
-    fname_len = f.named.lengths i;
-    func_width = f.widths i;
-  }
-
   sizes-are : sizes_among need ≡ sizes_of p
   unfolding sizes_of
   sizes-are = ap sizes_among x.needed
 
-  pub ready-answer : (z : Told) (o : Problem) → need ≡ needs_of z → o ≡ each_with at_front (inputs (rebuild (reading_of x.whole.declarations x.whole.trees))) lent → read_back (Ok z) o ≡ read_script_answer s lent
-  unfolding read_as
-  ready-answer z o e f =
-      (λ i. record { number = 0; sizes = (sym (ap sizes_among e) ∙ sizes-are) i; output = f i })
-      ∙ sym (room-there s r x.whole.reading (passed r x.whole.passes) lent (subst (λ (ns : List ℕ). T (all_within ns (lengths_of lent))) x.needed (subst (λ (ms : List ℕ). T (all_within need ms)) (sym l) x.fits)))
+  module _ (lent : Problem) (l : room ≡ lengths_of lent) where
+    at_most : (i : ℕ) → i < 18 → get_or need i 0 ≤ get_or (lengths_of lent) i 0
+    at_most i k = subst (λ (ms : List ℕ). get_or need i 0 ≤ get_or ms i 0) l (all-within need room x.fits i (let e : length need ≡ 18 = ap length x.needed in omega (arith, e, k)))
+
+    part-room : (i : ℕ) (l : List ℕ) → i < 18 → length (take (get_or need i 0) l) ≤ get_or (lengths_of lent) i 0
+    part-room i l k = let e = length-take (get_or need i 0) l in omega (arith, at_most i k)
+
+    pub ready-nodes : NodesFit need heap tops lent.nodes lent.bits lent.side lent.roots
+    unfolding inputs rebuild dag_for
+    ready-nodes = record {
+      nodes = taken _ heap.records _ records-are (sym n-records);
+      nodes_room = part-room 0 heap.records (omega arith);
+      bits = taken _ heap.bits _ bits_are (sym n-bits);
+      bits_room = part-room 1 heap.bits (omega arith);
+      side = taken _ heap.side _ side-are (sym n-side);
+      side-room = part-room 2 heap.side (omega arith);
+      roots = taken _ tops _ roots-are (sym n-roots);
+      roots_room = part-room 3 tops (omega arith);
+    }
+
+    below : (i : ℕ) → i < 18 → get_or (lengths_of p) i 0 ≤ get_or (lengths_of lent) i 0
+    below i k = omega (arith, at i, at_most i k)
+
+    pub ready-variables : VariablesFit D lent.names lent.name_start lent.name_len lent.var_node lent.var_width
+    unfolding inputs rebuild dag_for
+    ready-variables = record {
+      named = record { names = below 4 (omega arith); starts = (let z = below 5 (omega arith) in let e = length-starts 0 (variable_names_in D) in omega (arith, z, e)); lengths = (let z = below 6 (omega arith) in let e = length-map (variable_names_in D) length in omega (arith, z, e)) };
+      nodes = (let z = below 8 (omega arith) in let y = below 7 (omega arith) in let e = length-count 0 (length (variable_names_in D)) in let f = length-map D.variables (λ (v : Variable). v.name) in omega (arith, y, e, f));
+      widths = (let z = below 8 (omega arith) in let e = length-map D.variables (λ (v : Variable). v.width) in omega (arith, z, e));
+    }
+
+    pub ready-arrays : ArraysFit D lent.anames lent.aname_start lent.aname_len lent.index_width lent.value_width
+    unfolding inputs rebuild dag_for
+    ready-arrays = record {
+      named = record { names = below 9 (omega arith); starts = (let z = below 10 (omega arith) in let e = length-starts 0 (array_names_in D) in omega (arith, z, e)); lengths = (let z = below 11 (omega arith) in let e = length-map (array_names_in D) length in omega (arith, z, e)) };
+      index = (let z = below 12 (omega arith) in let e = length-map D.arrays (λ (a : Array). a.index) in omega (arith, z, e));
+      value = (let z = below 13 (omega arith) in let e = length-map D.arrays (λ (a : Array). a.value) in omega (arith, z, e));
+    }
+
+    pub ready-functions : FunctionsFit D lent.fnames lent.fname_start lent.fname_len lent.func_width
+    unfolding inputs rebuild dag_for
+    ready-functions = record {
+      named = record { names = below 14 (omega arith); starts = (let z = below 15 (omega arith) in let e = length-starts 0 (function_names_in D) in omega (arith, z, e)); lengths = (let z = below 16 (omega arith) in let e = length-map (function_names_in D) length in omega (arith, z, e)) };
+      widths = (let z = below 17 (omega arith) in let e = length-map D.functions (λ (f : Function). f.width) in omega (arith, z, e));
+    }
+
+    -- the eighteen outputs are the problem at the front of what was lent
+    pub ready-filled : {o : Problem} → NodesFilled need heap tops lent.nodes lent.bits lent.side lent.roots o.nodes o.bits o.side o.roots
+        → VariablesFilled D lent.names lent.name_start lent.name_len lent.var_node lent.var_width o.names o.name_start o.name_len o.var_node o.var_width
+        → ArraysFilled D lent.anames lent.aname_start lent.aname_len lent.index_width lent.value_width o.anames o.aname_start o.aname_len o.index_width o.value_width
+        → FunctionsFilled D lent.fnames lent.fname_start lent.fname_len lent.func_width o.fnames o.fname_start o.fname_len o.func_width
+        → o ≡ each_with at_front (inputs (rebuild (reading_of x.whole.declarations x.whole.trees))) lent
+    unfolding inputs rebuild dag_for
+    ready-filled {o} n v a f = λ i. record {
+      nodes = (n.nodes ∙ ap (λ (k : List ℕ). at_front k lent.nodes) records-are) i;
+      bits = (n.bits ∙ ap (λ (k : List ℕ). at_front k lent.bits) bits_are) i;
+      side = (n.side ∙ ap (λ (k : List ℕ). at_front k lent.side) side-are) i;
+      roots = (n.roots ∙ ap (λ (k : List ℕ). at_front k lent.roots) roots-are) i;
+      names = v.named.names i;
+      name_start = v.named.starts i;
+      name_len = v.named.lengths i;
+      var_node = v.nodes i;
+      var_width = v.widths i;
+      anames = a.named.names i;
+      aname_start = a.named.starts i;
+      aname_len = a.named.lengths i;
+      index_width = a.index i;
+      value_width = a.value i;
+      fnames = f.named.names i;
+      fname_start = f.named.starts i;
+      fname_len = f.named.lengths i;
+      func_width = f.widths i;
+    }
+
+    pub ready-answer : (z : Told) (o : Problem) → need ≡ needs_of z → o ≡ each_with at_front (inputs (rebuild (reading_of x.whole.declarations x.whole.trees))) lent → read_back (Ok z) o ≡ read_script_answer s lent
+    unfolding read_as
+    ready-answer z o e f =
+        (λ i. record { number = 0; sizes = (sym (ap sizes_among e) ∙ sizes-are) i; output = f i })
+        ∙ sym (room-there s r x.whole.reading (passed r x.whole.passes) lent (subst (λ (ns : List ℕ). T (all_within ns (lengths_of lent))) x.needed (subst (λ (ms : List ℕ). T (all_within need ms)) l x.fits)))
 
 -- ---------------------------------------------------------------- a refusal
 

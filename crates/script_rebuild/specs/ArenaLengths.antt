@@ -1,5 +1,5 @@
 -- How long the names of each table are.
-use Rattle.std.specs.Prelude.{ℕ, min, ◌≡◌, length}
+use Rattle.std.specs.Prelude.{min, ◌≡◌, length}
 use Rattle.reading.specs.Trees.{Declarations}
 use Rattle.readback.specs.Printable.{variable_names_in, array_names_in, function_names_in}
 use Rattle.readback.specs.Rebuild.{arena}

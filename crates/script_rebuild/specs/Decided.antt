@@ -1,16 +1,16 @@
 -- What is decided of a script before anything is written: that it is refused, with the number, or that its problem stands in local arrays and each
 -- output has room for its part.
-use Rattle.std.specs.Prelude.{ℕ, zero, suc, ◌+◌, ◌*◌, ◌≤◌, ◌<◌, ◌≡◌, refl, List, [], ◌∷◌, map, Bool, true, false, ◌&&◌, T, leb, length, Result, Ok, Err}
-use Rattle.std.proofs.Common.{ap, sym, ◌∙◌, subst}
-use Rattle.lists.specs.Tests.{among}
+use Rattle.std.specs.Prelude.{ℕ, ◌≡◌, List, [], ◌∷◌, map, Bool, true, false, ◌&&◌, T, leb, length, Result, Ok, Err}
 use Rattle.echo_spec.specs.Input.{Problem}
 use Rattle.readback.specs.Rebuild.{rebuild}
 use Rattle.readback.specs.Records.{inputs}
-use Rattle.readback.specs.ReadAnswers.{lists_of, ReadAnswer, read_as, nothing, read_script_answer}
+use Rattle.readback.specs.ReadAnswers.{lists_of, read_as, nothing, read_script_answer}
 use Rattle.header_laws.specs.Body.{reading_of}
 use Rattle.heap_laws.specs.declared.Heap.{Heap}
 use Rattle.script_names.specs.declared.Table.{Table}
 use Rattle.script_header.specs.declared.Header.{Header}
+use Rattle.script_place.specs.declared.Unread.{Unread}
+use Rattle.script_place.specs.declared.Unread.TheVariants.{NoScript as NoneRebuilt, Limit as Over}
 use Rattle.script_rebuild.specs.Rebuilt.{WholeProblem}
 use Rattle.script_rebuild.specs.declared.Sizes.{Sizes}
 use Rattle.script_rebuild.specs.declared.Decision.{Decision}
@@ -49,6 +49,11 @@ abbrev pub error_number : ReadError → ℕ
 error_number NoScript = 13
 error_number Limit = 9
 error_number Room = 10
+
+-- bytes that are not rebuilt as a problem are not read, for the same reason
+abbrev pub refusal_of : Unread → ReadError
+refusal_of NoneRebuilt = NoScript
+refusal_of Over = Limit
 
 -- each number is at most the one in its place
 unfoldable pub all_within : List ℕ → List ℕ → Bool

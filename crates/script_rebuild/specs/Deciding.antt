@@ -1,14 +1,13 @@
 -- The steps of deciding.
-use Prim.Native.Nat.{ℕ, zero, suc, ◌+◌, ◌-◌, ◌*◌, ◌≤◌, ◌<◌, min}
-use Rattle.std.specs.Prelude.{◌≡◌, Bool, true, false, ◌&&◌, T, leb, get_or, Result, Ok, Err}
+use Prim.Native.Nat.{ℕ, zero, suc, ◌-◌, ◌*◌, ◌≤◌, ◌<◌}
+use Rattle.std.specs.Prelude.{◌≡◌, ◌↔◌, IsTrue, EachIndex, Bool, true, false, ◌&&◌, T, leb, get_or, Ok, Err}
 use Rattle.std.proofs.Math.Path.{refl, ap, sym}
-use Rattle.std.proofs.Common.{◌∙◌, subst, arith, leb→le, le→leb}
-use mathlib.Core.List.{List, [], ◌∷◌, ◌++◌, map}
-use Rattle.std.proofs.Math.Option.{Option, none, some}
-use Rattle.std.proofs.Math.ListN.{length, length-map, drop}
-use Rattle.lists.specs.Tests.{T→true, no→false}
+use Rattle.std.proofs.Common.{◌∙◌, arith, leb→le, le→leb}
+use mathlib.Core.List.{List, [], ◌∷◌, map}
+use Rattle.std.proofs.Math.Option.{none, some}
+use Rattle.std.proofs.Math.ListN.{length, length-map}
+use Rattle.lists.specs.Tests.{T→true, no→false, and_0, and-1, and_T}
 use Rattle.reading.specs.Trees.{Variable, Array, Function, Declarations, Reading}
-use Rattle.echo_spec.specs.Refusals.{unless, ◌or_else◌}
 use Rattle.echo_spec.specs.Input.{Problem}
 use Rattle.readback.specs.Printable.{variable_names_in, array_names_in, function_names_in}
 use Rattle.readback.specs.Rebuild.{Item, bits_in, side_in, joined, records_from, starts_counted_from, count_from, arena, node_of, dag_for, placed, rebuild}
@@ -24,17 +23,15 @@ use Rattle.script_names.specs.declared.Table.{Table}
 use Rattle.script_header.specs.declared.Header.{Header}
 use Rattle.script_place.specs.declared.Unread.{Unread}
 use Rattle.script_place.specs.declared.Unread.TheVariants.{NoScript, Limit}
-use Rattle.script_rebuild.specs.declared.Decision.{Decision}
 use Rattle.script_rebuild.specs.declared.Sizes.{Sizes}
-use Rattle.script_rebuild.specs.declared.ReadError.{ReadError}
-use Rattle.script_rebuild.specs.declared.ReadError.TheVariants.{NoScript as NoneRead, Limit as Over, Room}
+use Rattle.script_rebuild.specs.declared.ReadError.TheVariants.{Room}
 use Rattle.heap_laws.specs.Within.{within-parts, length-all}
 use Rattle.script_rebuild.specs.Limits.{Passes, passed, roots-counted}
-use Rattle.script_rebuild.specs.Rebuilt.{WholeProblem}
-use Rattle.script_rebuild.specs.Steps.{Counts, counts}
+use Rattle.script_rebuild.specs.Rebuilt.{WholeProblem, RebuiltTo}
+use Rattle.script_rebuild.specs.Steps.{Counts}
 use Rattle.script_rebuild.specs.ArenaLengths.{ArenasAre}
 use Rattle.script_rebuild.specs.declared.Arenas.{Arenas}
-use Rattle.script_rebuild.specs.Decided.{lengths_of, all_within, needs_of, Ready, Decided}
+use Rattle.script_rebuild.specs.Decided.{lengths_of, all_within, needs_of, refusal_of, Decided}
 
 -- ---------------------------------------------------------------- room
 
@@ -58,6 +55,10 @@ refused-alike n p lent = refl
 pub over-limit : (s : List ℕ) → (r : Reading) × (reading_in s ≡ some r) × (limits_passed (rebuild r) ≡ false) → (lent : Problem) → read_script_answer s lent ≡ read_as 9 nothing lent
 unfolding read_script_answer read_from rebuilt_refusal
 over-limit s (r, e, l) lent = rw (e, read_from, l) (refused-alike 8 (inputs (rebuild r)) lent)
+
+pub refused : (s : List ℕ) (t : Table) (heap : Heap) (roots : List ℕ) {room : List ℕ} (u : Unread) → RebuiltTo s t heap roots (Err u) → Decided s t heap roots room (Err (refusal_of u))
+refused s t heap roots NoScript h = λ lent l. no-script s h lent
+refused s t heap roots Limit h = λ lent l. over-limit s h lent
 
 pub no_room : (s : List ℕ) (r : Reading) → reading_in s ≡ some r → T (limits_passed (rebuild r)) → (lent : Problem) → all_within (lengths_of (inputs (rebuild r))) (lengths_of lent) ≡ false → read_script_answer s lent ≡ read_as 10 nothing lent
 unfolding read_script_answer read_from rebuilt_refusal
@@ -139,50 +140,23 @@ module _ {s : List ℕ} {t : Table} {h : Header} {heap : Heap} {roots : List ℕ
 
 -- ---------------------------------------------------------------- the numbers in their places
 
--- from place i on
-pub record Compared (ns ms : List ℕ) (i : ℕ) : Type 0 where
-  pub inside : i ≤ 18
-  pub long : length ns ≡ 18
-  pub wide : length ms ≡ 18
-  pub ahead : all_within ns ms ≡ all_within (drop i ns) (drop i ms)
-
-pub compared-start : (ns ms : List ℕ) → length ns ≡ 18 → length ms ≡ 18 → Compared ns ms 0
-compared-start ns ms e f = record { inside = omega arith; long = e; wide = f; ahead = refl }
-
-step : (ns ms : List ℕ) (i : ℕ) → i < length ns → i < length ms → all_within (drop i ns) (drop i ms) ≡ (leb (get_or ns i 0) (get_or ms i 0) && all_within (drop (i + 1) ns) (drop (i + 1) ms))
+pub all-within : (ns ms : List ℕ) → T (all_within ns ms) → (i : ℕ) → i < length ns → get_or ns i 0 ≤ get_or ms i 0
 unfolding all_within
-step [] ms i l k = absurd (omega arith)
-step (n ∷ ns) [] i l k = absurd (omega arith)
-step (n ∷ ns) (m ∷ ms) zero l k = refl
-step (n ∷ ns) (m ∷ ms) (suc i) l k =
-    let e : suc i + 1 ≡ suc (i + 1) = omega arith in
-    step ns ms i (omega arith) (omega arith) ∙ (λ j. leb (get_or ns i 0) (get_or ms i 0) && all_within (drop (sym e j) (n ∷ ns)) (drop (sym e j) (m ∷ ms)))
+all-within [] ms h i l = absurd (omega arith)
+all-within (n ∷ ns) [] h i l = absurd h
+all-within (n ∷ ns) (m ∷ ms) h zero l = leb→le n m (and_0 (leb n m) (all_within ns ms) h)
+all-within (n ∷ ns) (m ∷ ms) h (suc i) l = all-within ns ms (and-1 (leb n m) (all_within ns ms) h) i (omega arith)
 
-module _ {ns ms : List ℕ} {i : ℕ} (x : Compared ns ms i) where
-  pub compared-next : i < 18 → get_or ns i 0 ≤ get_or ms i 0 → Compared ns ms (i + 1)
-  compared-next l h = record {
-    inside = omega arith;
-    long = x.long;
-    wide = x.wide;
-    ahead = x.ahead ∙ step ns ms i (omega (arith, x.long, l)) (omega (arith, x.wide, l)) ∙ ap (λ (b : Bool). b && all_within (drop (i + 1) ns) (drop (i + 1) ms)) (T→true (leb (get_or ns i 0) (get_or ms i 0)) (le→leb (get_or ns i 0) (get_or ms i 0) h));
-  }
+pub within-each : (ns ms : List ℕ) → length ns ≤ length ms → ((i : ℕ) → i < length ns → get_or ns i 0 ≤ get_or ms i 0) → T (all_within ns ms)
+unfolding all_within
+within-each [] ms l h = tt
+within-each (n ∷ ns) [] l h = absurd (omega arith)
+within-each (n ∷ ns) (m ∷ ms) l h = and_T (leb n m) (all_within ns ms) (le→leb n m (h 0 (omega arith))) (within-each ns ms (omega arith) (λ i k. h (suc i) (omega arith)))
 
-  pub compared-no : i < 18 → get_or ms i 0 < get_or ns i 0 → false ≡ all_within ns ms
-  compared-no l h =
-      let f : leb (get_or ns i 0) (get_or ms i 0) ≡ false = no→false (leb (get_or ns i 0) (get_or ms i 0)) (λ t. omega (arith, leb→le (get_or ns i 0) (get_or ms i 0) t, h)) in
-      sym (x.ahead ∙ step ns ms i (omega (arith, x.long, l)) (omega (arith, x.wide, l)) ∙ ap (λ (b : Bool). b && all_within (drop (i + 1) ns) (drop (i + 1) ms)) f)
-
-  pub compared-all : 18 ≤ i → true ≡ all_within ns ms
-  unfolding all_within
-  compared-all l =
-      let e : drop i ns ≡ [] = drop_all i ns (omega (arith, x.long, l)) in
-      sym (x.ahead ∙ ap (λ (k : List ℕ). all_within k (drop i ms)) e)
-    where
-      drop_all : (j : ℕ) (k : List ℕ) → length k ≤ j → drop j k ≡ []
-      drop_all zero [] h = refl
-      drop_all zero (y ∷ k) h = absurd (omega arith)
-      drop_all (suc j) [] h = refl
-      drop_all (suc j) (y ∷ k) h = drop_all j k (omega arith)
+-- so a test of them tells
+pub within-told : (ns ms : List ℕ) → length ns ≤ length ms → (b : Bool) → IsTrue b ↔ EachIndex ns (λ i. get_or ns i 0 ≤ get_or ms i 0) → b ≡ all_within ns ms
+within-told ns ms l true h = sym (T→true (all_within ns ms) (within-each ns ms l (h.0 refl)))
+within-told ns ms l false h = sym (no→false (all_within ns ms) (λ t. let e : IsTrue false = h.1 (all-within ns ms t) in cc))
 
 pub need-long : {need : List ℕ} (p : Problem) → need ≡ lengths_of p → length need ≡ 18
 need-long p e = ap length e

@@ -1,21 +1,14 @@
 -- Arrays that hold zeros are fit to begin with.
-use Rattle.std.specs.Prelude.{ℕ, ◌≡◌, refl, List, [], length, replicate}
+use Rattle.std.specs.Prelude.{ℕ, ◌≡◌, refl, List, length, replicate}
 use Rattle.std.proofs.Common.{subst}
 use Rattle.std.proofs.lemmas.List.{length-replicate}
 use Rattle.lent.specs.Clearing.{replicate-zeros}
-use Rattle.script_calls.specs.Flags.{Unflagged}
 use Rattle.heap_laws.specs.declared.Constant.{Constant}
 use Rattle.heap_laws.specs.declared.Heap.{Heap}
 use Rattle.heap_laws.specs.Start.{Blank}
 
 abbrev zeros_of : ℕ → List ℕ
 zeros_of n = replicate n 0
-
-flags_of : (n : ℕ) → n ≡ 512 → Unflagged (zeros_of n)
-flags_of n e = record { long = subst (λ (k : ℕ). length (zeros_of n) ≡ k) e (length-replicate n 0); zeros = λ h l. (replicate-zeros n).at h }
-
-pub fresh-flags : Unflagged (replicate 512 0)
-fresh-flags = flags_of 512 refl
 
 long : {A : Type 0} (n m : ℕ) (x : A) → n ≡ m → length (replicate n x) ≡ m
 long n m x e = subst (λ (k : ℕ). length (replicate n x) ≡ k) e (length-replicate n x)

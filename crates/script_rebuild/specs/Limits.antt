@@ -1,18 +1,18 @@
 -- 9 of a script's problem, part by part: its nodes, its roots, the entries and the names of each table.
-use Rattle.std.specs.Prelude.{ℕ, zero, suc, ◌+◌, ◌≤◌, ◌<◌, ◌≡◌, List, [], ◌∷◌, ◌++◌, map, false, ◌&&◌}
+use Rattle.std.specs.Prelude.{ℕ, suc, ◌≤◌, ◌≡◌, List, [], ◌∷◌, map, false, ◌&&◌}
 use Rattle.std.proofs.Math.Path.{refl, subst}
-use Rattle.std.proofs.Common.{ap, sym, ◌∙◌, arith}
+use Rattle.std.proofs.Common.{ap, sym, arith}
 use Rattle.std.proofs.Math.Bool.{Bool, true}
 use Rattle.std.proofs.Math.Dec.{T, leb, leb→le, le→leb}
 use Rattle.std.proofs.Math.ListN.{length}
 use Rattle.std.proofs.lemmas.List.{length-map}
 use Rattle.lists.specs.Tests.{every, by-test, and_T, and_0, and-1}
-use Rattle.reading.specs.Trees.{Name, Tree, Trees, none as noTrees, more, Variable, Array, Function, Declarations, Reading}
-use Rattle.echo_spec.specs.Input.{Problem, nodes_within, column_within, arena_within, within_limits}
+use Rattle.reading.specs.Trees.{Name, Tree, Variable, Array, Function, Declarations, Reading}
+use Rattle.echo_spec.specs.Input.{nodes_within, column_within, arena_within, within_limits}
 use Rattle.readback.specs.Printable.{variable_names_in, array_names_in, function_names_in}
 use Rattle.readback.specs.ScriptReader.{trees_from}
 use Rattle.readback.specs.Records.{records_bytes, holdable, inputs}
-use Rattle.readback.specs.Rebuild.{Item, Ref, Put, PutAll, put, put_all, node_of, records_from, bits_in, side_in, joined, starts_counted_from, count_from, arena, dag_for, with_uncalled, variable_items, placed, rebuild}
+use Rattle.readback.specs.Rebuild.{Item, put, put_all, node_of, records_from, bits_in, side_in, joined, starts_counted_from, count_from, arena, dag_for, placed, rebuild}
 use Rattle.readback.specs.ReadAnswers.{limits_passed}
 use Rattle.rebuilt.specs.Layout.{length-starts, length-count}
 use Rattle.heap_laws.specs.Heap.{within}

@@ -1,5 +1,5 @@
 -- A script's problem in local arrays: what is told of it, and what the arrays hold.
-use Rattle.std.specs.Prelude.{ℕ, ◌≤◌, ◌<◌, ◌≡◌, List, [], map, false, T, length, take, Result, Ok, Err}
+use Rattle.std.specs.Prelude.{ℕ, ◌≡◌, List, map, false, length, take, Result, Ok, Err}
 use Rattle.std.proofs.Math.Option.{none, some}
 use Rattle.reading.specs.Trees.{Tree, Declarations, Reading}
 use Rattle.readback.specs.Rebuild.{node_of, placed, rebuild}

@@ -1,10 +1,9 @@
 -- The steps of rebuilding a script's problem.
-use Rattle.std.specs.Prelude.{ℕ, ◌+◌, ◌-◌, ◌≤◌, ◌<◌, min, ◌≡◌, refl, List, [], map, Bool, true, false, T, leb, length, take, Result, Ok, Err, Some, None}
-use Rattle.std.specs.Prelude as code
-use Rattle.std.proofs.Common.{ap, sym, ◌∙◌, subst, ⊎_elim, arith, leb→le, le→leb}
+use Rattle.std.specs.Prelude.{ℕ, ◌+◌, ◌-◌, ◌≤◌, min, ◌≡◌, refl, List, [], map, false, T, length, take, Result, Ok, Err, None, Bool}
+use Rattle.std.proofs.Common.{ap, sym, ◌∙◌, subst, ⊎_elim, arith}
 use Rattle.std.proofs.Math.Option.{Option, none, some}
 use Rattle.std.proofs.lemmas.List.{length-map}
-use Rattle.lists.specs.Tests.{no→false, true→T}
+use Rattle.lists.specs.Tests.{no→false}
 use Rattle.reading.specs.Trees.{Name, Tree, Variable, Array, Function, Declarations, Reading}
 use Rattle.readback.specs.Printable.{variable_names_in, array_names_in, function_names_in}
 use Rattle.readback.specs.Rebuild.{arena, node_of, placed, rebuild}
@@ -26,14 +25,12 @@ use Rattle.script_names.specs.declared.Table.{Table}
 use Rattle.script_header.specs.declared.Header.{Header}
 use Rattle.script_place.specs.declared.Unread.{Unread}
 use Rattle.script_place.specs.declared.Unread.TheVariants.{NoScript, Limit}
-use Rattle.script_rebuild.specs.declared.Rebuilt.{Rebuilt}
 use Rattle.script_rebuild.specs.Limits.{TablesWithin, Tables, Passes, passes, roots-counted}
 use Rattle.place_script.specs.Scripts.{Ready, ScriptTo, RootsIn}
 use Rattle.script_rebuild.specs.ArenaLengths.{ArenasAre}
 use Rattle.script_check.specs.Check.{Topped, BodyAt, BodyTo}
 use Rattle.script_check.specs.Turns.{body-none, body_checked}
 use Rattle.script_rebuild.specs.Rebuilt.{WholeProblem, RebuiltTo}
-use Rattle.script_rebuild.specs.declared.Arenas.{Arenas}
 
 -- ---------------------------------------------------------------- tables
 
@@ -57,34 +54,6 @@ pub arenas-are : {s : List ℕ} {t : Table} {h : Header} {D : Declarations} → 
 arenas-are x e f g =
     let m : List Name → ℕ = λ ns. min (length (arena ns)) 16385 in
     record { names = e ∙ ap m (variable-lines x); anames = f ∙ ap m (array-lines x); fnames = g ∙ ap m (function-lines x) }
-
-module _ (D : Declarations) {h : Header} (c : Counts h D) where
-  pub many-variables : 512 < variables_of h → Tables D false
-  many-variables l w = omega (arith, l, c.variables, w.variables.entries)
-
-  pub many-arrays : 512 < arrays_of h - variables_of h → Tables D false
-  many-arrays l w = omega (arith, l, c.arrays, w.arrays.entries)
-
-  pub many-functions : 512 < names_of h - arrays_of h → Tables D false
-  many-functions l w = omega (arith, l, c.functions, w.functions.entries)
-
-  module _ {r : Arenas} (a : ArenasAre D r) where
-    pub long-names : 16384 < r.names → Tables D false
-    long-names l w = omega (arith, l, a.names, w.variables.names)
-
-    pub long-anames : 16384 < r.anames → Tables D false
-    long-anames l w = omega (arith, l, a.anames, w.arrays.names)
-
-    pub tables-told : variables_of h ≤ 512 → arrays_of h - variables_of h ≤ 512 → names_of h - arrays_of h ≤ 512 → r.names ≤ 16384 → r.anames ≤ 16384 → Tables D (leb r.fnames 16384)
-    tables-told x y z n m = by_last (leb r.fnames 16384) refl
-      where
-        by_last : (b : Bool) → leb r.fnames 16384 ≡ b → Tables D b
-        by_last true e = record {
-          variables = record { entries = omega (arith, x, c.variables); names = omega (arith, n, a.names) };
-          arrays = record { entries = omega (arith, y, c.arrays); names = omega (arith, m, a.anames) };
-          functions = record { entries = omega (arith, z, c.functions); names = omega (arith, leb→le r.fnames 16384 (true→T e), a.fnames) };
-        }
-        by_last false e = λ w. (let f : r.fnames ≤ 16384 → ⊥ = λ l. absurd (subst T e (le→leb r.fnames 16384 l)) in omega (arith, f, a.fnames, w.functions.names))
 
 -- ---------------------------------------------------------------- how a script begins
 
@@ -128,7 +97,7 @@ module _ {s : List ℕ} {t : Table} {h : Header} {from : ℕ} (x : Topped s t h 
   pub over-tables : (heap : Heap) (roots : List ℕ) → Tables D false → (o : Unread) → OverTo s D from o → RebuiltTo s t heap roots (Err o)
   over-tables heap roots w = over heap roots (λ ts _ p. w (record { variables = p.variables; arrays = p.arrays; functions = p.functions }))
 
-  module _ {flags : List ℕ} {heap₀ : Heap} {roots₀ : List ℕ} (w : TablesWithin D) (f : (D : Declarations) (ts : List Tree) → Known s t h D → AssertionsAt s D from ts → Flagged D (trees_from ts) flags)
+  module _ {flags : List Bool} {heap₀ : Heap} {roots₀ : List ℕ} (w : TablesWithin D) (f : (D : Declarations) (ts : List Tree) → Known s t h D → AssertionsAt s D from ts → Flagged D (trees_from ts) flags)
       (k : Held heap₀ []) (m : Stacked s heap₀ []) (z : length roots₀ ≡ 256) (heap : Heap) (roots : List ℕ) (b : Result ℕ Unread) where
     -- what placing the script's nodes asks, and what it says
     ready : (ts : List Tree) → AssertionsAt s D from ts → Ready s t h flags heap₀ roots₀ from D ts

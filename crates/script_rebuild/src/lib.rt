@@ -2,25 +2,24 @@
 // side entries and roots. Under "Ruled out" stand wrong programs that a public function's contract refuses.
 #![tactic(auto)]
 
-ghost use Rattle.std.specs.Prelude.{◌≡◌, List, [], ℕ, ◌≤◌, ◌<◌, length};
+ghost use Rattle.std.specs.Prelude.{◌≡◌, ◌↔◌, List, [], ℕ, ◌≤◌, ◌<◌, length, slice_index, EachIndex, IsTrue};
 ghost use Rattle.reading.specs.Trees.{Declarations};
 ghost use Rattle.readback.specs.Rebuild.{rebuild};
 ghost use Rattle.script_names.specs.Entries.{Empty};
 ghost use Rattle.script_entries.specs.Entries.{Declares, names_of};
-ghost use Rattle.script_calls.specs.Flags.{Unflagged};
 ghost use Rattle.header_laws.specs.Body.{reading_of};
 ghost use Rattle.heap_laws.specs.Heap.{Held, Stacked};
 ghost use Rattle.script_rebuild.specs.Limits.{Tables};
 ghost use Rattle.script_rebuild.specs.Rebuilt.{WholeProblem, RebuiltTo};
 ghost use Rattle.script_rebuild.specs.Steps.{OverTo};
-ghost use Rattle.script_rebuild.specs.Decided.{lengths_of, all_within, needs_of, Decided};
+ghost use Rattle.script_rebuild.specs.Decided.{lengths_of, needs_of, error_number, refusal_of, Decided};
 ghost use Rattle.readback.specs.Records.{inputs};
 ghost use Rattle.script_rebuild.specs.ArenaLengths.{ArenasAre};
 
 use heap_laws::{BITS, CONSTANTS, Constant, HASHES, Heap, NODES, SIDE, STACK};
 use place_script::place_script;
 use refusals::{MAX_ARENA, MAX_ENTRIES};
-use script_calls::{FLAGS, called_in};
+use script_calls::called_in;
 use script_check::{assertions, check_header};
 use script_entries::Script;
 use script_fill::names_length;
@@ -100,15 +99,36 @@ pub struct Sizes {
     pub functions: usize,
 }
 
-// Why a script is not read.
+// Why a script is not read, by the refusal's number.
 #[derive(Clone, Copy, Debug, PartialEq, Eq)]
 pub enum ReadError {
     // The bytes are no problem's script.
-    NoScript,
+    NoScript = 13,
     // Its problem is over a limit, or has a number that a record cannot hold.
-    Limit,
+    Limit = 9,
     // A lent output is shorter than what belongs there.
-    Room,
+    Room = 10,
+}
+
+// A refusal's number. Ruled out: numbers from 0 on; 9 and 10 the other way about.
+impl From<ReadError> for u64 {
+    ghost from_gives = { λ e n. n ≡ error_number e };
+
+    fn from(e: ReadError) -> u64 {
+        e as u64
+    }
+}
+
+// What is not rebuilt is not read. Ruled out: a limit told of bytes that are no script; 10 told of a problem over a limit.
+impl From<Unread> for ReadError {
+    ghost from_gives = { λ u e. e ≡ refusal_of u };
+
+    fn from(u: Unread) -> ReadError {
+        match u {
+            Unread::NoScript => ReadError::NoScript,
+            Unread::Limit => ReadError::Limit,
+        }
+    }
 }
 
 // What is decided of a script that is read: its header, and what it needs.
@@ -126,23 +146,11 @@ fn tables_fit(script: &Script) -> bool
     let v = script.header.variables;
     let w = script.header.arrays;
     let c = script.header.names;
-    if v > MAX_ENTRIES {
-        return false;
-    }
-    if w - v > MAX_ENTRIES {
-        return false;
-    }
-    if c - w > MAX_ENTRIES {
+    if v > MAX_ENTRIES || w - v > MAX_ENTRIES || c - w > MAX_ENTRIES {
         return false;
     }
     let a = arena_lengths(script);
-    if a.names > MAX_ARENA {
-        return false;
-    }
-    if a.anames > MAX_ARENA {
-        return false;
-    }
-    a.fnames <= MAX_ARENA
+    a.names <= MAX_ARENA && a.anames <= MAX_ARENA && a.fnames <= MAX_ARENA
 }
 
 // What bytes are refused with whose problem would be over a limit: they are a script, or none.
@@ -160,11 +168,10 @@ fn over_limit(script: &Script, from: usize) -> Unread
 pub fn rebuild_script(
     s: &[u8],
     t: &mut Table,
-    flags: &mut [u64; FLAGS],
     heap: &mut Heap,
     roots: &mut [u64; 256],
 ) -> Result<Rebuilt, Unread>
-    requires { Empty t.old × Unflagged flags.old × Held heap.old [] × Stacked s.now heap.old [] × (length roots.old ≡ 256) }
+    requires { Empty t.old × Held heap.old [] × Stacked s.now heap.old [] × (length roots.old ≡ 256) }
     ensures { RebuiltTo s.now t.new heap.new roots.new result }
 {
     let Some(_) = opening(s) else {
@@ -182,8 +189,8 @@ pub fn rebuild_script(
     if !tables_fit(&script) {
         return Err(over_limit(&script, from));
     }
-    called_in(&script, from, flags);
-    match place_script(&script, flags, heap, roots, from) {
+    let called = called_in(&script, from);
+    match place_script(&script, &called, heap, roots, from) {
         Err(Unread::NoScript) => Err(Unread::NoScript),
         Err(Unread::Limit) => Err(over_limit(&script, from)),
         Ok(n) => Ok(Rebuilt { header, roots: n }),
@@ -223,10 +230,10 @@ impl Sizes {
 // Is each number at most the one in its place?
 fn fits(need: &[usize; 18], room: &[usize; 18]) -> bool
     requires { (length need.now ≡ 18) × (length room.now ≡ 18) }
-    ensures { result ≡ all_within need.now room.now }
+    ensures { IsTrue result ↔ EachIndex need.now (λ k. slice_index need.now k ≤ slice_index room.now k) }
 {
-    for i in 0..18 {
-        if need[i] > room[i] {
+    for (n, m) in need.iter().zip(room) {
+        if n > m {
             return false;
         }
     }
@@ -259,32 +266,25 @@ fn needed(script: &Script, heap: &Heap, n: usize) -> Sizes
 pub fn decide(
     s: &[u8],
     t: &mut Table,
-    flags: &mut [u64; FLAGS],
     heap: &mut Heap,
     roots: &mut [u64; 256],
     room: &[usize; 18],
 ) -> Result<Decision, ReadError>
-    requires { Empty t.old × Unflagged flags.old × Held heap.old [] × Stacked s.now heap.old [] × (length roots.old ≡ 256) × (length room.now ≡ 18) }
+    requires { Empty t.old × Held heap.old [] × Stacked s.now heap.old [] × (length roots.old ≡ 256) × (length room.now ≡ 18) }
     ensures { Decided s.now t.new heap.new roots.new room.now result }
 {
-    match rebuild_script(s, t, flags, heap, roots) {
-        Err(Unread::NoScript) => Err(ReadError::NoScript),
-        Err(Unread::Limit) => Err(ReadError::Limit),
-        Ok(x) => {
-            let script = Script {
-                text: s,
-                table: t,
-                header: x.header,
-            };
-            let sizes = needed(&script, heap, x.roots);
-            if fits(&sizes.lengths(), room) {
-                Ok(Decision {
-                    header: x.header,
-                    sizes,
-                })
-            } else {
-                Err(ReadError::Room)
-            }
-        }
+    let x = rebuild_script(s, t, heap, roots)?;
+    let script = Script {
+        text: s,
+        table: t,
+        header: x.header,
+    };
+    let sizes = needed(&script, heap, x.roots);
+    if !fits(&sizes.lengths(), room) {
+        return Err(ReadError::Room);
     }
+    Ok(Decision {
+        header: x.header,
+        sizes,
+    })
 }

@@ -69,9 +69,6 @@ stretch-whole {ends} {s} {a} {e} r l h =
     let z : drop e s ≡ [] = drop_of_length-le s {i = e} (omega arith) in
     stretch ends s a e l (omega arith) r (ap (λ (b : List ℕ). (up_to ends b).rest) z ∙ sym z)
 
-pub within_start : {ends : ℕ → Bool} {s : List ℕ} {a : ℕ} → a ≤ length s → Within ends s a a
-within_start h = record { low = omega arith; high = h; runs = runs-start }
-
 -- one byte more
 pub within_on : {ends : ℕ → Bool} {s : List ℕ} {a e : ℕ} → Within ends s a e → e < length s → ends (get_or s e 0) ≡ false → Within ends s a (e + 1)
 within_on w h q = record { low = omega (arith, w.low); high = omega arith; runs = runs_on w.runs h q }

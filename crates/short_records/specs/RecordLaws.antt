@@ -1,7 +1,7 @@
 -- Laws of one record: its size in the new form, the words of its operands, and what of it is 0. Assumes nothing.
 use Prim.Native.Nat.{ℕ, zero, suc, ◌+◌, ◌*◌, ◌-◌, ◌≤◌}
 use Rattle.std.specs.Prelude.{◌≡◌, refl, Bool, ltb, eqb, length, take, get_or}
-use Rattle.std.proofs.Common.{ap, sym, ◌∙◌, eqb→eq, length-drop, length-take-le, drop-drop, get_or-drop, take-add, drop_at}
+use Rattle.std.proofs.Common.{lit≤, ap, sym, ◌∙◌, eqb→eq, length-drop, length-take-le, drop-drop, get_or-drop, take-add, drop_at}
 use mathlib.Core.List.{List, [], ◌∷◌, ◌++◌, append_assoc}
 use native.Mathlib.Omega.{arith}
 use Rattle.std.proofs.Math.Dec.{T}
@@ -9,10 +9,46 @@ use Rattle.std.proofs.Math.ListN.{drop, replicate}
 use Rattle.std.proofs.lemmas.List.{replicate-append-replicate}
 use Rattle.lists.specs.Tests.{every, and_0, and-1, and_T}
 use Rattle.lists.specs.Build.{tabulate}
-use Rattle.echo_spec.specs.Shapes.{shape_of, operand_count}
+use Rattle.echo_spec.specs.Shapes.{
+  Shape,
+  var,
+  const,
+  binary,
+  rotation,
+  extraction,
+  concat,
+  extension,
+  ite,
+  comparison,
+  negation,
+  connective,
+  unary,
+  select,
+  call,
+  unknown,
+  shape_of,
+  operand_count,
+}
 use Rattle.echo_spec.specs.Input.{word32, node_at, node_encoded}
-use Rattle.blast_kernel.specs.Codes.{at-most-four}
 use Rattle.short_records.specs.Short.{operand_bytes, filled}
+
+pub at-most-four : (s : Shape) → operand_count s ≤ 4
+unfolding operand_count
+at-most-four var = lit≤ tt
+at-most-four const = lit≤ tt
+at-most-four binary = lit≤ tt
+at-most-four rotation = lit≤ tt
+at-most-four extraction = lit≤ tt
+at-most-four concat = lit≤ tt
+at-most-four extension = lit≤ tt
+at-most-four ite = lit≤ tt
+at-most-four comparison = lit≤ tt
+at-most-four negation = lit≤ tt
+at-most-four connective = lit≤ tt
+at-most-four unary = lit≤ tt
+at-most-four select = lit≤ tt
+at-most-four call = lit≤ tt
+at-most-four unknown = lit≤ tt
 
 pub operand-bytes : (k : ℕ) → operand_bytes k ≤ 16
 operand-bytes k = omega (arith, at-most-four (shape_of k))

@@ -6,9 +6,8 @@ use Rattle.lists.specs.Tests.{All}
 use Rattle.lists.specs.Build.{tabulate}
 use Rattle.echo_spec.specs.Shapes.{shape_of, operand_count}
 use Rattle.echo_spec.specs.Input.{Node, shape, word32, node_at, nodes_of}
-use Rattle.blast_kernel.specs.Codes.{at-most-four}
 use Rattle.short_records.specs.Short.{short_form, shortened}
-use Rattle.short_records.specs.RecordLaws.{nodes-drop, words, operand-words, four-words, four-first}
+use Rattle.short_records.specs.RecordLaws.{at-most-four, nodes-drop, words, operand-words, four-words, four-first}
 
 -- every number is a byte
 abbrev pub Bytes : List ℕ → Type 0

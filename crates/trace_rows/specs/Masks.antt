@@ -1,8 +1,8 @@
 -- A row's mask: bit k is 1 where assertion k holds; and how many of its bits are ones.
-use Prim.Native.Nat.{ℕ, zero, suc, ◌+◌, ◌-◌, ◌*◌, ◌/◌, ◌%◌, ◌^◌, ◌≤◌, ◌<◌}
-use Rattle.std.specs.Prelude.{◌≡◌, Bool, true, false, T, eqb}
+use Prim.Native.Nat.{ℕ, suc, ◌+◌, ◌-◌, ◌*◌, ◌/◌, ◌%◌, ◌^◌, ◌≤◌, ◌<◌}
+use Rattle.std.specs.Prelude.{◌≡◌, Bool, true, false, T, eqb, Option}
 use Rattle.std.proofs.Math.Path.{refl, ap}
-use Rattle.std.proofs.Common.{ap₂, sym, ◌∙◌, subst, add-one, pow_mono, drop-cons}
+use Rattle.std.proofs.Common.{sym, ◌∙◌, subst, pow_mono, drop-cons}
 use mathlib.Core.List.{List, [], ◌∷◌, map}
 use Rattle.std.proofs.Math.Bool.{cond}
 use native.Mathlib.Nat.{pow-suc, lt_of_lt_of_le}
@@ -17,14 +17,15 @@ use Rattle.values.specs.NodeValues.{value_at}
 use Rattle.vectors.specs.VectorLaws.{by_two}
 use Rattle.trace_terms.specs.Ready.{bool_at, ready, held, Agree, ValuedOn}
 use Rattle.trace_tables.specs.Fixed.{Lent}
-use Rattle.trace_terms.specs.Arms.{whole, Whole}
+use Rattle.trace_terms.specs.Arms.{whole}
+use Rattle.trace_terms.specs.declared.Evaluation.{Evaluation}
 
 -- an assertion that can be evaluated
-pub record Root (nodes ws vw entry row : List ℕ) (i : ℕ) : Type 0 where
+pub record Root (nodes ws vw : List ℕ) (entry : List (Option ℕ)) (row : List ℕ) (i : ℕ) : Type 0 where
   pub good : T (ready (nodes_of nodes) ws vw entry row i)
   pub sort : bool_at (nodes_of nodes) i ≡ true
 
-pub record Roots (nodes ws vw entry row roots : List ℕ) : Type 0 where
+pub record Roots (nodes ws vw : List ℕ) (entry : List (Option ℕ)) (row roots : List ℕ) : Type 0 where
   pub few : length roots ≤ 64
   pub at : (k : ℕ) → k < length roots → Root nodes ws vw entry row (get_or roots k 0)
 
@@ -32,9 +33,16 @@ pub record Roots (nodes ws vw entry row roots : List ℕ) : Type 0 where
 abbrev pub holding : List ℕ → List ℕ → List ℕ → (ℕ → Value) → List ℕ → List Bool
 holding nodes bits ws vars roots = map (λ i. holds (value_at (nodes_of nodes) ws bits vars i)) roots
 
-pub record Masked (nodes bits ws vw entry row roots : List ℕ) (m : ℕ) : Type 0 where
+pub record Masked (nodes bits ws vw : List ℕ) (entry : List (Option ℕ)) (row roots : List ℕ) (m : ℕ) : Type 0 where
   pub value : (vars : ℕ → Value) → Agree nodes ws vw entry row vars → m ≡ mask (holding nodes bits ws vars roots)
   pub below : m < 2 ^ length roots
+
+-- the same of an evaluation
+abbrev pub RootsOf : Evaluation → List ℕ → List ℕ → Type 0
+RootsOf e row roots = Roots e.terms.problem.nodes.now e.terms.widths.now e.terms.problem.var_width.now e.entries.now row roots
+
+abbrev pub MaskOf : Evaluation → List ℕ → List ℕ → ℕ → Type 0
+MaskOf e row roots m = Masked e.terms.problem.nodes.now e.terms.problem.bits.now e.terms.widths.now e.terms.problem.var_width.now e.entries.now row roots m
 
 -- ---------------------------------------------------------------- the count
 
@@ -74,7 +82,7 @@ one-wide arrays tws n select e = absurd (subst T (sym e) tt)
 one-wide arrays tws n call e = absurd (subst T (sym e) tt)
 one-wide arrays tws n unknown e = absurd (subst T (sym e) tt)
 
-module _ (nodes bits ws vw entry row roots : List ℕ) (l : Lent nodes bits ws) (rs : Roots nodes ws vw entry row roots) where
+module _ {nodes bits ws vw : List ℕ} {entry : List (Option ℕ)} {row roots : List ℕ} (l : Lent nodes bits ws) (rs : Roots nodes ws vw entry row roots) where
   pub root-bit : (i x : ℕ) → Root nodes ws vw entry row i → ValuedOn nodes bits ws vw entry row i x → x < 2
   root-bit i x r v =
       let w : width_at ws i ≡ 1 =

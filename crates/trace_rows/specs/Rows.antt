@@ -1,21 +1,22 @@
 -- Rows of a trace, each with its mask and count at its place.
-use Rattle.std.specs.Prelude.{ℕ, zero, suc, ◌+◌, ◌-◌, ◌*◌, ◌≤◌, ◌<◌, ◌≡◌, refl, List, Bool, true, false, T, eqb, length, take, drop, get_or, set}
+use Rattle.std.specs.Prelude.{ℕ, ◌+◌, ◌-◌, ◌*◌, ◌≤◌, ◌<◌, ◌≡◌, refl, List, Bool, true, false, T, eqb, length, take, drop, get_or, set, Option}
 use Rattle.std.proofs.Common.{ap, sym, ◌∙◌, subst, arith, eqb→eq, le_trans, le_of_eq, suc-mul, mul-le-mul_right, length-set, get_or-set_same, get_or-set_other}
 use Rattle.std.specs.Int.Count.{ones}
 use Rattle.std.proofs.Math.Dec.{eqb_refl}
 use Rattle.lists.specs.Tests.{true→T}
+use Rattle.trace_terms.specs.declared.Evaluation.{Evaluation}
 use Rattle.trace_rows.specs.Masks.{Roots, Masked}
 
 abbrev pub row_at : List ℕ → List ℕ → ℕ → List ℕ
 row_at vw values j = take (length vw) (drop (j * length vw) values)
 
 -- n rows that can be evaluated
-pub record Trace (nodes ws vw entry values roots : List ℕ) (n : ℕ) : Type 0 where
+pub record Trace (nodes ws vw : List ℕ) (entry : List (Option ℕ)) (values roots : List ℕ) (n : ℕ) : Type 0 where
   pub inside : n * length vw ≤ length values
   pub at : (j : ℕ) → j < n → Roots nodes ws vw entry (row_at vw values j) roots
 
 -- the first n places have the rows' masks and counts; the others are as they were
-pub record Done (nodes bits ws vw entry values roots masks₀ counts₀ : List ℕ) (n : ℕ) (masks counts : List ℕ) : Type 0 where
+pub record Done (nodes bits ws vw : List ℕ) (entry : List (Option ℕ)) (values roots masks₀ counts₀ : List ℕ) (n : ℕ) (masks counts : List ℕ) : Type 0 where
   pub masked : (j : ℕ) → j < n → Masked nodes bits ws vw entry (row_at vw values j) roots (get_or masks j 0)
   pub counted : (j : ℕ) → j < n → get_or counts j 0 ≡ ones (get_or masks j 0)
   pub masks_rest : (j : ℕ) → n ≤ j → get_or masks j 0 ≡ get_or masks₀ j 0
@@ -23,19 +24,17 @@ pub record Done (nodes bits ws vw entry values roots masks₀ counts₀ : List �
   pub masks_length : length masks ≡ length masks₀
   pub counts_length : length counts ≡ length counts₀
 
-module _ (nodes bits ws vw entry values roots masks₀ counts₀ : List ℕ) where
+-- the same of an evaluation
+abbrev pub TraceOf : Evaluation → List ℕ → List ℕ → ℕ → Type 0
+TraceOf e values roots n = Trace e.terms.problem.nodes.now e.terms.widths.now e.terms.problem.var_width.now e.entries.now values roots n
+
+abbrev pub DoneOf : Evaluation → List ℕ → List ℕ → List ℕ → List ℕ → ℕ → List ℕ → List ℕ → Type 0
+DoneOf e values roots masks₀ counts₀ n masks counts =
+    Done e.terms.problem.nodes.now e.terms.problem.bits.now e.terms.widths.now e.terms.problem.var_width.now e.entries.now values roots masks₀ counts₀ n masks counts
+
+module _ (nodes bits ws vw : List ℕ) (entry : List (Option ℕ)) (values roots masks₀ counts₀ : List ℕ) where
   abbrev Upto : ℕ → List ℕ → List ℕ → Type 0
   Upto n masks counts = Done nodes bits ws vw entry values roots masks₀ counts₀ n masks counts
-
-  pub rows_start : Upto 0 masks₀ counts₀
-  rows_start = record {
-    masked = λ j h. absurd (omega arith);
-    counted = λ j h. absurd (omega arith);
-    masks_rest = λ j h. refl;
-    counts_rest = λ j h. refl;
-    masks_length = refl;
-    counts_length = refl;
-  }
 
   pub rows_next : (j m c : ℕ) (masks counts : List ℕ) → j < length masks → j < length counts
       → Masked nodes bits ws vw entry (row_at vw values j) roots m → c ≡ ones m → Upto j masks counts → Upto (j + 1) (set masks j m) (set counts j c)
@@ -67,12 +66,11 @@ module _ (nodes bits ws vw entry values roots masks₀ counts₀ : List ℕ) whe
           let f : i ≡ j → ⊥ = far i e in
           get_or-set_other counts j i c 0 f ∙ u.counted i (omega arith) ∙ ap ones (sym (get_or-set_other masks j i m 0 f))
 
+module _ (vw values : List ℕ) where
   -- a row of v values, as it was taken out
-  pub row_is : (v j : ℕ) → v ≡ length vw → take (j * v + v - j * v) (drop (j * v) values) ≡ row_at vw values j
-  row_is v j e =
-      let z : j * v + v - j * v ≡ v = omega arith in
-      rw (z, e) refl
+  pub row_is : (j : ℕ) → take (j * length vw + length vw - j * length vw) (drop (j * length vw) values) ≡ row_at vw values j
+  row_is j = let z : j * length vw + length vw - j * length vw ≡ length vw = omega arith in rw z refl
 
   -- where it ends
-  pub row-end : (v j n : ℕ) → v ≡ length vw → j < n → n * length vw ≤ length values → j * v + v ≤ length values
-  row-end v j n e l h = rw e (le_trans (le_of_eq (sym (suc-mul j (length vw)))) (le_trans (mul-le-mul_right (length vw) l) h))
+  pub row-end : (j n : ℕ) → j < n → n * length vw ≤ length values → j * length vw + length vw ≤ length values
+  row-end j n l h = le_trans (le_of_eq (sym (suc-mul j (length vw)))) (le_trans (mul-le-mul_right (length vw) l) h)

@@ -1,5 +1,6 @@
 -- What is worked out of each node once, before the rows of a trace, and what is asked of the lent slices for it.
-use Rattle.std.specs.Prelude.{ℕ, ◌+◌, ◌-◌, ◌%◌, ◌≤◌, ◌<◌, ◌≡◌, List, [], ◌∷◌, Bool, true, false, ◌&&◌, cond, leb, ltb, eqb, length, get_or, take, drop, set}
+use Rattle.std.specs.Prelude.{ℕ, ◌+◌, ◌-◌, ◌%◌, ◌≤◌, ◌<◌, ◌≡◌, List, [], ◌∷◌, Bool, true, false, ◌&&◌, cond, leb, ltb, eqb, length, get_or, take, drop, set, Option, None}
+use Rattle.std.specs.Option.{unwrap_or}
 use Rattle.std.proofs.Math.Path.{refl, ap, subst}
 use Rattle.std.proofs.Common.{sym, ◌∙◌, arith, get_or-set_same, get_or-set_other, le-leb, eqb-true}
 use Rattle.std.proofs.Math.Dec.{T, leb→le}
@@ -7,11 +8,13 @@ use Rattle.std.proofs.lemmas.Bool.{lt-leb, eqb-false}
 use Rattle.lists.specs.Tests.{and-1}
 use Rattle.reading.specs.Kinds.{Const}
 use Rattle.echo_spec.specs.Shapes.{Shape, var, const, binary, rotation, extraction, concat, extension, ite, comparison, negation, connective, unary, select, call, unknown, shapes, shape_of}
-use Rattle.echo_spec.specs.Input.{Node, shape, no_node, nodes_of, ArrayWidths, fits64}
+use Rattle.echo_spec.specs.Input.{Problem, array_widths, Node, shape, no_node, nodes_of, ArrayWidths, fits64}
 use Rattle.echo_spec.specs.Widths.{width_at, wf_as, node_wf}
 use Rattle.echo_spec.specs.WidthLaws.{Sized, bin-operands}
 use Rattle.echo_spec.specs.Trees.{constant_bits}
-use Rattle.blast_kernel.specs.Codes.{code_of}
+use Rattle.blast_kernel.specs.Kinds.{shape_in}
+use Rattle.blast_kernel.specs.declared.Shape as code
+use Rattle.blast_kernel.specs.declared.Shape.TheVariants as codes
 use Rattle.vectors.specs.Values.{number}
 use Rattle.values.specs.NodeValues.{amount_in}
 
@@ -22,6 +25,15 @@ pub record Lent (nodes bits ws : List ℕ) : Type 0 where
   pub widths : length ws ≡ length (nodes_of nodes)
   pub sized : (i : ℕ) → i < length ws → Sized (length bits) arrays side ws i (get_or (nodes_of nodes) i no_node)
   pub digits : (k : ℕ) → get_or bits k 0 ≤ 1
+
+-- the same of a problem, by its own side entries and array widths
+pub record Measured (p : Problem) (ws : List ℕ) : Type 0 where
+  pub widths : length ws ≡ length (nodes_of p.nodes)
+  pub sized : (i : ℕ) → i < length ws → Sized (length p.bits) (array_widths p) p.side ws i (get_or (nodes_of p.nodes) i no_node)
+  pub digits : (k : ℕ) → get_or p.bits k 0 ≤ 1
+
+pub measured-lent : {p : Problem} {ws : List ℕ} → Measured p ws → Lent p.nodes p.bits ws
+measured-lent {p} m = record { arrays = array_widths p; side = p.side; widths = m.widths; sized = m.sized; digits = m.digits }
 
 -- the bits of node b, taken for a constant, lie inside the bits
 pub record Inside (nodes bits : List ℕ) (b : ℕ) : Type 0 where
@@ -35,9 +47,13 @@ pub record Steady (nodes bits : List ℕ) (b : ℕ) : Type 0 where
 abbrev pub turns : List Node → List ℕ → ℕ → Node → Bool
 turns ns ws i n = (ltb 0 (width_at ws i) && leb (width_at ws i) 64) && eqb (get_or ns n.b no_node).kind Const
 
--- `entry` has a variable's place in its table, counted from 1. What does not fit a word is left out: 0.
-unfoldable pub fixed_as : List Node → List ℕ → List ℕ → List ℕ → ℕ → Node → Shape → ℕ
-fixed_as ns ws bits entry i n var = get_or entry i 0 - 1
+-- the place that a table of entries has for node i
+abbrev pub place_in : List (Option ℕ) → ℕ → ℕ
+place_in entry i = unwrap_or (get_or entry i None) 0
+
+-- `entry` has a variable's place in its table. What does not fit a word is left out: 0.
+unfoldable pub fixed_as : List Node → List ℕ → List ℕ → List (Option ℕ) → ℕ → Node → Shape → ℕ
+fixed_as ns ws bits entry i n var = place_in entry i
 fixed_as ns ws bits entry i n const = cond (leb n.b 64) (number (constant_bits bits n)) 0
 fixed_as ns ws bits entry i n binary = 0
 fixed_as ns ws bits entry i n rotation = cond (turns ns ws i n) (amount_in ns ws bits i n) 0
@@ -53,14 +69,14 @@ fixed_as ns ws bits entry i n select = 0
 fixed_as ns ws bits entry i n call = 0
 fixed_as ns ws bits entry i n unknown = 0
 
-unfoldable pub fixed_of : List Node → List ℕ → List ℕ → List ℕ → ℕ → ℕ
+unfoldable pub fixed_of : List Node → List ℕ → List ℕ → List (Option ℕ) → ℕ → ℕ
 fixed_of ns ws bits entry i = fixed_as ns ws bits entry i (get_or ns i no_node) (shape (get_or ns i no_node))
 
 -- the table xs has it for the first n nodes
-pub record Upto (nodes bits ws entry : List ℕ) (n : ℕ) (xs : List ℕ) : Type 0 where
+pub record Upto (nodes bits ws : List ℕ) (entry : List (Option ℕ)) (n : ℕ) (xs : List ℕ) : Type 0 where
   pub at : (i : ℕ) → i < n → get_or xs i 0 ≡ fixed_of (nodes_of nodes) ws bits entry i
 
-abbrev pub Fixed : List ℕ → List ℕ → List ℕ → List ℕ → List ℕ → Type 0
+abbrev pub Fixed : List ℕ → List ℕ → List ℕ → List (Option ℕ) → List ℕ → Type 0
 Fixed nodes bits ws entry xs = Upto nodes bits ws entry (length (nodes_of nodes)) xs
 
 -- ---------------------------------------------------------------- laws
@@ -84,75 +100,38 @@ module _ {nodes bits ws : List ℕ} (l : Lent nodes bits ws) where
       let lo : n.b < i = (bin-operands ws i h n.a n.b t₁).1 in
       record { steady = λ k. record { inside = λ m q. const-inside n.b (omega arith) m q (ap shape_of (ap (λ (x : Node). x.kind) q ∙ k)) } }
 
--- two tests and a third, of which one fails, or none
-module _ (a b c : Bool) (x : ℕ) where
-  pub first-fails : a ≡ false → 0 ≡ cond ((a && b) && c) x 0
-  first-fails e = rw e refl
-
-  pub second-fails : b ≡ false → 0 ≡ cond ((a && b) && c) x 0
-  second-fails e = rw e (either a)
-    where
-      either : (a : Bool) → 0 ≡ cond ((a && false) && c) x 0
-      either true = refl
-      either false = refl
-
-  pub third-fails : c ≡ false → 0 ≡ cond ((a && b) && c) x 0
-  third-fails e = rw e (either (a && b))
-    where
-      either : (d : Bool) → 0 ≡ cond (d && false) x 0
-      either true = refl
-      either false = refl
-
-  pub all_hold : a ≡ true → b ≡ true → c ≡ true → {r : ℕ} → r ≡ x → r ≡ cond ((a && b) && c) x 0
-  all_hold e f g h = rw (e, f, g) h
-
-module _ (nodes bits ws entry : List ℕ) (i : ℕ) (n : Node) (at : n ≡ get_or (nodes_of nodes) i no_node) where
+module _ (nodes bits ws : List ℕ) (entry : List (Option ℕ)) (i : ℕ) (n : Node) (at : n ≡ get_or (nodes_of nodes) i no_node) where
   -- node i as it was read, whose shape is known
   pub fixed-at : (s : Shape) → shape n ≡ s → {r : ℕ} → r ≡ fixed_as (nodes_of nodes) ws bits entry i n s → r ≡ fixed_of (nodes_of nodes) ws bits entry i
   unfolding fixed_of
   fixed-at s e q =
       q ∙ ap (fixed_as (nodes_of nodes) ws bits entry i n) (sym e) ∙ ap (λ (x : Node). fixed_as (nodes_of nodes) ws bits entry i x (shape x)) at
 
-  pub fixed-constant : shape n ≡ const → {r : ℕ} → n.b ≤ 64 → r ≡ number (take n.b (drop n.a bits)) → r ≡ fixed_of (nodes_of nodes) ws bits entry i
+  pub fixed-constant : shape n ≡ const → {r : ℕ} → n.b ≤ 64 → r ≡ number (take (n.a + n.b - n.a) (drop n.a bits)) → r ≡ fixed_of (nodes_of nodes) ws bits entry i
   unfolding fixed_as constant_bits
-  fixed-constant e h q = fixed-at const e (rw (le-leb n.b 64 h) q)
+  fixed-constant e h q = let z : n.a + n.b - n.a ≡ n.b = omega arith in fixed-at const e (rw (le-leb n.b 64 h) (rw z at q))
 
   pub fixed-wide : shape n ≡ const → 64 < n.b → 0 ≡ fixed_of (nodes_of nodes) ws bits entry i
   unfolding fixed_as
   fixed-wide e h = fixed-at const e (rw (lt-leb n.b 64 h) refl)
 
-  fixed-others : (s : Shape) → (code_of s ≡ 0 → ⊥) → (code_of s ≡ 1 → ⊥) → (code_of s ≡ 3 → ⊥) → 0 ≡ fixed_as (nodes_of nodes) ws bits entry i n s
-  unfolding fixed_as code_of
-  fixed-others var h k l = absurd (h refl)
-  fixed-others const h k l = absurd (k refl)
-  fixed-others binary h k l = refl
-  fixed-others rotation h k l = absurd (l refl)
-  fixed-others extraction h k l = refl
-  fixed-others concat h k l = refl
-  fixed-others extension h k l = refl
-  fixed-others ite h k l = refl
-  fixed-others comparison h k l = refl
-  fixed-others negation h k l = refl
-  fixed-others connective h k l = refl
-  fixed-others unary h k l = refl
-  fixed-others select h k l = refl
-  fixed-others call h k l = refl
-  fixed-others unknown h k l = refl
+  fixed-others : (s : code.Shape) → (s ≡ codes.Var → ⊥) → (s ≡ codes.Const → ⊥) → (s ≡ codes.Rotation → ⊥) → 0 ≡ fixed_as (nodes_of nodes) ws bits entry i n (shape_in s)
+  unfolding fixed_as
+  fixed-others codes.Var h k l = absurd (h refl)
+  fixed-others codes.Const h k l = absurd (k refl)
+  fixed-others codes.Binary h k l = refl
+  fixed-others codes.Rotation h k l = absurd (l refl)
+  fixed-others codes.Extraction h k l = refl
+  fixed-others codes.Concat h k l = refl
+  fixed-others codes.Extension h k l = refl
+  fixed-others codes.Ite h k l = refl
+  fixed-others codes.Comparison h k l = refl
+  fixed-others codes.Negation h k l = refl
+  fixed-others codes.Connective h k l = refl
+  fixed-others codes.Unary h k l = refl
+  fixed-others codes.Select h k l = refl
+  fixed-others codes.Call h k l = refl
+  fixed-others codes.Unknown h k l = refl
 
-  pub fixed-other : {s : ℕ} → s ≡ code_of (shape n) → (s ≡ 0 → ⊥) → (s ≡ 1 → ⊥) → (s ≡ 3 → ⊥) → 0 ≡ fixed_of (nodes_of nodes) ws bits entry i
-  fixed-other e h k l = fixed-at (shape n) refl (fixed-others (shape n) (λ q. h (e ∙ q)) (λ q. k (e ∙ q)) (λ q. l (e ∙ q)))
-
--- ---------------------------------------------------------------- laws: the table
-
-pub fill_start : (nodes bits ws entry xs : List ℕ) → Upto nodes bits ws entry 0 xs
-fill_start nodes bits ws entry xs = record { at = λ i h. absurd (omega arith) }
-
-pub fill-next : {nodes bits ws entry xs : List ℕ} (i v : ℕ) → i < length xs → v ≡ fixed_of (nodes_of nodes) ws bits entry i → Upto nodes bits ws entry i xs
-    → Upto nodes bits ws entry (i + 1) (set xs i v)
-fill-next {nodes} {bits} {ws} {entry} {xs} i v h e u = record { at = λ j l. by_place j (eqb j i) refl l }
-  where
-    by_place : (j : ℕ) (b : Bool) → eqb j i ≡ b → j < i + 1 → get_or (set xs i v) j 0 ≡ fixed_of (nodes_of nodes) ws bits entry j
-    by_place j true q l = rw (eqb-true j i q) (get_or-set_same xs i v 0 h ∙ e)
-    by_place j false q l =
-        let f : j ≡ i → ⊥ = eqb-false j i q in
-        get_or-set_other xs i j v 0 f ∙ u.at j (omega arith)
+  pub fixed-other : {s : code.Shape} → shape_in s ≡ shape n → (s ≡ codes.Var → ⊥) → (s ≡ codes.Const → ⊥) → (s ≡ codes.Rotation → ⊥) → 0 ≡ fixed_of (nodes_of nodes) ws bits entry i
+  fixed-other {s} e h k l = fixed-at (shape_in s) (sym e) (fixed-others s h k l)

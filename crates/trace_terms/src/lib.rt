@@ -1,95 +1,98 @@
-// A term's value on a row of values, from its operands' values; a row's mask and count; rows.
-//
-// `tables` has what was worked out once, before the rows, at the places that the constants name.
+// A term's value on a row of values, from its operands' values.
 #![tactic(auto)]
 
-ghost use Rattle.std.specs.Prelude.{◌≡◌, ℕ, ◌+◌, ◌-◌, ◌*◌, ◌%◌, ◌^◌, ◌≤◌, ◌<◌, T, eqb, length, get_or, take, drop};
-ghost use Rattle.std.specs.Int.Count.{ones};
-ghost use Rattle.trace_terms.specs.Places.{Usable, Good, Valued};
+ghost use Rattle.std.specs.Prelude.{◌≡◌, eqb};
+ghost use Rattle.trace_tables.specs.Fixed.{Fixed};
 
-use blast_kernel::codes::{
-    BINARY, COMPARISON, CONCAT, CONNECTIVE, CONST, EXTENSION, EXTRACTION, ITE, NEGATION, ROTATION,
-    UNARY, VAR, shape,
-};
-use lent::{BYTES, NODES, NUMBERS, get, node_at};
+use blast_kernel::Shape;
+use bv::Vector;
+use lent::{get, node_at};
+use operators::{Binary, Comparison, Connective, Extension, Rotation, Unary};
+use trace_tables::Terms;
 
-// The places in `tables`: the widths of the nodes, the entries of the variables, and what `trace_tables` works out of a node.
-pub const WIDTHS: usize = 0;
-
-pub const ENTRIES: usize = 1;
-
-pub const FIXED: usize = 2;
-
-pub const TABLES: usize = 3;
-
-fn flag(b: bool) -> u64
-    ensures { (b ≡ eqb result 1) × (result < 2) }
-{
-    if b { 1 } else { 0 }
+// What rows are evaluated with, worked out once before them: the entries of the variables, and of each node what `trace_tables` fills in.
+#[derive(Clone, Copy)]
+pub struct Evaluation<'a> {
+    pub terms: Terms<'a>,
+    pub entries: &'a [Option<usize>],
+    pub fixed: &'a [u64],
+    pub ghost filled: { Fixed terms.problem.nodes.now terms.problem.bits.now terms.widths.now entries.now fixed.now },
 }
 
-// The value of node i on the row, a Bool as 0 or 1. Its operands' numbers are lower. Ruled out: a variable's entry for its value; the operand
-// of an `ite` that is not chosen.
-pub fn value(
-    bytes: &[&[u8]; BYTES],
-    numbers: &[&[u64]; NUMBERS],
-    tables: &[&[u64]; TABLES],
-    row: &[u64],
-    i: u64,
-) -> u64
-    requires { (Usable bytes.now numbers.now tables.now) × (Good bytes.now numbers.now tables.now row.now i) }
-    ensures { Valued bytes.now numbers.now tables.now row.now i result }
+// A Bool as a vector of one place.
+fn bit(b: bool) -> Vector
+    ensures width { result.width ≡ 1 }
+    ensures number { eqb result.number 1 ≡ b }
 {
-    let n = node_at(bytes[NODES], i as usize);
-    let s = shape(n.kind);
-    match s {
-        VAR => get(row, get(tables[FIXED], i)),
-        CONST => get(tables[FIXED], i),
-        BINARY => {
-            let x = value(bytes, numbers, tables, row, n.a);
-            let y = value(bytes, numbers, tables, row, n.b);
-            operators::binary(n.kind, get(tables[WIDTHS], i), x, y)
-        }
-        ROTATION => {
-            let x = value(bytes, numbers, tables, row, n.a);
-            operators::rotation(n.kind, get(tables[WIDTHS], i), x, get(tables[FIXED], i))
-        }
-        EXTRACTION => {
-            let x = value(bytes, numbers, tables, row, n.c);
-            bv::extract(get(tables[WIDTHS], n.c), n.a, n.b, x)
-        }
-        CONCAT => {
-            let x = value(bytes, numbers, tables, row, n.a);
-            let y = value(bytes, numbers, tables, row, n.b);
-            bv::concat(get(tables[WIDTHS], n.a), get(tables[WIDTHS], n.b), x, y)
-        }
-        EXTENSION => {
-            let x = value(bytes, numbers, tables, row, n.a);
-            operators::extension(n.kind, n.b, get(tables[WIDTHS], n.a), x)
-        }
-        ITE => {
-            let x = value(bytes, numbers, tables, row, n.a);
-            if x == 1 {
-                value(bytes, numbers, tables, row, n.b)
-            } else {
-                value(bytes, numbers, tables, row, n.c)
+    Vector {
+        width: 1,
+        number: u64::from(b),
+    }
+}
+
+impl<'a> Evaluation<'a> {
+    ghost use Rattle.trace_terms.specs.Places.{Good, Valued};
+
+    // The value of node i on the row, a Bool as a vector of one place. Its operands' numbers are lower. Ruled out: a variable's entry for its
+    // value; the operand of an `ite` that is not chosen.
+    // Kept: operands are named by their place among the lent records, which have no other names; the library has no heap.
+    pub fn value(&self, row: &[u64], i: u64) -> Vector
+        requires { Good self.now row.now i }
+        ensures { Valued self.now row.now i result }
+    {
+        let n = node_at(self.terms.problem.nodes, i as usize);
+        match Shape::from(n.kind) {
+            Shape::Var => Vector::new(get(self.terms.widths, i), get(row, get(self.fixed, i))),
+            Shape::Const => Vector::new(get(self.terms.widths, i), get(self.fixed, i)),
+            Shape::Binary => {
+                let x = self.value(row, n.a);
+                let y = self.value(row, n.b);
+                Binary::of(n.kind).on(x, y)
             }
+            Shape::Rotation => {
+                let x = self.value(row, n.a);
+                Rotation::of(n.kind).on(x, get(self.fixed, i))
+            }
+            Shape::Extraction => {
+                let x = self.value(row, n.c);
+                x.extract(n.a, n.b)
+            }
+            Shape::Concat => {
+                let x = self.value(row, n.a);
+                let y = self.value(row, n.b);
+                x.concat(y)
+            }
+            Shape::Extension => {
+                let x = self.value(row, n.a);
+                Extension::of(n.kind).on(x, n.b)
+            }
+            Shape::Ite => {
+                let x = self.value(row, n.a);
+                if x.number == 1 {
+                    self.value(row, n.b)
+                } else {
+                    self.value(row, n.c)
+                }
+            }
+            Shape::Comparison => {
+                let x = self.value(row, n.a);
+                let y = self.value(row, n.b);
+                bit(Comparison::of(n.kind).on(x, y))
+            }
+            Shape::Negation => {
+                let x = self.value(row, n.a);
+                bit(x.number != 1)
+            }
+            Shape::Connective => {
+                let x = self.value(row, n.a);
+                let y = self.value(row, n.b);
+                bit(Connective::of(n.kind).on(x.number == 1, y.number == 1))
+            }
+            Shape::Unary => {
+                let x = self.value(row, n.a);
+                Unary::of(n.kind).on(x)
+            }
+            Shape::Select | Shape::Call | Shape::Unknown => bit(false),
         }
-        COMPARISON => {
-            let x = value(bytes, numbers, tables, row, n.a);
-            let y = value(bytes, numbers, tables, row, n.b);
-            flag(operators::comparison(n.kind, get(tables[WIDTHS], n.a), x, y))
-        }
-        NEGATION => 1 - value(bytes, numbers, tables, row, n.a),
-        CONNECTIVE => {
-            let x = value(bytes, numbers, tables, row, n.a);
-            let y = value(bytes, numbers, tables, row, n.b);
-            operators::connective(n.kind, x, y)
-        }
-        UNARY => {
-            let x = value(bytes, numbers, tables, row, n.a);
-            operators::unary(n.kind, get(tables[WIDTHS], i), x)
-        }
-        _ => 0,
     }
 }

@@ -1,36 +1,36 @@
 -- A problem that the checks pass, on a trace whose values fit: every root can be evaluated on every row, and the mask is that of the
 -- assertions of the problem's reading.
 use Prim.Native.Nat.{ℕ, zero, suc, ◌+◌, ◌-◌, ◌*◌, ◌/◌, ◌%◌, ◌^◌, ◌≤◌, ◌<◌}
-use Rattle.std.specs.Prelude.{◌≡◌, Bool, false, ◌&&◌, ◌||◌, not, leb, ltb, eqb, take, drop}
+use Rattle.std.specs.Prelude.{◌≡◌, leb, ltb, eqb, drop, Option}
 use Rattle.std.proofs.Math.Path.{refl, sym}
-use Rattle.std.proofs.Common.{ap, ◌∙◌, subst, lt_of_lt_of_le, le_of_eq, suc-mul, mul-le-mul_right, ltb→lt, pow_mono}
-use mathlib.Core.List.{List, [], ◌∷◌, ◌++◌, map}
+use Rattle.std.proofs.Common.{ap, ◌∙◌, lt_of_lt_of_le, le_of_eq, suc-mul, mul-le-mul_right, ltb→lt, pow_mono}
+use mathlib.Core.List.{List, [], ◌∷◌, map}
 use Rattle.std.proofs.Math.Bool.{true}
 use Rattle.std.proofs.Math.Nat.{le_trans, mul-add-mod_self_right, mod-eq_of_lt, div-mul-le_self}
 use native.Mathlib.Omega.{arith}
 use Rattle.std.proofs.Math.Dec.{T, leb→le}
 use Rattle.std.proofs.Math.ListN.{length, get_or, length-drop}
 use Rattle.std.proofs.Math.Seq.{length-take-le, get_or-take, get_or-drop}
-use Rattle.lists.specs.Tests.{every, distinct, distinct-left, and_0, and-1, or_elim, every-at, by-test, every-place}
+use Rattle.lists.specs.Tests.{every, distinct-left, and_0, and-1, or_elim, every-at}
 use Rattle.lists.specs.Build.{tabulate, length-tabulate}
-use Rattle.reading.specs.Trees.{Name, Variable}
-use Rattle.echo_spec.specs.Refusals.{unless, ◌or_else◌}
-use Rattle.echo_spec.specs.Input.{Problem, Dag, dag_of, query_of, name_table, nodes_of, node_encoded, encoded, within_limits, nodes_within, node_at}
+use Rattle.reading.specs.Trees.{Name}
+use Rattle.echo_spec.specs.Refusals.{unless}
+use Rattle.echo_spec.specs.Input.{Problem, array_widths, dag_of, query_of, name_table, nodes_of, node_encoded, encoded, within_limits, nodes_within, node_at}
 use Rattle.echo_spec.specs.Widths.{widths_of}
 use Rattle.echo_spec.specs.WidthLaws.{sized}
 use Rattle.echo_spec.specs.Tables.{declarations_of}
 use Rattle.echo_spec.specs.Trees.{reading_of}
 use Rattle.echo_spec.specs.ColumnLaws.{Aligned, columns-aligned, names-counted}
 use Rattle.echo_spec.proofs.NameLaws.{names-distinct}
-use Rattle.echo_spec.specs.Walk.{Operand, formula, walk_all, walk, walk_roots, refusal_with}
+use Rattle.echo_spec.specs.Walk.{formula, walk_all, walk, walk_roots, refusal_with}
 use Rattle.echo_spec.specs.Answers.{reading, endless_with, endless_refusal}
 use Rattle.echo_spec.specs.Accepted.{Accepted, or_else-passed, unless-passed}
 use Rattle.echo_spec.proofs.Accepted.{accepted}
 use Rattle.echo_tables.specs.Found.{Entries}
 use Rattle.vectors.specs.Values.{mask}
-use Rattle.traces.specs.Trace.{fits, whole_rows, values_fit, row_count, row_of, narrow, holding, holding_in}
-use Rattle.trace_tables.specs.Fixed.{Lent}
-use Rattle.trace_rows.specs.Masks.{Root, Roots, Masked}
+use Rattle.traces.specs.Trace.{fits, whole_rows, values_fit, row_count, row_of, narrow, holding}
+use Rattle.trace_tables.specs.Fixed.{Lent, Measured, measured-lent}
+use Rattle.trace_rows.specs.Masks.{Roots, Masked}
 use Rattle.trace_theorems.specs.Bridge.{Given, walked-ready}
 use Rattle.trace_theorems.specs.OnTrees.{mask-of-trees, Named, name_of}
 
@@ -92,17 +92,18 @@ module _ (p : Problem) (z : endless_refusal p ≡ 0) where
   bits-digits (b ∷ bs) t zero = leb→le b 1 (and_0 (leb b 1) _ t)
   bits-digits (b ∷ bs) t (suc k) = bits-digits bs (and-1 (leb b 1) _ t) k
 
-  pub lent : Lent p.nodes p.bits ws
+  pub measured : Measured p ws
   unfolding dag_of encoded
-  lent = record {
-    arrays = (dag_of p).array-widths;
-    side = p.side;
+  measured = record {
     widths = widths-whole;
-    sized = λ i h. sized (length p.bits) (dag_of p).array-widths p.side (nodes_of p.nodes) i h;
+    sized = λ i h. sized (length p.bits) (array_widths p) p.side (nodes_of p.nodes) i h;
     digits = bits-digits p.bits (and-1 (every node_encoded (nodes_of p.nodes)) _ (and-1 (eqb (length p.nodes % 17) 0) _ parts.1));
   }
 
-  module _ (entry row : List ℕ) (en : Entries p.var_node entry) (fit : Fitting p.var_width row) where
+  pub lent : Lent p.nodes p.bits ws
+  lent = measured-lent measured
+
+  module _ (entry : List (Option ℕ)) (row : List ℕ) (en : Entries p.var_node entry) (fit : Fitting p.var_width row) where
     given : Given (dag_of p) ws entry row
     unfolding dag_of
     given = record {

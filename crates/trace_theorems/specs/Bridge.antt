@@ -1,8 +1,9 @@
 -- What printing and 14 have checked, with a row that fits, is all that an evaluation asks; and its value is that of the tree.
-use Prim.Native.Nat.{ℕ, zero, suc, ◌+◌, ◌-◌, ◌^◌, ◌≤◌, ◌<◌}
-use Rattle.std.specs.Prelude.{◌≡◌, ◌&&◌, ◌||◌, not, leb, take}
+use Prim.Native.Nat.{ℕ, zero, suc, ◌+◌, ◌^◌, ◌≤◌, ◌<◌}
+use Rattle.std.specs.Prelude.{◌≡◌, leb, take, None, Some}
+use Rattle.std.specs.Prelude.{Option as Found}
 use Rattle.std.proofs.Math.Path.{refl, ap, sym, subst}
-use Rattle.std.proofs.Common.{ap₂, ◌∙◌, lt_of_lt_of_le, leb→le, ltb→lt, lt→ltb, le→leb, pow_mono}
+use Rattle.std.proofs.Common.{◌∙◌, lt→ltb}
 use mathlib.Core.List.{List, [], ◌∷◌}
 use Rattle.std.proofs.Math.Bool.{Bool, true, false}
 use Rattle.std.proofs.Math.Option.{Option, none, some}
@@ -10,26 +11,20 @@ use native.Mathlib.Omega.{arith}
 use Rattle.std.proofs.Math.Dec.{T, ltb, eqb, eqb→eq, eqb_refl}
 use Rattle.std.proofs.Math.ListN.{length, get_or}
 use Rattle.lists.specs.Tests.{every, and_0, and-1, and_T, T→true, true→T, not→false}
-use Rattle.lists.specs.Build.{upto, find_from, find-bound}
-use Rattle.reading.specs.Kinds.{Const}
-use Rattle.reading.specs.Trees.{Name}
-use Rattle.echo_spec.specs.Refusals.{unless, ◌or_else◌}
-use Rattle.echo_spec.specs.Shapes.{Shape, var, const, binary, rotation, extraction, concat, extension, ite, comparison, negation, connective, unary, select, call, unknown, is_bool}
-use Rattle.echo_spec.specs.Input.{Node, shape, no_node, nodes_of, Dag}
+use Rattle.lists.specs.Build.{upto, find-bound}
+use Rattle.echo_spec.specs.Shapes.{Shape, var, const, binary, rotation, extraction, concat, extension, ite, comparison, negation, connective, unary, select, call, unknown}
+use Rattle.echo_spec.specs.Input.{Node, shape, no_node, Dag}
 use Rattle.echo_spec.specs.Widths.{width_at, width_as, node_width}
 use Rattle.echo_spec.specs.WidthLaws.{Sized}
 use Rattle.echo_spec.specs.Tables.{find_node}
-use Rattle.echo_spec.specs.Trees.{variable_name, tree_of}
 use Rattle.echo_spec.specs.Walk.{variable_ok, rotation_ok, asked_as, Operand, operands_as, sort_ok, walk_all, step_of_walk, walks_below, walk}
-use Rattle.echo_spec.specs.Accepted.{unless-passed, or_else-passed, Walked, walk-passed}
-use Rattle.echo_tables.specs.Found.{Entries, or_zero}
-use Rattle.vectors.specs.Values.{Value, vector, value_of}
-use Rattle.values.specs.NodeValues.{value_at, tree-value}
-use Rattle.trace_terms.specs.Ready.{variable_ready, own_as, bool_at, operand_ready, ready_step, ready_below, ready, held, Agree, ValuedOn}
+use Rattle.echo_spec.specs.Accepted.{unless-passed, or_else-passed, walk-passed}
+use Rattle.echo_tables.specs.Found.{Entries, found_of}
+use Rattle.trace_terms.specs.Ready.{variable_ready, own_as, bool_at, operand_ready, ready_step, ready_below, ready}
 use Rattle.traces.specs.Trace.{plain, narrow_step, narrow_below, narrow}
 
 -- the row, the table of the variables' places and the widths stand to the dag as they should
-pub record Given (d : Dag) (ws entry row : List ℕ) : Type 0 where
+pub record Given (d : Dag) (ws : List ℕ) (entry : List (Found ℕ)) (row : List ℕ) : Type 0 where
   pub nbits : ℕ
   pub sized : (i : ℕ) → i < length d.nodes → Sized nbits d.array-widths d.side ws i (get_or d.nodes i no_node)
   pub entries : Entries d.var_node entry
@@ -37,36 +32,33 @@ pub record Given (d : Dag) (ws entry row : List ℕ) : Type 0 where
   pub columns : length d.var_node ≡ length row
   pub fits : (k : ℕ) → k < length row → get_or row k 0 < 2 ^ get_or d.var_width k 0
 
-module _ (d : Dag) (ws entry row : List ℕ) (g : Given d ws entry row) where
+module _ (d : Dag) (ws : List ℕ) (entry : List (Found ℕ)) (row : List ℕ) (g : Given d ws entry row) where
   -- a variable's place in the table
   found : (i : ℕ) (n : Node) → i < length d.nodes → T (variable_ok d i n)
-      → (k : ℕ) × (find_node d.var_node i ≡ some k) × (get_or entry i 0 ≡ suc k) × (k < length row) × (get_or d.var_width k 0 ≡ n.a)
+      → (k : ℕ) × (find_node d.var_node i ≡ some k) × (get_or entry i None ≡ Some k) × (k < length row) × (get_or d.var_width k 0 ≡ n.a)
   unfolding variable_ok find_node
   found i n h t = by-find (find_node d.var_node i) refl t
     where
       by-find : (o : Option ℕ) → find_node d.var_node i ≡ o → T (elim o [ none ↦ false | some k ↦ eqb (get_or d.var_width k 0) n.a ])
-          → (k : ℕ) × (find_node d.var_node i ≡ some k) × (get_or entry i 0 ≡ suc k) × (k < length row) × (get_or d.var_width k 0 ≡ n.a)
+          → (k : ℕ) × (find_node d.var_node i ≡ some k) × (get_or entry i None ≡ Some k) × (k < length row) × (get_or d.var_width k 0 ≡ n.a)
       by-find none e t = absurd t
       by-find (some k) e t =
           let few : length d.nodes ≤ 2048 = g.few in
           let c : length d.var_node ≡ length row = g.columns in
           let b = find-bound (λ x. eqb x i) 0 d.var_node k e in
           let l : k < 0 + length d.var_node = b.1 in
-          (k, e, g.entries.at i (omega arith) ∙ ap or_zero e, omega arith, eqb→eq (get_or d.var_width k 0) n.a t)
+          (k, e, g.entries.at i (omega arith) ∙ ap found_of e, omega arith, eqb→eq (get_or d.var_width k 0) n.a t)
 
   var-ready : (i : ℕ) (n : Node) → i < length d.nodes → width_at ws i ≡ n.a → T (variable_ok d i n) → T (variable_ready ws d.var_width entry row i)
   unfolding variable_ready
   var-ready i n h w t =
       let f = found i n h t in
       let k : ℕ = f.0 in
-      let e : get_or entry i 0 ≡ suc k = f.2 in
+      let e : get_or entry i None ≡ Some k = f.2 in
       let l : k < length row = f.3 in
-      let z : suc k - 1 ≡ k = omega arith in
       let b : get_or row k 0 < 2 ^ width_at ws i = subst (λ (x : ℕ). get_or row k 0 < 2 ^ x) (f.4 ∙ sym w) (g.fits k l) in
       let v : eqb (get_or d.var_width k 0) (width_at ws i) ≡ true = rw (f.4 ∙ sym w) (T→true (eqb (width_at ws i) (width_at ws i)) (eqb_refl (width_at ws i))) in
-      rw (e, z, v)
-      (and_T (ltb 0 (suc k)) (leb (suc k) (length row) && ltb (get_or row k 0) (2 ^ width_at ws i)) (lt→ltb 0 (suc k) (omega arith))
-      (and_T (leb (suc k) (length row)) (ltb (get_or row k 0) (2 ^ width_at ws i)) (le→leb (suc k) (length row) (omega arith)) (lt→ltb (get_or row k 0) (2 ^ width_at ws i) b)))
+      rw (e, v) (and_T (ltb k (length row)) (ltb (get_or row k 0) (2 ^ width_at ws i)) (lt→ltb k (length row) l) (lt→ltb (get_or row k 0) (2 ^ width_at ws i) b))
 
   own-ready : (i : ℕ) (n : Node) (s : Shape) → i < length d.nodes → width_at ws i ≡ width_as d.array-widths (take i ws) n s → asked_as d ws i n s ≡ 0 → T (plain s)
       → T (own_as d.nodes ws d.var_width entry row i n s)

@@ -1,11 +1,13 @@
 -- A row's mask is that of the assertions' trees, with each declared variable as the row has it.
-use Rattle.std.specs.Prelude.{ℕ, zero, suc, ◌+◌, ◌-◌, ◌^◌, ◌≤◌, ◌<◌, ◌≡◌, refl, List, [], ◌∷◌, map, Bool, true, false, ◌&&◌, not, cond, eqb, ltb, leb}
+use Rattle.std.specs.Prelude.{ℕ, zero, suc, ◌≤◌, ◌<◌, ◌≡◌, refl, List, [], ◌∷◌, map, Bool, false, not, eqb, ltb, leb, None}
+use Rattle.std.specs.Prelude.{Option as Found}
+use Rattle.std.specs.Option.{is_some, unwrap_or}
 use Rattle.std.proofs.Math.Path.{ap, subst}
-use Rattle.std.proofs.Common.{ap₂, sym, ◌∙◌, arith, T_not}
+use Rattle.std.proofs.Common.{sym, ◌∙◌, arith, T_not}
 use Rattle.std.proofs.Math.Option.{Option, none, some}
-use Rattle.std.proofs.Math.Dec.{T, eqb→eq, ltb→lt, leb→le}
+use Rattle.std.proofs.Math.Dec.{T, eqb→eq, ltb→lt}
 use Rattle.std.proofs.Math.ListN.{length, get_or}
-use Rattle.lists.specs.Tests.{same, in_list, distinct, same→eq, same_refl, and_0, and-1, T→true, true→T, not→false, no→false, or_l, or_r}
+use Rattle.lists.specs.Tests.{same, in_list, distinct, same→eq, same_refl, and_0, and-1, T→true, no→false, or_l, or_r}
 use Rattle.lists.specs.Build.{tabulate, length-tabulate, get_or-tabulate}
 use Rattle.reading.specs.Trees.{Name, Tree, Variable}
 use Rattle.echo_spec.specs.Shapes.{var}
@@ -13,11 +15,12 @@ use Rattle.echo_spec.specs.Input.{Node, shape, no_node, nodes_of, Dag, name_tabl
 use Rattle.echo_spec.specs.Widths.{width_at}
 use Rattle.echo_spec.specs.Tables.{find_node, variables_of}
 use Rattle.echo_spec.specs.Trees.{variable_name, trees_over, tree_of}
-use Rattle.echo_tables.specs.Found.{Entries, or_zero, found_some}
+use Rattle.echo_tables.specs.Found.{found_of}
 use Rattle.vectors.specs.Values.{Value, vector, value_of, environment, holds, mask}
 use Rattle.values.specs.NodeValues.{value_at, tree-value}
+use Rattle.trace_tables.specs.Fixed.{place_in}
 use Rattle.trace_terms.specs.Ready.{variable_ready, own_as, ready, ready_step, Agree}
-use Rattle.trace_rows.specs.Masks.{holding, Masked}
+use Rattle.trace_rows.specs.Masks.{Masked}
 use Rattle.traces.specs.Trace.{holding_all}
 use Rattle.trace_theorems.specs.Bridge.{Given}
 
@@ -55,6 +58,11 @@ unfolding holding_all trees_over
 holding-map env f [] = refl
 holding-map env f (i ∷ is) = ap (λ (bs : List Bool). holds (value_of env (f i)) ∷ bs) (holding-map env f is)
 
+-- what a search found, from what the table has
+found_place : (o : Option ℕ) (x : Found ℕ) → x ≡ found_of o → T (is_some x) → o ≡ some (unwrap_or x 0)
+found_place none x e t = absurd (subst (λ (y : Found ℕ). T (is_some y)) e t)
+found_place (some k) x e t = rw e refl
+
 -- ---------------------------------------------------------------- the variables of a dag
 
 -- the names are distinct, and as many as the widths and the row's values
@@ -62,7 +70,7 @@ pub record Named (d : Dag) (ws row : List ℕ) : Type 0 where
   pub apart : T (distinct (map name_of (variables_of d)))
   pub names : length (name_table d) ≡ length row
 
-module _ (d : Dag) (ws entry row : List ℕ) (g : Given d ws entry row) (m : Named d ws row) where
+module _ (d : Dag) (ws : List ℕ) (entry : List (Found ℕ)) (row : List ℕ) (g : Given d ws entry row) (m : Named d ws row) where
   at_place : (k : ℕ) → k < length row → environment (variables_of d) row (get_or (name_table d) k []) ≡ vector (get_or d.var_width k 0) (get_or row k 0)
   at_place k h =
       let f : ℕ → Variable = λ j. record { name = get_or (name_table d) j []; width = get_or d.var_width j 0 } in
@@ -81,23 +89,23 @@ module _ (d : Dag) (ws entry row : List ℕ) (g : Given d ws entry row) (m : Nam
   agrees {nodes} ns = record { at = λ i t s. known i t s }
     where
       known : (i : ℕ) → T (ready (nodes_of nodes) ws d.var_width entry row i) → shape (get_or (nodes_of nodes) i no_node) ≡ var
-          → environment (variables_of d) row (variable_name d i) ≡ vector (width_at ws i) (get_or row (get_or entry i 0 - 1) 0)
+          → environment (variables_of d) row (variable_name d i) ≡ vector (width_at ws i) (get_or row (place_in entry i) 0)
       known i t s =
           let n : Node = get_or (nodes_of nodes) i no_node in
           let inside : i < length (nodes_of nodes) = ltb→lt i (length (nodes_of nodes)) (and_0 (ltb i (length (nodes_of nodes))) _ t) in
           let t₁ = and-1 (leb (width_at ws i) 64) _ (and-1 (ltb i (length (nodes_of nodes))) _ t) in
           let o : T (own_as (nodes_of nodes) ws d.var_width entry row i n (shape n)) = and_0 (own_as (nodes_of nodes) ws d.var_width entry row i n (shape n)) _ t₁ in
           let o₀ : T (own_as (nodes_of nodes) ws d.var_width entry row i n var) = subst (λ x. T (own_as (nodes_of nodes) ws d.var_width entry row i n x)) s o in
-          let w : get_or d.var_width (get_or entry i 0 - 1) 0 ≡ width_at ws i = eqb→eq (get_or d.var_width (get_or entry i 0 - 1) 0) (width_at ws i) (and_0 (eqb (get_or d.var_width (get_or entry i 0 - 1) 0) (width_at ws i)) _ o₀) in
-          let o₁ = and-1 (eqb (get_or d.var_width (get_or entry i 0 - 1) 0) (width_at ws i)) _ o₀ in
-          let p : 0 < get_or entry i 0 = ltb→lt 0 (get_or entry i 0) (and_0 (ltb 0 (get_or entry i 0)) _ o₁) in
-          let r : get_or entry i 0 ≤ length row = leb→le (get_or entry i 0) (length row) (and_0 (leb (get_or entry i 0) (length row)) _ (and-1 (ltb 0 (get_or entry i 0)) _ o₁)) in
+          let w : get_or d.var_width (place_in entry i) 0 ≡ width_at ws i = eqb→eq (get_or d.var_width (place_in entry i) 0) (width_at ws i) (and_0 (eqb (get_or d.var_width (place_in entry i) 0) (width_at ws i)) _ o₀) in
+          let o₁ = and-1 (eqb (get_or d.var_width (place_in entry i) 0) (width_at ws i)) _ o₀ in
+          let p : T (is_some (get_or entry i None)) = and_0 (is_some (get_or entry i None)) _ o₁ in
+          let r : place_in entry i < length row = ltb→lt (place_in entry i) (length row) (and_0 (ltb (place_in entry i) (length row)) _ (and-1 (is_some (get_or entry i None)) _ o₁)) in
           let few : length d.nodes ≤ 2048 = g.few in
           let len : length d.nodes ≡ length (nodes_of nodes) = ap length ns in
-          let en : get_or entry i 0 ≡ or_zero (find_node d.var_node i) = g.entries.at i (omega arith) in
-          let f : find_node d.var_node i ≡ some (get_or entry i 0 - 1) = found_some (find_node d.var_node i) en (λ z. omega arith) in
-          let place = at_place (get_or entry i 0 - 1) (omega arith) in
-          rw (f, variable_name) (place ∙ ap (λ (x : ℕ). vector x (get_or row (get_or entry i 0 - 1) 0)) w)
+          let en : get_or entry i None ≡ found_of (find_node d.var_node i) = g.entries.at i (omega arith) in
+          let f : find_node d.var_node i ≡ some (place_in entry i) = found_place (find_node d.var_node i) (get_or entry i None) en p in
+          let place = at_place (place_in entry i) r in
+          rw (f, variable_name) (place ∙ ap (λ (x : ℕ). vector x (get_or row (place_in entry i) 0)) w)
 
   -- the mask that was worked out is that of the trees
   pub mask-of-trees : {nodes bits roots : List ℕ} {x : ℕ} → d.nodes ≡ nodes_of nodes → Masked nodes bits ws d.var_width entry row roots x

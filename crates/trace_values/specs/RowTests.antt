@@ -3,9 +3,9 @@ use Prim.Native.Nat.{ℕ, zero, suc, ◌+◌, ◌*◌, ◌/◌, ◌%◌, ◌^◌
 use Rattle.std.specs.Prelude.{◌≡◌, Bool, true, false, ◌&&◌, length, get_or, Option, Some, None}
 use Rattle.std.specs.Option.{SomeIff, unwrap_or}
 use Rattle.std.proofs.Math.Path.{refl, sym, subst}
-use Rattle.std.proofs.Common.{◌∙◌, mod-lt, mod-eq_of_lt, div-add-mod', zero-mul, arith, pow_pos}
+use Rattle.std.proofs.Common.{◌∙◌, mod-lt, mod-eq_of_lt, div-add-mod', mul-le-mul_right, zero-mul, arith, pow_pos}
 use mathlib.Core.List.{List, [], ◌∷◌}
-use Rattle.std.proofs.Math.Nat.{mod_self, mod-add-mod, div-eq_of_lt}
+use Rattle.std.proofs.Math.Nat.{mul-add-mod_self_right, div-eq_of_lt}
 use borrow.Author.Tests.{lt-ltb, le-ltb, le-leb, lt-leb, eq-eqb, ne_eqb}
 use lib.Dec.{T, leb, ltb, eqb}
 use Rattle.lists.specs.Tests.{every_from, every-at, every-from, and-1, and_T, T→true, true→T, no→false}
@@ -31,14 +31,16 @@ pub fits-wide : (w x : ℕ) → 64 ≤ w → true ≡ fits w x
 unfolding fits
 fits-wide w x h = rw (le-leb 64 w h) refl
 
-pub column-first : (c v : ℕ) → c + 1 ≡ v → 0 ≡ (c + 1) % v
-column-first c v e = rw e (sym (mod_self v))
+-- the column of a value by its row
+pub column-in : (row v c : ℕ) → c < v → c ≡ (row * v + c) % v
+column-in row v c h = sym (mul-add-mod_self_right row v c ∙ mod-eq_of_lt h)
 
-pub column-later : (c v : ℕ) → c < v → (c + 1 ≡ v → ⊥) → c + 1 ≡ (c + 1) % v
-column-later c v h n = sym (mod-eq_of_lt (omega arith))
-
-pub column-next : (c k v : ℕ) → c ≡ k % v → (c + 1) % v ≡ (k + 1) % v
-column-next c k v e = rw e (mod-add-mod k v 1)
+-- the rows have every value
+pub rows_end : (v len row : ℕ) → len % v ≡ 0 → len / v ≤ row → len ≤ row * v
+rows_end v len row e h =
+    let q : len / v * v + len % v ≡ len = div-add-mod' len v in
+    let l : len / v * v ≤ row * v = mul-le-mul_right v h in
+    omega arith
 
 -- the quotient, where there is one
 pub rows-by : (v len : ℕ) (q : Option ℕ) → SomeIff q (0 < v) (len / v) → unwrap_or q 1 ≡ row_count v len

@@ -1,7 +1,7 @@
 // Refusal 15: the values of a trace are a whole number of rows, and each fits its width.
 #![tactic(auto)]
 
-ghost use Rattle.std.specs.Prelude.{◌≡◌, ◌+◌, ◌%◌, ◌<◌, length};
+ghost use Rattle.std.specs.Prelude.{◌≡◌};
 ghost use Rattle.traces.specs.Trace as trace;
 
 // Ruled out: 2 ^ w let through; every value of a width over 64 refused.
@@ -9,14 +9,6 @@ pub fn fits(w: u64, x: u64) -> bool
     ensures { result ≡ trace.fits w x }
 {
     w >= 64 || x >> w == 0
-}
-
-// The column after c, of v.
-fn next(c: usize, v: usize) -> usize
-    requires { c < v }
-    ensures { result ≡ (c + 1) % v }
-{
-    if c + 1 == v { 0 } else { c + 1 }
 }
 
 // Ruled out: a row that lacks its last value; the width of the column before.
@@ -30,12 +22,12 @@ pub fn values_fit(widths: &[u64], values: &[u64]) -> bool
     if values.len() % v != 0 {
         return false;
     }
-    let mut c = 0;
-    for x in values {
-        if !fits(widths[c], *x) {
-            return false;
+    for row in 0..values.len() / v {
+        for (c, w) in widths.iter().enumerate() {
+            if !fits(*w, values[row * v + c]) {
+                return false;
+            }
         }
-        c = next(c, v);
     }
     true
 }

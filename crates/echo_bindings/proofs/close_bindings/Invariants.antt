@@ -1,12 +1,9 @@
--- `close_bindings` meets its contract. Assumes nothing.
-use Prim.Native.Nat.{◌-◌, ◌≤◌}
+-- `close_bindings` meets its contract: the brackets of the first nodes are written. Assumes nothing.
+use Rattle.std.proofs.Common.{length}
 use Rattle.echo_bytes.specs.Page.{page}
-use Rattle.echo_reach.specs.Marks.{flagged}
+use Rattle.echo_bindings.specs.Checking.{flagged}
 use Rattle.echo_bindings.specs.LetLines.{SoFar, closing}
 use Rattle.echo_bindings.proofs.close_bindings.Given as goal
 
-abbrev pub invariant-loop-i : goal.invariant-loop-i
-invariant-loop-i l = (l.n ≤ 2048) × SoFar (closing (flagged l.flags)) l.n (page l.initial.q l.initial.out) l.i (page l.q l.out)
-
-abbrev pub decreases-loop-i : goal.decreases-loop-i
-decreases-loop-i l = l.n - l.i
+abbrev pub invariant-loop-b : goal.invariant-loop-b
+invariant-loop-b l = SoFar (closing (flagged l.bound)) (length l.bound) (page l.initial.q l.initial.out) l.b-index (page l.q l.out)

@@ -5,5 +5,4 @@ use Rattle.echo_bindings.proofs.open_binding.Goals as goal
 
 pub returns : goal.returns
 unfolding bytes
-returns c =
-    written_then _ _ _ c.word-q.ensures c.push_named.ensures
+returns c = written_then _ _ _ c.word.ensures c.push_named.ensures

@@ -1,12 +1,8 @@
--- `echo_checks::have_widths` meets its contract. The loop keeps: the whole list passes where what is left of it does. Assumes nothing.
-use Prim.Native.Nat.{◌-◌}
-use lib.ListN.{length}
-use Rattle.blast_kernel.specs.Every.{Left}
-use Rattle.echo_checks.specs.Declared.{has_width}
+-- `echo_checks::have_widths` meets its contract: all pass where those from the present one on do. Assumes nothing.
+use Rattle.std.proofs.Common.{◌≡◌, drop}
+use Rattle.lists.specs.Tests.{every}
+use Rattle.echo_checks.specs.Functions.{has_width}
 use Rattle.echo_checks.proofs.have_widths.Given as goal
 
-abbrev pub invariant-loop-i : goal.invariant-loop-i
-invariant-loop-i l = Left (has_width l.ws) l.xs l.i
-
-abbrev pub decreases-loop-i : goal.decreases-loop-i
-decreases-loop-i l = length l.xs - l.i
+abbrev pub invariant-loop-x : goal.invariant-loop-x
+invariant-loop-x l = every (has_width l.ws) l.xs ≡ every (has_width l.ws) (drop l.x-index l.xs)

@@ -1,20 +1,19 @@
 -- `clashes` meets its contract. Assumes nothing.
-use native.Mathlib.Omega.{arith}
-use Rattle.echo_clash.specs.Clash.{clash-empty, number-part, clash-past, clash-other, clash-same}
+use Rattle.std.proofs.Common.{arith, sym, ◌∙◌}
+use Rattle.echo_clash.specs.Clash.{clash-empty, number-part, clash-other, clash-same, flag-inside}
 use Rattle.echo_clash.proofs.clashes.Goals as goal
 
-pub returns-then-name-eq0 : goal.returns-then-name-eq0
-returns-then-name-eq0 c =
-    clash-empty _ _ _ c.if-name-eq0.true
+pub returns-in_default : goal.returns-in_default
+returns-in_default c = clash-empty _ _ (omega (arith, c.in_default.len_below))
 
-pub returns-then-i-n : goal.returns-then-i-n
-returns-then-i-n c =
-    clash-past _ _ _ (number-part c.args.name.now c.if-name-eq0.false c.read_number-v.ensures) (omega (arith, c.if-i-n.true))
+pub is_let_name-requires : goal.is_let_name-requires
+is_let_name-requires c =
+    omega (arith, flag-inside c.args.shared.now c.read_number-v.result (sym c.flagged.ensures ∙ c.if-flagged.true), c.requires)
 
-pub returns-then-shared-i-ne1 : goal.returns-then-shared-i-ne1
-returns-then-shared-i-ne1 c =
-    clash-other _ _ _ (number-part c.args.name.now c.if-name-eq0.false c.read_number-v.ensures) (omega (arith, c.if-i-n.false)) c.if-shared-i-ne1.true
+pub returns-then-flagged : goal.returns-then-flagged
+returns-then-flagged c =
+    clash-same _ _ (number-part c.args.name.now c.read_number-v.ensures) (sym c.flagged.ensures ∙ c.if-flagged.true) c.is_let_name.ensures
 
-pub returns : goal.returns
-returns c =
-    clash-same _ _ _ (number-part c.args.name.now c.if-name-eq0.false c.read_number-v.ensures) (omega (arith, c.if-i-n.false)) c.if-shared-i-ne1.false c.is_let_name.ensures
+pub returns-else-flagged : goal.returns-else-flagged
+returns-else-flagged c =
+    c.if-flagged.false ∙ clash-other _ _ (number-part c.args.name.now c.read_number-v.ensures) (sym c.flagged.ensures ∙ c.if-flagged.false)

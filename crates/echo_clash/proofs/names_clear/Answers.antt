@@ -1,37 +1,31 @@
 -- `names_clear` meets its contract. Assumes nothing.
-use mathlib.Core.Path.{sym}
+use Rattle.std.proofs.Common.{arith, sym}
 use Rattle.echo_spec.specs.Input.{dag_of}
 use Rattle.lets.specs.Lets.{uses_in}
-use Rattle.lent.specs.Arrays.{problem_at, dag_at}
-use Rattle.echo_clash.specs.Clash.{first-clash, second-clash, last-clash}
+use Rattle.lent.specs.Lent.{problem_at, dag_at}
+use Rattle.echo_clash.specs.Clash.{parts}
 use Rattle.echo_clash.proofs.names_clear.Goals as goal
 
-pub table_clear-requires : goal.table_clear-requires
+pub invariant_of-names : goal.invariant_of-names
 unfolding dag_of
-table_clear-requires c =
-    (c.requires.few, sym c.requires.aligned.name_len)
+invariant_of-names c = record { columns = sym c.requires.aligned.name_len }
 
-pub returns-then-not-table_clear : goal.returns-then-not-table_clear
+pub invariant_of-arrays : goal.invariant_of-arrays
 unfolding dag_of
-returns-then-not-table_clear c =
-    first-clash (dag_at c.args.bytes.now c.args.numbers.now) (uses_in (dag_at c.args.bytes.now c.args.numbers.now) (problem_at c.args.bytes.now c.args.numbers.now).roots) c.args.shared.now c.requires.flags (rw c.requires.count at c.requires.few) c.args.n c.requires.count _ c.table_clear.ensures c.if-not-table_clear.true
+invariant_of-arrays c = record { columns = sym c.requires.aligned.aname_len }
 
-pub table_clear-requires-2 : goal.table_clear-requires-2
+pub invariant_of-functions : goal.invariant_of-functions
 unfolding dag_of
-table_clear-requires-2 c =
-    (c.requires.few, sym c.requires.aligned.aname_len)
+invariant_of-functions c = record { columns = sym c.requires.aligned.fname_len }
 
-pub returns-then-not-table_clear-2 : goal.returns-then-not-table_clear-2
+pub returns-then-table_clear-2 : goal.returns-then-table_clear-2
 unfolding dag_of
-returns-then-not-table_clear-2 c =
-    second-clash (dag_at c.args.bytes.now c.args.numbers.now) (uses_in (dag_at c.args.bytes.now c.args.numbers.now) (problem_at c.args.bytes.now c.args.numbers.now).roots) c.args.shared.now c.requires.flags (rw c.requires.count at c.requires.few) c.args.n c.requires.count _ _ c.table_clear.ensures c.if-not-table_clear.false c.table_clear-2.ensures c.if-not-table_clear-2.true
+returns-then-table_clear-2 c =
+    let e = parts (dag_at c.args.problem.now) (uses_in (dag_at c.args.problem.now) (problem_at c.args.problem.now).roots) c.args.shared.now c.requires.flags c.requires.few in
+    grind arith
 
-pub table_clear-requires-3 : goal.table_clear-requires-3
+pub returns-else-table_clear-2 : goal.returns-else-table_clear-2
 unfolding dag_of
-table_clear-requires-3 c =
-    (c.requires.few, sym c.requires.aligned.fname_len)
-
-pub returns : goal.returns
-unfolding dag_of
-returns c =
-    last-clash (dag_at c.args.bytes.now c.args.numbers.now) (uses_in (dag_at c.args.bytes.now c.args.numbers.now) (problem_at c.args.bytes.now c.args.numbers.now).roots) c.args.shared.now c.requires.flags (rw c.requires.count at c.requires.few) c.args.n c.requires.count _ _ c.table_clear.ensures c.if-not-table_clear.false c.table_clear-2.ensures c.if-not-table_clear-2.false _ c.table_clear-3.ensures
+returns-else-table_clear-2 c =
+    let e = parts (dag_at c.args.problem.now) (uses_in (dag_at c.args.problem.now) (problem_at c.args.problem.now).roots) c.args.shared.now c.requires.flags c.requires.few in
+    grind arith

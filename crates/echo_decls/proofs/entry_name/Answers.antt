@@ -4,5 +4,5 @@ use Rattle.echo_decls.proofs.entry_name.Goals as goal
 
 pub returns : goal.returns
 returns c =
-    rw (get_or-names_of c.args.arena.now c.args.starts.now c.args.lens.now c.args.k c.requires, ← c.get.ensures, ← c.get-2.ensures)
+    rw (get_or-names_of c.args.arena.now c.args.starts.now c.args.lens.now c.args.k c.requires, ← c.get.ensures)
     c.part.ensures

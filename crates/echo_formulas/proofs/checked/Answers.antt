@@ -1,28 +1,14 @@
 -- `echo_formulas::checked` meets its contract: every check but the one for room, in order. Assumes nothing.
-use mathlib.Core.Path.{sym}
-use native.Mathlib.Omega.{arith}
-use lib.Seq.{length-take-le}
-use Rattle.lent.specs.Arrays.{problem_at}
+use Rattle.std.proofs.lemmas.Result.{err_from_is_err_and}
+use Rattle.lent.specs.Lent.{problem_at}
 use Rattle.echo_script.proofs.Checking.{checked_refused}
 use Rattle.echo_formulas.proofs.Lining.{checked-passed}
 use Rattle.echo_formulas.proofs.checked.Goals as goal
 
-pub returns-then-e-gt0 : goal.returns-then-e-gt0
-returns-then-e-gt0 c =
-    checked_refused ((problem_at c.args.bytes.now c.args.numbers.now)) c.measure-e.ensures (omega (arith, c.if-e-gt0.true))
-
-pub slice_bounds-ws-end : goal.slice_bounds-ws-end
-slice_bounds-ws-end c =
-    omega (arith, c.node_count-n.ensures, c.measure-e.ensures.long (omega (arith, c.if-e-gt0.false)))
-
-pub slice_bounds-tables-end : goal.slice_bounds-tables-end
-slice_bounds-tables-end c =
-    sym (length-take-le _ _ (omega (arith, c.node_count-n.ensures, c.measure-e.ensures.long (omega (arith, c.if-e-gt0.false)))))
-
-pub tables-requires : goal.tables-requires
-tables-requires c =
-    rw c.node_count-n.ensures (c.measure-e.ensures.passed (omega (arith, c.if-e-gt0.false)))
+pub returns-in_err-n : goal.returns-in_err-n
+returns-in_err-n c =
+    let p = err_from_is_err_and c.from_residual.result c.from_residual.ensures.1 in
+    rw (p.1, p.2) (checked_refused (problem_at c.args.problem.now) c.measure.new.ws c.in_err-n.ensures)
 
 pub returns : goal.returns
-returns c =
-    checked-passed ((problem_at c.args.bytes.now c.args.numbers.now)) (rw c.node_count-n.ensures (c.measure-e.ensures.passed (omega (arith, c.if-e-gt0.false)))) c.tables.ensures
+returns c = checked-passed (problem_at c.args.problem.now) c.in_ok-n.ensures.formed c.from_names.ensures

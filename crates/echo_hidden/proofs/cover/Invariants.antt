@@ -1,6 +1,5 @@
 -- `echo_hidden::cover` meets its contract: a name or a constant at a time, or one byte outside. Assumes nothing.
-use Prim.Native.Nat.{◌-◌}
-use lib.ListN.{length}
+use Rattle.std.specs.Prelude.{◌-◌, length}
 use Rattle.echo_hidden.specs.Covered.{outside, Came}
 use Rattle.echo_hidden.proofs.cover.Given as goal
 

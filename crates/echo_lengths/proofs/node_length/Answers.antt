@@ -1,27 +1,16 @@
--- `echo_lengths::node_length` meets its contract. Assumes nothing.
-use mathlib.Core.Path.{ap, sym, ◌∙◌}
-use Rattle.echo_spec.specs.Input.{Node, shape}
-use Rattle.blast_kernel.specs.Codes.{code_of}
-use Rattle.echo_tables.specs.Forms.{form_as}
-use Rattle.echo_checks.specs.Answered.{passed, failed}
-use Rattle.echo_walk.proofs.Laws.{node-count, shape-coded}
-use Rattle.echo_lengths.proofs.Lengths.{found-fine, found-refused, plain_form, form-within, node-long}
+-- `echo_lengths::node_length` meets its contract: a node that has a length is not refused. Assumes nothing.
+use Rattle.std.proofs.Common.{rules}
+use Rattle.echo_walk.specs.Walks.{Fine}
+use Rattle.echo_lengths.proofs.Lengths.{start-need, form-passing, node-long}
 use Rattle.echo_lengths.proofs.node_length.Goals as goal
 
-pub returns-then-not-is_taken : goal.returns-then-not-is_taken
-returns-then-not-is_taken c = found-refused c.requires.0 c.requires.2 (failed c.is_taken.ensures c.if-not-is_taken.true-raw)
-
-pub head_length-h-requires : goal.head_length-h-requires
-head_length-h-requires c = (c.requires.0, found-fine c.requires.0 c.requires.2 (passed c.is_taken.ensures c.if-not-is_taken.false-raw))
-
-pub node_here-requires : goal.node_here-requires
-node_here-requires c = node-count _ _ _ _ c.requires.0 _ c.requires.2
-
-pub operands-f-requires : goal.operands-f-requires
-operands-f-requires c = shape-coded _ _ _ _ c.requires.0 _ c.requires.2 c.shape_at.ensures ∙ ap (λ (x : Node). code_of (shape x)) (sym c.node_here.ensures)
-
 pub form_sum-requires : goal.form_sum-requires
-form_sum-requires c = form-within c.requires.0 c.requires.2 (plain_form c.args.bytes.now c.args.numbers.now c.args.tables.now c.requires.1 c.args.i (c.operands-f.ensures ∙ ap (λ (x : Node). form_as x (shape x)) c.node_here.ensures))
+form_sum-requires c =
+    let fine : Fine c.args.walk.now c.args.i = search rules in
+    (form-passing c.args.walk.now fine c.operands_at-f.ensures).0
 
 pub returns : goal.returns
-returns c = node-long c.requires.0 c.requires.2 (plain_form c.args.bytes.now c.args.numbers.now c.args.tables.now c.requires.1 c.args.i (c.operands-f.ensures ∙ ap (λ (x : Node). form_as x (shape x)) c.node_here.ensures)) c.requires.1 c.requires.3 c.head_length-h.ensures c.closed-c.ensures c.form_sum.ensures
+returns c =
+    let fine : Fine c.args.walk.now c.args.i = search rules in
+    let head = start-need c.start.ensures _ _ c.open_head-head.ensures in
+    node-long c.args.walk.now fine c.operands_at-f.ensures c.requires.1 head c.closed.ensures c.form_sum.ensures

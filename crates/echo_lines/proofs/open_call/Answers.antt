@@ -12,5 +12,5 @@ returns-then-n-eq0 c = c.name.ensures ∙ ap (written _) (call-bare _ _ c.if-n-e
 pub returns : goal.returns
 unfolding bytes
 returns c =
-    written_then _ _ _ c.byte-opened.ensures c.name-2.ensures
+    written_then _ _ _ c.byte.ensures c.name-2.ensures
     ∙ ap (written _) (call-opened _ _ c.if-n-eq0.false)

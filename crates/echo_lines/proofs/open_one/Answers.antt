@@ -10,6 +10,5 @@ pub returns : goal.returns
 unfolding bytes
 returns c =
     written_then _ _ _ c.open_indexed-opened.ensures
-    (written_then _ _ _ c.push_numeral-numbered.ensures
-    c.byte.ensures)
+    (written_then _ _ _ c.push_numeral.ensures c.byte.ensures)
     ∙ ap (written _) (operator-one _ _)

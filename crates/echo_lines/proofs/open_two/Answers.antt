@@ -11,6 +11,5 @@ unfolding bytes
 returns c =
     written_then _ _ _ c.open_indexed-opened.ensures
     (written_then _ _ _ c.push_numeral-first.ensures
-    (written_then _ _ _ c.push_numeral-second.ensures
-    c.byte.ensures))
+    (written_then _ _ _ c.push_numeral.ensures c.byte.ensures))
     ∙ ap (written _) (operator-two _ _ _)

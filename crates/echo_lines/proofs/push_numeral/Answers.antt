@@ -6,5 +6,4 @@ use Rattle.echo_lines.proofs.push_numeral.Goals as goal
 pub returns : goal.returns
 unfolding bytes
 returns c =
-    written_then _ _ _ c.byte-spaced.ensures
-    c.number.ensures
+    written_then _ _ _ c.byte.ensures c.number.ensures

@@ -1,4 +1,4 @@
--- `echo_lines::push_stores` meets its contract: at the loop's test, i of them are written. Assumes nothing.
+-- `echo_lines::push_stores` meets its contract: after each turn one more is written. Assumes nothing.
 use Prim.Native.Nat.{ℕ}
 use mathlib.Core.Path.{◌≡◌, sym, ap, ◌∙◌}
 use native.Mathlib.Omega.{arith}
@@ -8,18 +8,17 @@ use Rattle.echo_bytes.specs.Page.{written}
 use Rattle.echo_lines.specs.Heads.{repeated, repeated-more}
 use Rattle.echo_lines.proofs.push_stores.Goals as goal
 
-pub loop-i-init : goal.loop-i-init
+pub loop-store-init : goal.loop-store-init
 unfolding repeated
-loop-i-init c = (sym (written-nil _ (omega arith)), omega arith)
+loop-store-init c = sym (written-nil _ (omega arith))
 
-pub loop-i-preserved : goal.loop-i-preserved
-loop-i-preserved c = (
-  written_then _ _ _ c.loop-i.invariant.0 c.push_store-q.ensures
-      ∙ ap (written _) (repeated-more _ _),
-  omega arith,
-)
+pub loop-store-preserved : goal.loop-store-preserved
+unfolding bytes
+loop-store-preserved c =
+    written_then _ _ _ c.loop-store.invariant c.word-q.ensures
+    ∙ ap (written _) (repeated-more _ _)
 
 pub returns : goal.returns
 returns c =
-    let e : c.loop-i.i ≡ c.args.n = omega arith in
-    c.loop-i.invariant.0 ∙ ap (written _) (ap (λ (k : ℕ). repeated k (bytes "(store ")) e)
+    let e : c.loop-store._store ≡ c.args.n = omega arith in
+    c.loop-store.invariant ∙ ap (written _) (ap (λ (k : ℕ). repeated k (bytes "(store ")) e)

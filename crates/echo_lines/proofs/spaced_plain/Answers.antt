@@ -1,4 +1,4 @@
--- `echo_lines::spaced_plain` meets its contract: the part of the table that `symbol` hands out, behind two bytes. Assumes nothing.
+-- `echo_lines::spaced_plain` meets its contract: the symbol stands behind two bytes. Assumes nothing.
 use Prim.Native.Nat.{ℕ}
 use mathlib.Core.Path.{ap, ◌∙◌}
 use mathlib.Core.List.{List, ◌∷◌}

@@ -1,20 +1,21 @@
--- `echo_lines::symbol` meets its contract: the symbol lies inside its cell. Assumes nothing.
-use Prim.Native.Nat.{◌*◌}
-use native.Mathlib.Omega.{arith}
-use Rattle.echo_lines.proofs.Cells.{symbol-inside, symbol-part}
+-- `echo_lines::symbol` meets its contract: one computed test of the table, kind by kind. Assumes nothing.
+use Prim.Native.Nat.{ℕ}
+use mathlib.Core.Path.{◌≡◌, refl, sym}
+use mathlib.Core.List.{List, map}
+use lib.ListN.{get_or, get_or-map, get_or-eq_default}
+use denote.Bor.{Bor}
+use Rattle.lists.specs.Bytes.{bytes}
+use Rattle.echo_spec.specs.Render.{symbols, symbol_of}
 use Rattle.echo_lines.proofs.symbol.Goals as goal
 
-pub bounds-symbols-cell : goal.bounds-symbols-cell
-bounds-symbols-cell c = omega (arith, symbol-inside _ _ c.requires.symbols_value c.requires.kind_bound)
+texts-at : (table : List (Bor (List ℕ))) (k : ℕ) (past : Bor (List ℕ))
+    → (get_or table k past).now ≡ get_or (map (λ b. b.now) table) k past.now
+texts-at table k past = sym (get_or-map (λ b. b.now) table k past)
 
-pub overflow_cast-n : goal.overflow_cast-n
-overflow_cast-n c = omega (arith, c.shared_slice_known-1.given (13 * c.args.kind))
+pub returns-then-i-lt37 : goal.returns-then-i-lt37
+unfolding bytes symbols symbol_of
+returns-then-i-lt37 c = rw texts-at (get_or-map bytes symbols c.args.kind "")
 
-pub overflow_add-result : goal.overflow_add-result
-overflow_add-result c = omega (arith, symbol-inside _ _ c.requires.symbols_value c.requires.kind_bound)
-
-pub slice_bounds-result-end : goal.slice_bounds-result-end
-slice_bounds-result-end c = omega (arith, symbol-inside _ _ c.requires.symbols_value c.requires.kind_bound)
-
-pub returns : goal.returns
-returns c = symbol-part _ _ c.requires.symbols_value c.requires.kind_bound
+pub returns-else-i-lt37 : goal.returns-else-i-lt37
+unfolding bytes symbols symbol_of
+returns-else-i-lt37 c = rw (get_or-eq_default symbols "" c.if-i-lt37.false) refl

@@ -4,4 +4,6 @@ use Rattle.echo_openings.proofs.open_select.Goals as goal
 
 pub returns : goal.returns
 unfolding bytes
-returns c = written_then _ _ _ c.word-a.ensures (written_then _ _ _ c.push_stores-b.ensures (written_then _ _ _ c.name-c.ensures c.word.ensures))
+returns c =
+    written_then _ _ _ c.word-opened.ensures
+    (written_then _ _ _ c.push_stores.ensures (written_then _ _ _ c.name.ensures c.word.ensures))

@@ -1,45 +1,39 @@
 use mathlib.Core.Path.{refl}
-use Rattle.blast_kernel.specs.Codes.{in-arm}
-use Rattle.echo_walk.proofs.Heads.{passed-as}
-use Rattle.echo_walk.proofs.Laws.{shape-coded}
-use Rattle.echo_openings.proofs.Opening.{of-shape, plain-kind, of_plain}
+use Rattle.echo_walk.proofs.Heads.{shape-of, passed-as, node-here}
+use Rattle.echo_openings.proofs.Opening.{of-shape, of-extraction, of-extension, of_plain}
 use Rattle.echo_openings.proofs.open_term.Goals as goal
 
 pub open_rotation-requires : goal.open_rotation-requires
-open_rotation-requires c = (c.requires.0, passed-as _ _ _ _ c.requires.0.ready _ c.requires.1.here c.requires.1.taken (in-arm _ (shape-coded _ _ _ _ c.requires.0.ready _ c.requires.1.here c.shape_at-s.ensures) c.in-3.is))
-
-pub open_extraction-requires : goal.open_extraction-requires
-open_extraction-requires c = (c.requires.0, passed-as _ _ _ _ c.requires.0.ready _ c.requires.1.here c.requires.1.taken (in-arm _ (shape-coded _ _ _ _ c.requires.0.ready _ c.requires.1.here c.shape_at-s.ensures) c.in-4.is))
-
-pub open_extension-requires : goal.open_extension-requires
-open_extension-requires c = (c.requires.0, passed-as _ _ _ _ c.requires.0.ready _ c.requires.1.here c.requires.1.taken (in-arm _ (shape-coded _ _ _ _ c.requires.0.ready _ c.requires.1.here c.shape_at-s.ensures) c.in-6.is))
+open_rotation-requires c = passed-as c.args.walk.now c.args.i c.requires.0.here c.requires.0.taken (shape-of c.args.walk.now c.args.i c.requires.0.here c.requires.0.taken c.mark-mark.ensures c.in-Rotation.is)
 
 pub open_array-requires : goal.open_array-requires
-open_array-requires c = (c.requires.0.ready, passed-as _ _ _ _ c.requires.0.ready _ c.requires.1.here c.requires.1.taken (in-arm _ (shape-coded _ _ _ _ c.requires.0.ready _ c.requires.1.here c.shape_at-s.ensures) c.in-12.is))
+open_array-requires c = passed-as c.args.walk.now c.args.i c.requires.0.here c.requires.0.taken (shape-of c.args.walk.now c.args.i c.requires.0.here c.requires.0.taken c.mark-mark.ensures c.in-Select.is)
 
 pub open_function-requires : goal.open_function-requires
-open_function-requires c = (c.requires.0.ready, passed-as _ _ _ _ c.requires.0.ready _ c.requires.1.here c.requires.1.taken (in-arm _ (shape-coded _ _ _ _ c.requires.0.ready _ c.requires.1.here c.shape_at-s.ensures) c.in-13.is))
+open_function-requires c = passed-as c.args.walk.now c.args.i c.requires.0.here c.requires.0.taken (shape-of c.args.walk.now c.args.i c.requires.0.here c.requires.0.taken c.mark-mark.ensures c.in-Call.is)
 
-pub open_plain-requires : goal.open_plain-requires
-open_plain-requires c = record {
-  signs_value = c.requires.0.signs;
-  kind_bound = plain-kind c.args.bytes.now c.args.numbers.now c.args.tables.now c.args.i (passed-as _ _ _ _ c.requires.0.ready _ c.requires.1.here c.requires.1.taken refl) (shape-coded _ _ _ _ c.requires.0.ready _ c.requires.1.here c.shape_at-s.ensures) c.requires.1.inner c.in_default.in_default-own.rest.0.0.0.0.1 c.in_default.in_default-own.rest.0.0.0.1 c.in_default.in_default-own.rest.0.0.1 c.in_default.in_default-own.rest.0.1 c.in_default.in_default-own.rest.1 c.requires.2;
-}
+pub node-n-requires : goal.node-n-requires
+node-n-requires c = node-here c.args.walk.now c.args.i c.requires.0.here c.requires.0.taken
 
-pub returns-in-3 : goal.returns-in-3
-returns-in-3 c = of-shape c.args.bytes.now c.args.numbers.now c.args.tables.now c.args.i (in-arm _ (shape-coded _ _ _ _ c.requires.0.ready _ c.requires.1.here c.shape_at-s.ensures) c.in-3.is) _ c.open_rotation.ensures
+pub node-n-requires-in-Extension : goal.node-n-requires-in-Extension
+node-n-requires-in-Extension c = node-here c.args.walk.now c.args.i c.requires.0.here c.requires.0.taken
 
-pub returns-in-4 : goal.returns-in-4
-returns-in-4 c = of-shape c.args.bytes.now c.args.numbers.now c.args.tables.now c.args.i (in-arm _ (shape-coded _ _ _ _ c.requires.0.ready _ c.requires.1.here c.shape_at-s.ensures) c.in-4.is) _ c.open_extraction.ensures
+pub returns-in-Rotation : goal.returns-in-Rotation
+returns-in-Rotation c = of-shape c.args.walk.now c.args.i (shape-of c.args.walk.now c.args.i c.requires.0.here c.requires.0.taken c.mark-mark.ensures c.in-Rotation.is) _ c.open_rotation.ensures
 
-pub returns-in-6 : goal.returns-in-6
-returns-in-6 c = of-shape c.args.bytes.now c.args.numbers.now c.args.tables.now c.args.i (in-arm _ (shape-coded _ _ _ _ c.requires.0.ready _ c.requires.1.here c.shape_at-s.ensures) c.in-6.is) _ c.open_extension.ensures
+pub returns-in-Select : goal.returns-in-Select
+returns-in-Select c = of-shape c.args.walk.now c.args.i (shape-of c.args.walk.now c.args.i c.requires.0.here c.requires.0.taken c.mark-mark.ensures c.in-Select.is) _ c.open_array.ensures
 
-pub returns-in-12 : goal.returns-in-12
-returns-in-12 c = of-shape c.args.bytes.now c.args.numbers.now c.args.tables.now c.args.i (in-arm _ (shape-coded _ _ _ _ c.requires.0.ready _ c.requires.1.here c.shape_at-s.ensures) c.in-12.is) _ c.open_array.ensures
+pub returns-in-Call : goal.returns-in-Call
+returns-in-Call c = of-shape c.args.walk.now c.args.i (shape-of c.args.walk.now c.args.i c.requires.0.here c.requires.0.taken c.mark-mark.ensures c.in-Call.is) _ c.open_function.ensures
 
-pub returns-in-13 : goal.returns-in-13
-returns-in-13 c = of-shape c.args.bytes.now c.args.numbers.now c.args.tables.now c.args.i (in-arm _ (shape-coded _ _ _ _ c.requires.0.ready _ c.requires.1.here c.shape_at-s.ensures) c.in-13.is) _ c.open_function.ensures
+pub returns-in-Extraction : goal.returns-in-Extraction
+returns-in-Extraction c = of-extraction c.args.walk.now c.args.i c.node-n.ensures _ c.requires.1 (shape-of c.args.walk.now c.args.i c.requires.0.here c.requires.0.taken c.mark-mark.ensures c.in-Extraction.is) c.open_numbered.ensures
+
+pub returns-in-Extension : goal.returns-in-Extension
+returns-in-Extension c = of-extension c.args.walk.now c.args.i c.node-n-in-Extension.ensures _ c.requires.1 (shape-of c.args.walk.now c.args.i c.requires.0.here c.requires.0.taken c.mark-mark.ensures c.in-Extension.is) c.open_numbered-in-Extension.ensures
 
 pub returns-in_default : goal.returns-in_default
-returns-in_default c = of_plain c.args.bytes.now c.args.numbers.now c.args.tables.now c.args.i (passed-as _ _ _ _ c.requires.0.ready _ c.requires.1.here c.requires.1.taken refl) (shape-coded _ _ _ _ c.requires.0.ready _ c.requires.1.here c.shape_at-s.ensures) c.requires.1.inner c.in_default.in_default-own.rest.0.0.0.0.1 c.in_default.in_default-own.rest.0.0.0.1 c.in_default.in_default-own.rest.0.0.1 c.in_default.in_default-own.rest.0.1 c.in_default.in_default-own.rest.1 c.requires.2 _ c.open_plain.ensures
+returns-in_default c =
+    let e = (shape-of c.args.walk.now c.args.i c.requires.0.here c.requires.0.taken c.mark-mark.ensures refl) in
+    of_plain c.args.walk.now c.args.i e (passed-as c.args.walk.now c.args.i c.requires.0.here c.requires.0.taken e) c.requires.0.inner c.in_default.not-Rotation c.in_default.not-Extraction c.in_default.not-Extension c.in_default.not-Select c.in_default.not-Call c.requires.1 _ c.open_plain.ensures

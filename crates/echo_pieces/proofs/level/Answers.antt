@@ -1,13 +1,11 @@
-use native.Mathlib.Omega.{arith}
-use Prim.Native.Nat.{◌+◌, ◌*◌}
-use Rattle.echo_pieces.proofs.Cells.{sign-inside, level-part}
+-- `echo_pieces::level` meets its contract: one computed test of the table, kind by kind. Assumes nothing.
+use Rattle.formula_text.specs.Notation.{notations}
+use Rattle.echo_pieces.proofs.Notations.{level-in, level-at, level-past}
 use Rattle.echo_pieces.proofs.level.Goals as goal
 
-pub bounds-signs-at : goal.bounds-signs-at
-bounds-signs-at c = omega (arith, sign-inside _ _ c.requires.signs_value c.requires.kind_bound)
+pub returns-then-i-lt37 : goal.returns-then-i-lt37
+unfolding notations
+returns-then-i-lt37 c = rw level-in (level-at _ _ tt c.args.kind c.if-i-lt37.true)
 
-pub overflow_cast-result : goal.overflow_cast-result
-overflow_cast-result c = omega (arith, c.shared_slice_known-1.given (15 * c.args.kind + 1))
-
-pub returns : goal.returns
-returns c = level-part _ _ c.requires.signs_value c.requires.kind_bound
+pub returns-else-i-lt37 : goal.returns-else-i-lt37
+returns-else-i-lt37 c = level-past c.args.kind c.if-i-lt37.false

@@ -1,19 +1,16 @@
-use native.Mathlib.Omega.{arith}
-use Prim.Native.Nat.{◌*◌}
-use Rattle.echo_pieces.proofs.Cells.{sign-inside, sign_part}
+-- `echo_pieces::sign` meets its contract: one computed test of the table, kind by kind. Assumes nothing.
+use Rattle.lists.specs.Bytes.{bytes}
+use Rattle.lists.specs.Tests.{same}
+use Rattle.echo_spec.specs.Render.{symbols, symbol_of}
+use Rattle.formula_text.specs.Notation.{notations}
+use Rattle.echo_pieces.specs.Signs.{sign_text, sign_of}
+use Rattle.echo_pieces.proofs.Notations.{text-in, text-at, text-past}
 use Rattle.echo_pieces.proofs.sign.Goals as goal
 
-pub bounds-signs-cell : goal.bounds-signs-cell
-bounds-signs-cell c = omega (arith, sign-inside _ _ c.requires.signs_value c.requires.kind_bound)
+pub returns-then-i-lt37 : goal.returns-then-i-lt37
+unfolding bytes same symbols symbol_of notations sign_text sign_of
+returns-then-i-lt37 c = rw text-in (text-at _ _ tt c.args.kind c.if-i-lt37.true)
 
-pub overflow_cast-n : goal.overflow_cast-n
-overflow_cast-n c = omega (arith, c.shared_slice_known-1.given (15 * c.args.kind))
-
-pub overflow_add-result : goal.overflow_add-result
-overflow_add-result c = omega (arith, sign-inside _ _ c.requires.signs_value c.requires.kind_bound)
-
-pub slice_bounds-result-end : goal.slice_bounds-result-end
-slice_bounds-result-end c = omega (arith, sign-inside _ _ c.requires.signs_value c.requires.kind_bound)
-
-pub returns : goal.returns
-returns c = sign_part _ _ c.requires.signs_value c.requires.kind_bound
+pub returns-else-i-lt37 : goal.returns-else-i-lt37
+unfolding bytes
+returns-else-i-lt37 c = text-past c.args.kind c.if-i-lt37.false

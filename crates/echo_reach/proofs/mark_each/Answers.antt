@@ -1,15 +1,13 @@
--- `mark_each` meets its contract: the first k nodes of the list are marked.
-use native.Mathlib.Omega.{arith}
+-- `mark_each` meets its contract: the first nodes of the list are marked.
+use Rattle.std.proofs.Common.{arith}
 use Rattle.echo_reach.specs.Marks.{adds_none, adds-next, adds-all}
 use Rattle.echo_reach.proofs.mark_each.Goals as goal
 
-pub loop-k-init : goal.loop-k-init
-loop-k-init c = (omega arith, adds_none _)
+pub loop-x-init : goal.loop-x-init
+loop-x-init c = adds_none _
 
-pub loop-k-preserved : goal.loop-k-preserved
-loop-k-preserved c =
-    (omega arith, adds-next c.args.xs.now c.loop-k.k c.loop-k-test.true c.loop-k.invariant.1 c.mark_one.ensures)
+pub loop-x-preserved : goal.loop-x-preserved
+loop-x-preserved c = adds-next c.args.xs.now c.loop-x.x-index (omega arith) c.loop-x.invariant c.mark_one.ensures
 
 pub returns : goal.returns
-returns c =
-    adds-all c.args.xs.now c.loop-k.k c.loop-k-test.false c.loop-k.invariant.1
+returns c = adds-all c.args.xs.now c.loop-x.x-index (omega arith) c.loop-x.invariant

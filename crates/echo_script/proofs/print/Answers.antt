@@ -1,14 +1,14 @@
-use Rattle.echo_script.proofs.Printing.{ready, all-fine, opened_inside, print-in}
+-- `print` meets its contract. Assumes nothing.
+use Rattle.echo_script.proofs.Printing.{ready, walk_over, all-fine, opened_inside, print-in}
 use Rattle.echo_script.proofs.print.Goals as goal
 
-pub declare-p-requires : goal.declare-p-requires
-declare-p-requires c =
-    c.requires.declarable
+pub invariant_of-walk : goal.invariant_of-walk
+invariant_of-walk c = record { ready = ready c.requires.filled }
 
-pub echo_roots-q-requires : goal.echo_roots-q-requires
-echo_roots-q-requires c =
-    (ready _ _ _ c.requires c.symbol_table-symbols.ensures, all-fine _ _ _ c.requires, opened_inside _ _ c.declare-p.ensures)
+pub echo_roots-asserted-requires : goal.echo_roots-asserted-requires
+echo_roots-asserted-requires c = (all-fine _ c.requires.walked, opened_inside _ _ c.declare-declared.ensures)
 
 pub returns : goal.returns
 returns c =
-    print-in c.args.ws c.args.entries c.args.codes c.requires c.symbol_table-symbols.ensures _ c.declare-p.ensures c.echo_roots-q.ensures c.check_sat.ensures
+    print-in (walk_over c.args.problem c.args.ws c.args.tables c.requires.filled) c.requires.walked (record { plan = λ i. c.requires.filled.marked.unnamed i })
+    c.args.out.now c.declare-declared.ensures c.echo_roots-asserted.ensures c.check_sat.ensures

@@ -1,12 +1,7 @@
--- `bump_each` meets its contract: what is left to count from k on, counted from here, is the whole.
-use Prim.Native.Nat.{◌≤◌, ◌-◌}
-use mathlib.Core.Path.{◌≡◌}
-use lib.ListN.{length, drop}
+-- `bump_each` meets its contract: what is left to count, counted from here, is the whole.
+use Rattle.std.proofs.Common.{◌≡◌, drop}
 use Rattle.echo_sharing.specs.Counts.{counted}
 use Rattle.echo_sharing.proofs.bump_each.Given as goal
 
-abbrev pub invariant-loop-k : goal.invariant-loop-k
-invariant-loop-k l = (l.k ≤ length l.us) × (length l.uses ≡ length l.initial.uses) × (counted l.uses (drop l.k l.us) ≡ counted l.initial.uses l.us)
-
-abbrev pub decreases-loop-k : goal.decreases-loop-k
-decreases-loop-k l = length l.us - l.k
+abbrev pub invariant-loop-i : goal.invariant-loop-i
+invariant-loop-i l = counted l.uses (drop l.i-index l.us) ≡ counted l.initial.uses l.us

@@ -7,19 +7,14 @@ use Rattle.echo_sharing.proofs.count_operands.Goals as goal
 
 pub loop-i-init : goal.loop-i-init
 unfolding counted_from
-loop-i-init c = (c.node_count-n.ensures, omega arith, refl, refl)
+loop-i-init c = refl
 
 pub node_at-requires : goal.node_at-requires
 node_at-requires c = omega (arith, nodes-length c.args.nodes.now)
 
 pub loop-i-preserved : goal.loop-i-preserved
-loop-i-preserved c = (
-  c.loop-i.invariant.0,
-  omega arith,
-  omega arith,
-  node-next _ _ _ c.loop-i.i c.loop-i.invariant.3 (omega arith) c.node_at.ensures c.bump_node.ensures,
-)
+loop-i-preserved c =
+    node-next _ _ _ c.loop-i.i c.loop-i.invariant (omega arith) c.node_at.ensures c.bump_node.ensures
 
 pub returns : goal.returns
-returns c =
-    node_end _ _ _ c.loop-i.i c.loop-i.invariant.3 (omega arith)
+returns c = node_end _ _ _ c.loop-i.i c.loop-i.invariant (omega arith)

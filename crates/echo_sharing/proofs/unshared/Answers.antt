@@ -1,13 +1,12 @@
 -- `unshared` meets its contract.
-use Rattle.echo_sharing.specs.Counts.{guard}
-use native.Mathlib.Omega.{arith}
+use Rattle.std.proofs.Common.{arith}
 use Rattle.lent.specs.Records.{nodes-length}
+use Rattle.echo_sharing.specs.Counts.{guard}
 use Rattle.echo_sharing.proofs.unshared.Goals as goal
 
 pub no_shared-requires : goal.no_shared-requires
-no_shared-requires c =
-    omega (arith, nodes-length c.args.nodes.now)
+no_shared-requires c = omega (arith, nodes-length c.args.nodes.now)
 
 pub returns : goal.returns
 returns c =
-    guard c.args.nodes.now c.args.side.now c.args.roots.now c.requires c.count_operands.ensures c.count_roots.ensures c.no_shared.ensures
+    guard c.args.nodes.now c.args.side.now c.args.roots.now c.requires c.count_uses.ensures c.no_shared.ensures

@@ -1,18 +1,19 @@
 -- `echo_size::sized` meets its contract. Assumes nothing.
-use native.Mathlib.Omega.{arith}
-use Rattle.lent.specs.Clearing.{replicate-zeros}
-use Rattle.echo_script.proofs.Checking.{prepare-refused, prepare-done}
-use Rattle.echo_size.proofs.Sizing.{sized-place}
+use Rattle.std.proofs.Common.{arith}
+use Rattle.std.proofs.lemmas.Result.{err_from_is_err_and}
+use Rattle.lent.specs.Lent.{problem_at}
+use Rattle.echo_size.proofs.Sizing.{full-widths, prepare-told, countable, size-told}
 use Rattle.echo_size.proofs.sized.Goals as goal
 
-pub prepare-e-requires : goal.prepare-e-requires
-prepare-e-requires c = (c.requires, replicate-zeros 2048)
+pub returns-in_err-prepare : goal.returns-in_err-prepare
+returns-in_err-prepare c =
+    let p = err_from_is_err_and c.from_residual.result c.from_residual.ensures.1 in
+    rw (p.1, p.2) (prepare-told (problem_at c.args.problem.now) c.requires _ c.in_err-prepare.ensures.refused)
 
-pub returns-then-e-gt0 : goal.returns-then-e-gt0
-returns-then-e-gt0 c = prepare-refused c.prepare-e.ensures (omega (arith, c.if-e-gt0.true))
-
-pub script_length-n-requires : goal.script_length-n-requires
-script_length-n-requires c = c.prepare-e.ensures.prepared (omega (arith, c.if-e-gt0.false))
+pub count_terms-requires : goal.count_terms-requires
+count_terms-requires c = countable (problem_at c.args.problem.now) c.requires
 
 pub returns : goal.returns
-returns c = prepare-done c.prepare-e.ensures (omega (arith, c.if-e-gt0.false)) (sized-place _ c.script_length-n.ensures)
+returns c =
+    let p = problem_at c.args.problem.now in
+    size-told p c.requires (c.in_ok-prepare.ensures.passed (omega arith)) (full-widths p c.fits.ensures c.fits-2.ensures) c.script_length.ensures c.count_terms.ensures

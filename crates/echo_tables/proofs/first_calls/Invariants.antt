@@ -1,17 +1,9 @@
--- `echo_tables::first_calls` meets its contract. The loop keeps: the table has what a search from node `left` on finds. Assumes nothing.
-use Prim.Native.Nat.{◌≤◌}
-use mathlib.Core.Path.{◌≡◌}
-use lib.ListN.{length}
+-- `echo_tables::first_calls` meets its contract. The loop keeps: the table has what a search from node i on finds. Assumes nothing.
+use Rattle.std.proofs.Common.{◌≡◌, length}
 use Rattle.echo_spec.specs.Input.{nodes_of}
 use Rattle.echo_spec.specs.Tables.{call_of}
 use Rattle.echo_tables.specs.Found.{Filled}
 use Rattle.echo_tables.proofs.first_calls.Given as goal
 
-abbrev pub invariant-loop-left : goal.invariant-loop-left
-invariant-loop-left l = (l.count ≡ length (nodes_of l.nodes))
-    × (l.left ≤ l.count)
-    × (length l.first ≡ 512)
-    × Filled call_of 512 (nodes_of l.nodes) l.left l.first
-
-abbrev pub decreases-loop-left : goal.decreases-loop-left
-decreases-loop-left l = l.left
+abbrev pub invariant-loop-i : goal.invariant-loop-i
+invariant-loop-i l = (length l.first ≡ 512) × Filled call_of 512 (nodes_of l.nodes) l.i l.first

@@ -1,12 +1,7 @@
 -- `echo_tables::rot_amount` meets its contract. The loop keeps: k is the value of the bits from j on, modulo w. Assumes nothing.
-use Prim.Native.Nat.{◌≤◌, ◌<◌, ◌%◌}
-use mathlib.Core.Path.{◌≡◌}
-use lib.ListN.{length, drop}
+use Rattle.std.proofs.Common.{◌≡◌, ◌<◌, ◌%◌, drop}
 use Rattle.echo_spec.specs.Trees.{bits_value}
 use Rattle.echo_tables.proofs.rot_amount.Given as goal
 
 abbrev pub invariant-loop-j : goal.invariant-loop-j
-invariant-loop-j l = (l.j ≤ length l.bits) × (l.k < l.w) × (l.k ≡ bits_value (drop l.j l.bits) % l.w)
-
-abbrev pub decreases-loop-j : goal.decreases-loop-j
-decreases-loop-j l = l.j
+invariant-loop-j l = (l.k < l.w) × (l.k ≡ bits_value (drop l.j l.bits) % l.w)

@@ -1,16 +1,11 @@
--- `echo_terms::add_each` meets its contract: the sum so far and the nodes from place k on make the whole. Assumes nothing.
-use mathlib.Core.Path.{refl}
-use native.Mathlib.Omega.{arith}
-use Rattle.echo_terms.specs.TermTable.{counted_next, counted-end}
+-- `echo_terms::add_each` meets its contract. Assumes nothing.
+use Rattle.std.specs.Prelude.{◌≡◌, ◌+◌}
+use Rattle.std.specs.List.{fold}
+use Rattle.std.proofs.Common.{rules, arith, ◌∙◌}
+use Rattle.echo_terms.specs.TermTable.{held, entry, counted-fold}
 use Rattle.echo_terms.proofs.add_each.Goals as goal
-
-pub loop-k-init : goal.loop-k-init
-loop-k-init c = (omega arith, refl, omega arith)
-
-pub loop-k-preserved : goal.loop-k-preserved
-loop-k-preserved c =
-    (omega arith, counted_next c.args.t.now c.loop-k.s c.args.xs.now c.loop-k.k c.loop-k.invariant.1 c.loop-k-test.true c.at.ensures c.plus-s.ensures, omega (arith, c.plus-s.ensures))
 
 pub returns : goal.returns
 returns c =
-    counted-end c.args.t.now c.loop-k.s c.args.xs.now c.loop-k.k c.loop-k.invariant.1 c.loop-k-test.false c.loop-k.invariant.2
+    let e : c.fold.result ≡ fold (λ s x. held (s + entry c.args.t.now x)) c.args.c c.args.xs.now = search rules in
+    e ∙ counted-fold c.args.t.now c.args.c c.args.xs.now (omega (arith, c.well_formed))

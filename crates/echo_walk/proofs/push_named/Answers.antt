@@ -6,6 +6,6 @@ use Rattle.echo_walk.proofs.push_named.Goals as goal
 pub returns : goal.returns
 unfolding bytes named
 returns c =
-    written_then _ _ _ c.byte-a.ensures
-    (written_then _ _ _ c.byte-b.ensures
-    (written_then _ _ _ c.number-c.ensures c.byte.ensures))
+    written_then _ _ _ c.byte.ensures
+    (written_then _ _ _ c.byte-2.ensures
+    (written_then _ _ _ c.number.ensures c.byte-3.ensures))

@@ -1,11 +1,7 @@
--- `fewest_sharing::first_pair` meets its contract. Assumes nothing.
-use Prim.Native.Nat.{ℕ, ◌≤◌, ◌<◌, ◌-◌}
-use lib.ListN.{length}
+-- `fewest_sharing::first_pair` meets its contract: no root before this one is there again. Assumes nothing.
+use Rattle.std.proofs.Common.{ℕ, ◌<◌}
 use Rattle.fewest_sharing.specs.Found.{Single}
 use Rattle.fewest_sharing.proofs.first_pair.Given as goal
 
 abbrev pub invariant-loop-j : goal.invariant-loop-j
-invariant-loop-j l = (l.j ≤ length l.roots) × ((a : ℕ) → a < l.j → Single l.flags l.n l.roots a)
-
-abbrev pub decreases-loop-j : goal.decreases-loop-j
-decreases-loop-j l = length l.roots - l.j
+invariant-loop-j l = (a : ℕ) → a < l.j → Single l.shared l.roots a

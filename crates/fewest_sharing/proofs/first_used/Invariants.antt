@@ -1,13 +1,7 @@
--- `fewest_sharing::first_used` meets its contract. Assumes nothing.
-use Prim.Native.Nat.{ℕ, ◌≤◌, ◌<◌, ◌-◌}
-use mathlib.Core.Path.{◌≡◌}
-use mathlib.Core.Bool.{false}
-use lib.ListN.{length, get_or}
+-- `fewest_sharing::first_used` meets its contract: no root before this one passes the test. Assumes nothing.
+use Rattle.std.proofs.Common.{◌≡◌, ℕ, ◌<◌, false, get_or}
 use Rattle.fewest_sharing.specs.Found.{used_too}
 use Rattle.fewest_sharing.proofs.first_used.Given as goal
 
 abbrev pub invariant-loop-k : goal.invariant-loop-k
-invariant-loop-k l = (l.k ≤ length l.roots) × ((j : ℕ) → j < l.k → used_too l.flags l.uses l.n (get_or l.roots j 0) ≡ false)
-
-abbrev pub decreases-loop-k : goal.decreases-loop-k
-decreases-loop-k l = length l.roots - l.k
+invariant-loop-k l = (j : ℕ) → j < l.k → used_too l.shared l.uses (get_or l.roots j 0) ≡ false

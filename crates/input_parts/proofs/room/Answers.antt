@@ -1,8 +1,9 @@
--- `input_parts::room` meets its contract: the table is the definition's. Assumes nothing.
-use mathlib.Core.Path.{refl}
-use Rattle.input_parts.specs.Parts.{rooms, room_of}
+-- `room` meets its contract: the table's rooms are the definition's. Assumes nothing.
+use Rattle.input_parts.proofs.Laws.{room-is}
 use Rattle.input_parts.proofs.room.Goals as goal
 
-pub returns : goal.returns
-unfolding rooms room_of
-returns c = refl
+pub returns-in-Bytes : goal.returns-in-Bytes
+returns-in-Bytes c = room-is c.args.k c.requires c.in-Bytes.is
+
+pub returns-in-Numbers : goal.returns-in-Numbers
+returns-in-Numbers c = room-is c.args.k c.requires c.in-Numbers.is

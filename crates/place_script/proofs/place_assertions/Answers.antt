@@ -6,7 +6,7 @@ use Rattle.place_script.specs.Placing.{placing-start, last-roots, last_none, not
 use Rattle.place_script.proofs.place_assertions.Goals as goal
 
 pub loop-a-init : goal.loop-a-init
-loop-a-init c = placing-start _ c.requires.2 c.requires.3 c.requires.4 c.requires.5 c.requires.6 c.requires.7
+loop-a-init c = placing-start _ c.requires.2 c.requires.3 c.requires.4 c.requires.5 c.requires.6 (omega arith)
 
 pub literal-requires : goal.literal-requires
 literal-requires c = (c.loop-a.invariant.reads c.loop-a.invariant.declarations c.loop-a.invariant.known).place
@@ -20,9 +20,9 @@ returns-in_err-z c =
     let p = err_from_is_err_and c.from_residual.result c.from_residual.ensures.1 in
     rw (p.1, p.2) (not-roots c.loop-a.invariant c.in-Some.a c.in-Some.ensures.1 _ c.in_err-z.ensures)
 
-pub returns-in-Constant : goal.returns-in-Constant
+pub returns-in_default-operand : goal.returns-in_default-operand
 unfolding bytes
-returns-in-Constant c = constant-roots c.loop-a.invariant c.in-Some.a c.in-Some.ensures.1 c.in_ok-z.z c.in_ok-z.ensures c.in-Constant.field-0 c.in-Constant.is
+returns-in_default-operand c = constant-roots c.loop-a.invariant c.in-Some.a c.in-Some.ensures.1 c.in_ok-z.z c.in_ok-z.ensures c.in_default-operand.field-0 c.in_default-operand.is
 
 pub returns-then-z-ne0 : goal.returns-then-z-ne0
 unfolding bytes

@@ -22,7 +22,7 @@ pub place_assertions-requires : goal.place_assertions-requires
 place_assertions-requires c =
     let a = c.in-Some.ensures c.requires.0 c.requires.1 c.requires.4 c.requires.5 in
     let b = c.in-Some-place_uncalled.ensures c.requires.0 (variables_only c.requires.0) c.requires.1 a.0 a.1 in
-    (c.requires.0, before_assertions c.args.flags.now c.requires.0, c.requires.1, b.0, b.1, variables-before c.args.flags.now c.requires.0, c.requires.6, c.requires.7)
+    (c.requires.0, before_assertions c.args.called.now c.requires.0, c.requires.1, b.0, b.1, variables-before c.args.called.now c.requires.0, c.requires.6)
 
 pub returns : goal.returns
 returns c = record {
@@ -30,5 +30,5 @@ returns c = record {
   placed = λ D ts r.
       let a = c.in-Some.ensures D r.known r.held r.stacked in
       let b = c.in-Some-place_uncalled.ensures D (variables_only D) r.known a.0 a.1 in
-      script-roots r _ _ c.place_assertions.result (c.place_assertions.ensures.placed D ts (before_assertions c.args.flags.now D) (asserted r _ b.0 b.1));
+      script-roots r _ _ c.place_assertions.result (c.place_assertions.ensures.placed D ts (before_assertions c.args.called.now D) (asserted r _ b.0 b.1));
 }

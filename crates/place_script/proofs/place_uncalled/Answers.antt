@@ -10,11 +10,8 @@ overflow_sub-n c = omega (arith, c.requires.2.functions)
 pub loop-g-init : goal.loop-g-init
 loop-g-init c = λ D first κ h k. uncalling-start D h k
 
-pub offset_bounds-flags-g : goal.offset_bounds-flags-g
-offset_bounds-flags-g c = omega (arith, c.requires.2.functions, c.requires.4, c.loop-g-test.true)
-
-pub bounds-flags-g : goal.bounds-flags-g
-bounds-flags-g c = omega (arith, c.requires.2.functions, c.requires.4, c.loop-g-test.true)
+pub bounds-called-g : goal.bounds-called-g
+bounds-called-g c = omega (arith, c.requires.2.functions, c.requires.4, c.loop-g-test.true)
 
 pub function_at-f-requires : goal.function_at-f-requires
 function_at-f-requires c = ((c.requires.0, c.requires.2), c.requires.3, omega (arith, c.requires.2.functions, c.loop-g-test.true))
@@ -24,15 +21,15 @@ call_on_zeros-requires c = ((function_at c.requires.0 c.loop-g.g).arguments, ((c
 
 pub returns-in_err-call_on_zeros : goal.returns-in_err-call_on_zeros
 returns-in_err-call_on_zeros c =
-    λ D first κ h k. rw c.from_residual.ensures (function-over (c.loop-g.invariant D first κ h k) (omega (arith, κ.functions, c.loop-g-test.true)) c.if-flags-g-ne0.false (function_at D c.loop-g.g).arguments c.function_at-f.result.width refl (c.function_at-f.ensures D κ).1
+    λ D first κ h k. rw c.from_residual.ensures (function-over (c.loop-g.invariant D first κ h k) (omega (arith, κ.functions, c.loop-g-test.true)) c.if-called-g.false (function_at D c.loop-g.g).arguments c.function_at-f.result.width refl (c.function_at-f.ensures D κ).1
     c.call_on_zeros.new.heap c.call_on_zeros.result c.in_err-call_on_zeros.was (c.call_on_zeros.ensures (function_at D c.loop-g.g).arguments (c.loop-g.invariant D first κ h k).now (c.function_at-f.ensures D κ).0 (c.loop-g.invariant D first κ h k).held (c.loop-g.invariant D first κ h k).stacked))
 
-pub loop-g-preserved-then-flags-g-ne0 : goal.loop-g-preserved-then-flags-g-ne0
-loop-g-preserved-then-flags-g-ne0 c = λ D first κ h k. function-called (c.loop-g.invariant D first κ h k) (omega (arith, κ.functions, c.loop-g-test.true)) c.if-flags-g-ne0.true
+pub loop-g-preserved-then-called-g : goal.loop-g-preserved-then-called-g
+loop-g-preserved-then-called-g c = λ D first κ h k. function-called (c.loop-g.invariant D first κ h k) (omega (arith, κ.functions, c.loop-g-test.true)) c.if-called-g.true
 
 pub loop-g-preserved : goal.loop-g-preserved
 loop-g-preserved c =
-    λ D first κ h k. function-zeros (c.loop-g.invariant D first κ h k) (omega (arith, κ.functions, c.loop-g-test.true)) c.if-flags-g-ne0.false (function_at D c.loop-g.g).arguments c.function_at-f.result.width refl (c.function_at-f.ensures D κ).1
+    λ D first κ h k. function-zeros (c.loop-g.invariant D first κ h k) (omega (arith, κ.functions, c.loop-g-test.true)) c.if-called-g.false (function_at D c.loop-g.g).arguments c.function_at-f.result.width refl (c.function_at-f.ensures D κ).1
     c.call_on_zeros.new.heap c.call_on_zeros.result _ c.in_ok-call_on_zeros.was (c.call_on_zeros.ensures (function_at D c.loop-g.g).arguments (c.loop-g.invariant D first κ h k).now (c.function_at-f.ensures D κ).0 (c.loop-g.invariant D first κ h k).held (c.loop-g.invariant D first κ h k).stacked)
 
 pub returns : goal.returns

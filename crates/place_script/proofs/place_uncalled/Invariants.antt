@@ -8,4 +8,4 @@ use Rattle.place_script.specs.Uncalled.{Uncalling}
 use Rattle.place_script.proofs.place_uncalled.Given as goal
 
 abbrev pub invariant-loop-g : goal.invariant-loop-g
-invariant-loop-g l = (D : Declarations) (first : List Item) → Declares l.script D → Held l.initial.heap first → Stacked l.script.text.now l.initial.heap [] → Uncalling l.script.text.now l.flags l.heap D first l.g
+invariant-loop-g l = (D : Declarations) (first : List Item) → Declares l.script D → Held l.initial.heap first → Stacked l.script.text.now l.initial.heap [] → Uncalling l.script.text.now l.called l.heap D first l.g

@@ -1,17 +1,17 @@
 -- `replay_trace::printing` meets its contract. Assumes nothing.
-use native.Mathlib.Omega.{arith}
-use Rattle.lent.specs.Arrays.{problem_at}
-use Rattle.echo_spec.specs.Input.{query_of}
-use Rattle.echo_spec.specs.Answers.{script, endless_refusal}
-use Rattle.echo_kernel.proofs.Answering.{outcome-refused, outcome-done}
+use Rattle.std.proofs.Common.{◌≡◌, sym, ◌∙◌, arith, rules}
+use Rattle.refusals.specs.Numbers.{refused, error_number}
+use Rattle.lent.specs.Lent.{problem_at}
 use Rattle.replay_trace.proofs.Replaying.{many-roots, then-printing}
 use Rattle.replay_trace.proofs.printing.Goals as goal
 
-pub returns-then-count-gt-MAX_MASK : goal.returns-then-count-gt-MAX_MASK
-returns-then-count-gt-MAX_MASK c = many-roots (problem_at c.args.bytes.now c.args.numbers.now) (omega (arith, c.if-count-gt-MAX_MASK.true, c.count.ensures))
+pub returns-then-problem-gt-MAX_MASK : goal.returns-then-problem-gt-MAX_MASK
+returns-then-problem-gt-MAX_MASK c = many-roots (problem_at c.args.problem.now) (omega arith)
 
-pub returns-in-Refused : goal.returns-in-Refused
-returns-in-Refused c = then-printing (problem_at c.args.bytes.now c.args.numbers.now) (omega (arith, c.if-count-gt-MAX_MASK.false, c.count.ensures)) (outcome-refused (endless_refusal (problem_at c.args.bytes.now c.args.numbers.now)) (script (query_of (problem_at c.args.bytes.now c.args.numbers.now))) c.checked.ensures c.in-Refused.is).0
+pub returns-in_err-checked : goal.returns-in_err-checked
+returns-in_err-checked c =
+    let e : refused c.from_residual.result ≡ error_number c.in_err-checked.field-0.0 = search rules in
+    then-printing (problem_at c.args.problem.now) (omega arith) (sym (e ∙ c.in_err-checked.ensures.told))
 
-pub returns-in-Done : goal.returns-in-Done
-returns-in-Done c = then-printing (problem_at c.args.bytes.now c.args.numbers.now) (omega (arith, c.if-count-gt-MAX_MASK.false, c.count.ensures)) (outcome-done (endless_refusal (problem_at c.args.bytes.now c.args.numbers.now)) (script (query_of (problem_at c.args.bytes.now c.args.numbers.now))) c.checked.ensures c.in-Done.is).0
+pub returns : goal.returns
+returns c = then-printing (problem_at c.args.problem.now) (omega arith) c.in_ok-checked.ensures.told.0

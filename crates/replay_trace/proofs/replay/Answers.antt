@@ -1,28 +1,44 @@
 -- `replay_trace::replay` meets its contract. Assumes nothing.
-use lib.ListN.{length}
-use Rattle.lent.specs.Arrays.{problem_at}
-use Rattle.sliver_kernel.specs.Pass.{passed_length, passed-within}
-use Rattle.trace_theorems.specs.Accepting.{bytes-few}
-use Rattle.replay_trace.proofs.Replaying.{printed-first, first-listed, by_first, refuses, widths-are}
+use Rattle.std.proofs.Common.{◌≡◌, Err, length, arith, rules}
+use Rattle.lent.specs.Lent.{problem_at}
+use Rattle.replay_trace.specs.Errors.{Refused}
+use Rattle.replay_trace.proofs.Replaying.{few_nodes, by_first, by-later, ran-refused, passes, widths-are, measured-at}
 use Rattle.replay_trace.proofs.replay.Goals as goal
 
-pub outcome-requires : goal.outcome-requires
-outcome-requires c = first-listed (problem_at c.args.bytes.now c.args.numbers.now) c.printing-e.ensures
+pub returns-in_err-printing : goal.returns-in_err-printing
+returns-in_err-printing c =
+    let p = problem_at c.args.problem.now in
+    let e : c.from_residual.result ≡ Err (Refused c.in_err-printing.field-0.0) = search rules in
+    ran-refused p c.args.values.now c.args.masks.now c.args.counts.now c.args.masks.now c.args.counts.now e
+    (by_first p c.args.values.now (length c.args.masks.now) (length c.args.counts.now) c.in_err-printing.field-0.0 c.in_err-printing.ensures)
 
-pub returns-then-e-gt0 : goal.returns-then-e-gt0
-returns-then-e-gt0 c = refuses (problem_at c.args.bytes.now c.args.numbers.now) c.args.values.now c.args.masks.now c.args.counts.now (by_first (problem_at c.args.bytes.now c.args.numbers.now) c.args.values.now (length c.args.masks.now) (length c.args.counts.now) c.printing-e.ensures c.if-e-gt0.true) c.if-e-gt0.true c.outcome.ensures c.clear_numbers.ensures c.clear_numbers-then-e-gt0.ensures
+pub widths-count-requires : goal.widths-count-requires
+widths-count-requires c = few_nodes (problem_at c.args.problem.now) c.in_ok-printing.ensures
 
-pub widths-n-requires : goal.widths-n-requires
-widths-n-requires c = bytes-few (problem_at c.args.bytes.now c.args.numbers.now) (printed-first (problem_at c.args.bytes.now c.args.numbers.now) c.printing-e.ensures c.if-e-gt0.false).1
+pub invariant_of-terms : goal.invariant_of-terms
+invariant_of-terms c = let p = problem_at c.args.problem.now in record { measured = measured-at p (widths-are p c.in_ok-printing.ensures c.widths-count.ensures) }
 
-pub slice_bounds-ws-end : goal.slice_bounds-ws-end
-slice_bounds-ws-end c = passed-within c.widths-n.ensures
+pub tracing-requires : goal.tracing-requires
+tracing-requires c = widths-are (problem_at c.args.problem.now) c.in_ok-printing.ensures c.widths-count.ensures
 
-pub slice_bounds-with_widths-end : goal.slice_bounds-with_widths-end
-slice_bounds-with_widths-end c = passed_length c.widths-n.ensures
+pub returns-in_err-tracing : goal.returns-in_err-tracing
+returns-in_err-tracing c =
+    let p = problem_at c.args.problem.now in
+    let e : c.from_residual-in_err-tracing.result ≡ Err c.in_err-tracing.field-0.0 = search rules in
+    ran-refused p c.args.values.now c.args.masks.now c.args.counts.now c.args.masks.now c.args.counts.now e
+    (by-later p c.args.values.now (length c.args.masks.now) (length c.args.counts.now) c.in_ok-printing.ensures c.row_count-n.ensures c.in_err-tracing.ensures)
 
-pub with_widths-requires : goal.with_widths-requires
-with_widths-requires c = record {
-  fact_1 = widths-are (problem_at c.args.bytes.now c.args.numbers.now) c.printing-e.ensures c.if-e-gt0.false (rw c.size.ensures at c.widths-n.ensures);
-  fact_2 = record { roots = (printed-first (problem_at c.args.bytes.now c.args.numbers.now) c.printing-e.ensures c.if-e-gt0.false).0; words = c.requires };
-}
+pub evaluate-requires-clause-widths : goal.evaluate-requires-clause-widths
+evaluate-requires-clause-widths c = widths-are (problem_at c.args.problem.now) c.in_ok-printing.ensures c.widths-count.ensures
+
+pub evaluate-requires-clause-traceable : goal.evaluate-requires-clause-traceable
+evaluate-requires-clause-traceable c =
+    passes (problem_at c.args.problem.now) c.args.values.now c.in_ok-printing.ensures (record { at = λ k. omega (arith, c.type_inv.values k) }) c.row_count-n.ensures
+    c.in_ok-tracing.ensures
+
+pub returns : goal.returns
+returns c = (
+  by-later (problem_at c.args.problem.now) c.args.values.now (length c.args.masks.now) (length c.args.counts.now) c.in_ok-printing.ensures c.row_count-n.ensures c.in_ok-tracing.ensures,
+  c.row_count-n.ensures,
+  c.evaluate.ensures,
+)

@@ -5,11 +5,11 @@ use lib.ListN.{drop}
 use Rattle.readback.specs.Rebuild.{function_number}
 use Rattle.script_tokens.specs.Reached.{between}
 use Rattle.script_decls.specs.Going.{named-of}
-use Rattle.script_calls.specs.Scan.{no-first, no_second, scan-start, scan-more, flagged, flagged-all, ones-more}
+use Rattle.script_calls.specs.Scan.{no-first, no_second, scan-start, scan-more, flagged, flagged-all, flags-more}
 use Rattle.script_calls.proofs.called_in.Goals as goal
 
 pub loop-done-init : goal.loop-done-init
-loop-done-init c = (c.requires.1, λ D κ. scan-start c.args.script.now.text.now D c.args.from c.args.flags.now c.requires.2, omega arith, λ g l. absurd (omega arith))
+loop-done-init c = (c.requires.1, λ D κ. scan-start c.args.script.now.text.now D c.args.from, omega arith, λ g l. absurd (omega arith))
 
 pub name_end-requires : goal.name_end-requires
 name_end-requires c = c.loop-done.invariant.0
@@ -24,10 +24,10 @@ pub returns-in_default-name_end : goal.returns-in_default-name_end
 returns-in_default-name_end c = λ D ts κ x. flagged κ c.args.from c.loop-done.p c.loop-done.flags ts x (c.loop-done.invariant.1 D κ) (no_second (drop c.loop-done.p c.args.script.now.text.now) _ _ (named-of c.args.script.now.text.now c.loop-done.p c.in-Some.ensures).read c.in_default-name_end.ensures)
 
 pub flag_name-requires : goal.flag_name-requires
-flag_name-requires c = (c.requires.0, (named-of c.args.script.now.text.now c.in-Some.a c.in-Some-name_end.ensures), (c.loop-done.invariant.1 c.requires.0.0 c.requires.0.1).long)
+flag_name-requires c = (c.requires.0, named-of c.args.script.now.text.now c.in-Some.a c.in-Some-name_end.ensures)
 
 pub unflagged_from-done-requires : goal.unflagged_from-done-requires
-unflagged_from-done-requires c = ((scan-more c.requires.0.1 c.args.from c.loop-done.p c.in-Some.a c.in-Some-name_end.f c.loop-done.flags _ (named-of c.args.script.now.text.now c.loop-done.p c.in-Some.ensures) (named-of c.args.script.now.text.now c.in-Some.a c.in-Some-name_end.ensures) (c.loop-done.invariant.1 c.requires.0.0 c.requires.0.1) (c.flag_name.ensures c.requires.0.0 c.requires.0.1)).long, c.loop-done.invariant.2, c.flag_count-n.ensures.0)
+unflagged_from-done-requires c = (c.loop-done.invariant.2, c.flag_count-n.ensures.0)
 
 pub loop-done-smaller : goal.loop-done-smaller
 loop-done-smaller c = omega (arith, (named-of c.args.script.now.text.now c.loop-done.p c.in-Some.ensures).low, (named-of c.args.script.now.text.now c.loop-done.p c.in-Some.ensures).high, (named-of c.args.script.now.text.now c.in-Some.a c.in-Some-name_end.ensures).low, (named-of c.args.script.now.text.now c.in-Some.a c.in-Some-name_end.ensures).high)
@@ -37,7 +37,7 @@ loop-done-preserved c = (
   (named-of c.args.script.now.text.now c.in-Some.a c.in-Some-name_end.ensures).high,
   λ D κ. scan-more κ c.args.from c.loop-done.p c.in-Some.a c.in-Some-name_end.f c.loop-done.flags _ (named-of c.args.script.now.text.now c.loop-done.p c.in-Some.ensures) (named-of c.args.script.now.text.now c.in-Some.a c.in-Some-name_end.ensures) (c.loop-done.invariant.1 D κ) (c.flag_name.ensures D κ),
   c.unflagged_from-done.ensures.0,
-  ones-more (function_number c.requires.0.0 (between c.args.script.now.text.now c.in-Some.a (c.in-Some-name_end.f - 1))) c.loop-done.flags c.loop-done.done (c.flag_name.ensures c.requires.0.0 c.requires.0.1)
+  flags-more (function_number c.requires.0.0 (between c.args.script.now.text.now c.in-Some.a (c.in-Some-name_end.f - 1))) c.loop-done.flags c.loop-done.done (c.flag_name.ensures c.requires.0.0 c.requires.0.1)
       (omega (arith, c.loop-done.invariant.2, c.flag_count-n.ensures.0, (c.loop-done.invariant.1 c.requires.0.0 c.requires.0.1).long)) c.loop-done.invariant.3 c.unflagged_from-done.ensures.1,
 )
 

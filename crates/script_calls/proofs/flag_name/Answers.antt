@@ -11,7 +11,7 @@ pub returns-then-g-lt-FLAGS : goal.returns-then-g-lt-FLAGS
 returns-then-g-lt-FLAGS c = λ D κ. marks-function c.args.script.now.text.now D (between c.args.script.now.text.now c.args.a (c.args.f - 1)) c.args.flags.now (c.in-Some.ensures D κ) c.in-Function.is
 
 pub returns-else-g-lt-FLAGS : goal.returns-else-g-lt-FLAGS
-returns-else-g-lt-FLAGS c = λ D κ. marks-past c.args.script.now.text.now D (between c.args.script.now.text.now c.args.a (c.args.f - 1)) c.args.flags.now (c.in-Some.ensures D κ) c.in-Function.is (omega (arith, c.requires.2, c.if-g-lt-FLAGS.false))
+returns-else-g-lt-FLAGS c = λ D κ. marks-past c.args.script.now.text.now D (between c.args.script.now.text.now c.args.a (c.args.f - 1)) c.args.flags.now (c.in-Some.ensures D κ) c.in-Function.is (omega (arith, c.if-g-lt-FLAGS.false))
 
 pub returns-in-Array : goal.returns-in-Array
 returns-in-Array c = λ D κ. marks-array c.args.script.now.text.now D (between c.args.script.now.text.now c.args.a (c.args.f - 1)) c.args.flags.now (c.in-Some.ensures D κ) c.in-Array.is

@@ -8,16 +8,16 @@ use Rattle.script_decls.specs.Going.{no_way, name-bytes, name-first, name-reserv
 use Rattle.script_decls.proofs.declare.Goals as goal
 
 pub returns-then-not-bytes_ok : goal.returns-then-not-bytes_ok
-returns-then-not-bytes_ok c = (name-bytes (names_to (drop c.args.first c.args.s.now) c.args.count) (between c.args.s.now c.args.a (c.args.f - 1)) c.bytes_ok.ensures c.if-not-bytes_ok.true, no_way)
+returns-then-not-bytes_ok c = (name-bytes (names_to (drop c.args.lines.first c.args.s.now) c.args.lines.count) (between c.args.s.now c.args.a (c.args.f - 1)) c.bytes_ok.ensures c.if-not-bytes_ok.true, no_way)
 
 pub returns-then-not-first_ok : goal.returns-then-not-first_ok
-returns-then-not-first_ok c = (name-first (names_to (drop c.args.first c.args.s.now) c.args.count) (between c.args.s.now c.args.a (c.args.f - 1)) c.bytes_ok.ensures c.if-not-bytes_ok.false c.first_ok.ensures c.if-not-first_ok.true, no_way)
+returns-then-not-first_ok c = (name-first (names_to (drop c.args.lines.first c.args.s.now) c.args.lines.count) (between c.args.s.now c.args.a (c.args.f - 1)) c.bytes_ok.ensures c.if-not-bytes_ok.false c.first_ok.ensures c.if-not-first_ok.true, no_way)
 
 pub returns-then-is_reserved : goal.returns-then-is_reserved
-returns-then-is_reserved c = (name-reserved (names_to (drop c.args.first c.args.s.now) c.args.count) (between c.args.s.now c.args.a (c.args.f - 1)) c.bytes_ok.ensures c.if-not-bytes_ok.false c.first_ok.ensures c.if-not-first_ok.false c.is_reserved.ensures c.if-is_reserved.true, no_way)
+returns-then-is_reserved c = (name-reserved (names_to (drop c.args.lines.first c.args.s.now) c.args.lines.count) (between c.args.s.now c.args.a (c.args.f - 1)) c.bytes_ok.ensures c.if-not-bytes_ok.false c.first_ok.ensures c.if-not-first_ok.false c.is_reserved.ensures c.if-is_reserved.true, no_way)
 
 pub returns-in-Some : goal.returns-in-Some
-returns-in-Some c = (name-before (names_to (drop c.args.first c.args.s.now) c.args.count) (between c.args.s.now c.args.a (c.args.f - 1)) c.bytes_ok.ensures c.if-not-bytes_ok.false c.first_ok.ensures c.if-not-first_ok.false c.is_reserved.ensures c.if-is_reserved.false true (found_before c.args.s.now c.args.first c.args.count (between c.args.s.now c.args.a (c.args.f - 1)) c.in-Some.ensures), no_way)
+returns-in-Some c = (name-before (names_to (drop c.args.lines.first c.args.s.now) c.args.lines.count) (between c.args.s.now c.args.a (c.args.f - 1)) c.bytes_ok.ensures c.if-not-bytes_ok.false c.first_ok.ensures c.if-not-first_ok.false c.is_reserved.ensures c.if-is_reserved.false true (found_before c.args.s.now c.args.lines.first c.args.lines.count (between c.args.s.now c.args.a (c.args.f - 1)) c.in-Some.ensures), no_way)
 
 pub returns-in-None : goal.returns-in-None
-returns-in-None c = (name-before (names_to (drop c.args.first c.args.s.now) c.args.count) (between c.args.s.now c.args.a (c.args.f - 1)) c.bytes_ok.ensures c.if-not-bytes_ok.false c.first_ok.ensures c.if-not-first_ok.false c.is_reserved.ensures c.if-is_reserved.false false (not-before c.args.s.now c.args.first c.args.count (between c.args.s.now c.args.a (c.args.f - 1)) c.in-None.ensures), λ e. c.enter.ensures)
+returns-in-None c = (name-before (names_to (drop c.args.lines.first c.args.s.now) c.args.lines.count) (between c.args.s.now c.args.a (c.args.f - 1)) c.bytes_ok.ensures c.if-not-bytes_ok.false c.first_ok.ensures c.if-not-first_ok.false c.is_reserved.ensures c.if-is_reserved.false false (not-before c.args.s.now c.args.lines.first c.args.lines.count (between c.args.s.now c.args.a (c.args.f - 1)) c.in-None.ensures), λ e. c.enter.ensures)

@@ -6,13 +6,13 @@ use Rattle.script_decls.specs.Going.{stage-end, stage-bad, stage-more, ready-mor
 use Rattle.script_decls.proofs.read_lines.Goals as goal
 
 pub returns-then-not-declare : goal.returns-then-not-declare
-returns-then-not-declare c = c.loop-line.invariant.1 c.loop-line.t None (stage-bad (stage_number c.args.stage) c.args.s.now c.args.first c.loop-line.c c.loop-line.p c.in-Some.line.name c.in-Some.line.name_end c.in-Some.line.end c.in-Some.ensures c.loop-line.t (sym c.declare.ensures.0 ∙ c.if-not-declare.true))
+returns-then-not-declare c = c.loop-line.invariant.1 c.loop-line.t None (stage-bad (stage_number c.args.stage) c.args.s.now c.loop-line.so_far.first c.loop-line.so_far.count c.loop-line.p c.in-Some.line.name c.in-Some.line.name_end c.in-Some.line.end c.in-Some.ensures c.loop-line.t (sym c.declare.ensures.0 ∙ c.if-not-declare.true))
 
 pub loop-line-preserved : goal.loop-line-preserved
 loop-line-preserved c = (
-  ready-more (stage_number c.args.stage) c.args.s.now c.args.first c.loop-line.c c.loop-line.p c.in-Some.line.name c.in-Some.line.name_end c.in-Some.line.end c.in-Some.ensures c.loop-line.t _ c.loop-line.invariant.0 (c.declare.ensures.1 c.if-not-declare.false),
-  λ u r h. c.loop-line.invariant.1 u r (stage-more (stage_number c.args.stage) c.args.s.now c.args.first c.loop-line.c c.loop-line.p c.in-Some.line.name c.in-Some.line.name_end c.in-Some.line.end c.in-Some.ensures c.loop-line.t c.loop-line.t c.loop-line.invariant.0 u (sym c.declare.ensures.0 ∙ c.if-not-declare.false) r h),
+  ready-more (stage_number c.args.stage) c.args.s.now c.loop-line.so_far.first c.loop-line.so_far.count c.loop-line.p c.in-Some.line.name c.in-Some.line.name_end c.in-Some.line.end c.in-Some.ensures c.loop-line.t _ c.loop-line.invariant.0 (c.declare.ensures.1 c.if-not-declare.false),
+  λ u r h. c.loop-line.invariant.1 u r (stage-more (stage_number c.args.stage) c.args.s.now c.loop-line.so_far.first c.loop-line.so_far.count c.loop-line.p c.in-Some.line.name c.in-Some.line.name_end c.in-Some.line.end c.in-Some.ensures c.loop-line.t c.loop-line.t c.loop-line.invariant.0 u (sym c.declare.ensures.0 ∙ c.if-not-declare.false) r h),
 )
 
 pub returns : goal.returns
-returns c = c.loop-line.invariant.1 c.loop-line.t (Some (record { names = c.loop-line.c; end = c.loop-line.p })) (stage-end (stage_number c.args.stage) c.args.s.now c.args.first c.loop-line.t c.loop-line.c c.loop-line.p c.loop-line.invariant.0 c.in_default.ensures)
+returns c = c.loop-line.invariant.1 c.loop-line.t (Some (record { names = c.loop-line.so_far.count; end = c.loop-line.p })) (stage-end (stage_number c.args.stage) c.args.s.now c.loop-line.so_far.first c.loop-line.t c.loop-line.so_far.count c.loop-line.p c.loop-line.invariant.0 c.in_default.ensures)

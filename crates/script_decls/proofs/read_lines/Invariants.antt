@@ -8,7 +8,7 @@ use Rattle.script_decls.specs.Lines.{stage_number, Ready, StageTo}
 use Rattle.script_decls.proofs.read_lines.Given as goal
 
 abbrev pub invariant-loop-line : goal.invariant-loop-line
-invariant-loop-line l = Ready l.s l.first l.t l.c l.p × ((u : Table) (r : Option Lines) → StageTo (stage_number l.stage) l.s l.first l.c l.p u r → StageTo (stage_number l.stage) l.s l.first l.count l.at u r)
+invariant-loop-line l = Ready l.s l.so_far.first l.t l.so_far.count l.p × ((u : Table) (r : Option Lines) → StageTo (stage_number l.stage) l.s l.so_far.first l.so_far.count l.p u r → StageTo (stage_number l.stage) l.s l.fn.lines.first l.fn.lines.count l.at u r)
 
 abbrev pub decreases-loop-line : goal.decreases-loop-line
 decreases-loop-line l = length l.s - l.p

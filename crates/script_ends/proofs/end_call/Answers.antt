@@ -2,6 +2,7 @@
 use Rattle.std.proofs.Common.{◌++◌, map}
 use Rattle.readback.specs.Rebuild.{a_call, with_constants}
 use Rattle.heap_laws.specs.Heap.{pending_in}
+use Rattle.script_heap.specs.Laws.{told-own}
 use Rattle.script_ends.specs.Ends.{settle-fails, settle-done, ended-told, behind, nodes_of}
 use Rattle.script_ends.proofs.end_call.Goals as goal
 
@@ -20,4 +21,5 @@ returns c =
     λ s refs rs e.
     (let (h, k) = settle-done e c.settle_all.new.heap c.settle_all.result _ c.in_ok-settle_all.was (c.settle_all.ensures s (refs ++ rs) e.held e.stacked) in
     ended-told e (λ node. a_call c.args.g c.args.width (map node rs)) c.settle_all.new.heap c.add_call.new.heap c.add_call.result k
-    (c.add_call.ensures (with_constants (pending_in rs) s) c.args.script.now _ (nodes_of (with_constants (pending_in rs) s) rs) h k (behind refs (nodes_of (with_constants (pending_in rs) s) rs) c.args.base k e.below).0))
+    (told-own c.settle_all.new.heap c.add_call.new.heap c.args.base _ _ c.add_call.result c.add_call.ensures.bits
+    (c.add_call.ensures.told c.settle_all.new.heap.bits (with_constants (pending_in rs) s) c.args.script.now _ (nodes_of (with_constants (pending_in rs) s) rs) h k (behind refs (nodes_of (with_constants (pending_in rs) s) rs) c.args.base k e.below).0)))

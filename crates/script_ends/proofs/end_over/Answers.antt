@@ -5,11 +5,12 @@ use Rattle.readback.specs.Rebuild.{Item, an_operator, with_constants, node_of, p
 use Rattle.lent.specs.Records as records
 use Rattle.heap_laws.specs.Heap.{pending_in}
 use Rattle.script_heap.specs.Told.{Told}
+use Rattle.script_heap.specs.Laws.{told-own}
 use Rattle.script_ends.specs.Ends.{settle-fails, settle-done, ended-told, behind, nodes_of, operator_item, made-over}
 use Rattle.script_ends.proofs.end_over.Goals as goal
 
 pub returns-in_err-settle_all : goal.returns-in_err-settle_all
-returns-in_err-settle_all c = λ s refs rs ks ms e o. rw c.from_residual.ensures (settle-fails e (operator_item c.args.k ks rs ms) c.settle_all.new.heap c.settle_all.result c.in_err-settle_all.was (c.settle_all.ensures s (refs ++ rs) e.held e.stacked))
+returns-in_err-settle_all c = λ s refs rs ks ms e o. rw c.from_residual.ensures (settle-fails e (operator_item c.args.o.kind ks rs ms) c.settle_all.new.heap c.settle_all.result c.in_err-settle_all.was (c.settle_all.ensures s (refs ++ rs) e.held e.stacked))
 
 pub operand_or_zero-x-requires : goal.operand_or_zero-x-requires
 operand_or_zero-x-requires c =
@@ -44,8 +45,9 @@ returns c = λ s refs rs ks ms e o.
     let m = made-over rs o c.operand_or_zero-x.result c.operand_or_zero-y.result c.operand_or_zero-z.result
     (c.operand_or_zero-x.ensures c.args.script.now refs xs 0 k (omega (arith, e.below))) (c.operand_or_zero-y.ensures c.args.script.now refs xs 1 k (omega (arith, e.below)))
     (c.operand_or_zero-z.ensures c.args.script.now refs xs 2 k (omega (arith, e.below))) in
-    ended-told e (operator_item c.args.k ks rs ms) c.settle_all.new.heap c.add_operator.new.heap c.add_operator.result k
+    ended-told e (operator_item c.args.o.kind ks rs ms) c.settle_all.new.heap c.add_operator.new.heap c.add_operator.result k
+    (told-own c.settle_all.new.heap c.add_operator.new.heap c.args.base _ _ c.add_operator.result c.add_operator.ensures.bits
     (subst
     (λ (q : ℕ). node_with q (fields (shape_of q) ks xs ns) ≡ records.node_of c.operator_record-n.result
-    → Told c.settle_all.new.heap c.add_operator.new.heap c.args.base (t ++ (an_operator q ks xs ns ∷ [])) (length t) c.add_operator.result)
-    c.operator_record-n.ensures.0 (c.add_operator.ensures t ks xs ns h) (c.operator_record-n.ensures.1 ks xs ns m))
+    → Told c.settle_all.new.heap (record c.add_operator.new.heap { bits = c.settle_all.new.heap.bits }) c.args.base (t ++ (an_operator q ks xs ns ∷ [])) (length t) c.add_operator.result)
+    c.operator_record-n.ensures.0 (c.add_operator.ensures.told c.settle_all.new.heap.bits t ks xs ns h) (c.operator_record-n.ensures.1 ks xs ns m)))

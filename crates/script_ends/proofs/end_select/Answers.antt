@@ -3,6 +3,7 @@ use Rattle.std.proofs.Common.{◌*◌, ◌∙◌, ◌++◌, map, get_or, arith}
 use Rattle.std.proofs.lemmas.List.{length-map}
 use Rattle.readback.specs.Rebuild.{a_select, with_constants, node_of}
 use Rattle.heap_laws.specs.Heap.{pending_in, pairs_back}
+use Rattle.script_heap.specs.Laws.{told-own}
 use Rattle.script_ends.specs.Ends.{settle-fails, settle-done, ended-told, behind, nodes_of}
 use Rattle.script_ends.proofs.end_select.Goals as goal
 
@@ -20,5 +21,6 @@ returns c =
     λ s refs rs e l.
     (let (h, k) = settle-done e c.settle_all.new.heap c.settle_all.result _ c.in_ok-settle_all.was (c.settle_all.ensures s (refs ++ rs) e.held e.stacked) in
     ended-told e (λ node. a_select c.args.array (get_or (map node rs) (2 * c.args.stores) 0) (pairs_back c.args.stores (map node rs))) c.settle_all.new.heap c.add_select.new.heap c.add_select.result k
-    (c.add_select.ensures (with_constants (pending_in rs) s) c.args.script.now _ (nodes_of (with_constants (pending_in rs) s) rs) h k (behind refs (nodes_of (with_constants (pending_in rs) s) rs) c.args.base k e.below).0
-    (length-map rs (node_of (with_constants (pending_in rs) s)) ∙ l)))
+    (told-own c.settle_all.new.heap c.add_select.new.heap c.args.base _ _ c.add_select.result c.add_select.ensures.bits
+    (c.add_select.ensures.told c.settle_all.new.heap.bits (with_constants (pending_in rs) s) c.args.script.now _ (nodes_of (with_constants (pending_in rs) s) rs) h k (behind refs (nodes_of (with_constants (pending_in rs) s) rs) c.args.base k e.below).0
+    (length-map rs (node_of (with_constants (pending_in rs) s)) ∙ l))))

@@ -1,17 +1,18 @@
 -- `fill_arrays` meets its contract: the columns one after the other.
-use mathlib.Core.Path.{◌∙◌, ap, sym, subst}
-use Prim.Native.Nat.{ℕ}
-use native.Mathlib.Omega.{arith}
-use Rattle.script_entries.specs.Entries.{variables_of}
-use Rattle.script_fill.specs.Filling.{line_names, Lines, NamesFit}
-use Rattle.script_fill.specs.Turns.{filled-same, arrays-fit, array-lines}
+use Rattle.std.proofs.Common.{◌∙◌, refl, rules, arith}
+use Rattle.std.proofs.lemmas.List.{length-map}
+use Rattle.rebuilt.specs.Built.{no-array}
+use Rattle.script_fill.specs.Filling.{index_widths, value_widths}
+use Rattle.script_fill.specs.Laws.{column_at}
+use Rattle.script_fill.specs.Turns.{arrays-fit, array-lines}
 use Rattle.script_fill.proofs.fill_arrays.Goals as goal
 
-pub fill_names-requires : goal.fill_names-requires
-fill_names-requires c = λ e. subst (λ (k : ℕ). Lines c.args.script.now.text.now c.args.script.now.table.now (variables_of c.args.script.now.header) k × NamesFit (line_names c.args.script.now.text.now c.args.script.now.table.now (variables_of c.args.script.now.header) k) c.args.names.now c.args.starts.now c.args.lengths.now) (sym c.lines_between-count.ensures) (arrays-fit (c.requires e).1 (c.requires e).2)
-
-pub fill_array_widths-requires : goal.fill_array_widths-requires
-fill_array_widths-requires c = λ e. (((c.requires e).0, (c.requires e).1), omega (arith, c.lines_between-count.ensures, (c.requires e).1.known.arrays), omega (arith, c.lines_between-count.ensures, (c.requires e).1.known.arrays, (c.requires e).2.index), omega (arith, c.lines_between-count.ensures, (c.requires e).1.known.arrays, (c.requires e).2.value))
+pub put_names-requires : goal.put_names-requires
+put_names-requires c = let x = arrays-fit c.requires.1 c.requires.2 in record { lines = x.0; room = x.1 }
 
 pub returns : goal.returns
-returns c = λ D f. record { named = filled-same (λ e. ap (line_names c.args.script.now.text.now c.args.script.now.table.now (variables_of c.args.script.now.header)) c.lines_between-count.ensures ∙ array-lines (f e)) c.fill_names.ensures; index = (c.fill_array_widths.ensures D f).0; value = (c.fill_array_widths.ensures D f).1 }
+returns c = λ D f. record {
+  named = rw (← array-lines f) c.put_names.ensures;
+  index = c.put_numbers.ensures (index_widths D) (length-map D.arrays _ ∙ omega (arith, f.known.arrays)) (λ i x h p. column_at _ no-array refl D.arrays i ∙ search rules);
+  value = c.put_numbers-2.ensures (value_widths D) (length-map D.arrays _ ∙ omega (arith, f.known.arrays)) (λ i x h p. column_at _ no-array refl D.arrays i ∙ search rules);
+}

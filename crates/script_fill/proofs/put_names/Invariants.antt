@@ -1,5 +1,4 @@
 -- `put_names` meets its contract: the first i names are written, and the next goes to place `at`.
-use Prim.Native.Nat.{◌-◌, ◌≤◌}
 use Rattle.script_fill.specs.Turns.{Written}
 use Rattle.script_fill.proofs.put_names.Given as goal
 

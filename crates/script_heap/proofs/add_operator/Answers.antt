@@ -6,6 +6,6 @@ use Rattle.heap_laws.specs.Adding.{plain-operator}
 use Rattle.script_heap.specs.Laws.{told-record, top-heap}
 use Rattle.script_heap.proofs.add_operator.Goals as goal
 
-pub returns : goal.returns
+pub returns-clause-told : goal.returns-clause-told
 unfolding side_in record_of
-returns c = λ s ks xs ms h e. told-record h (an_operator c.args.n.kind ks xs ms) (plain-operator c.args.n.kind ks xs ms) [] c.args.base refl (omega (arith, h.side_count, (within-parts s h.inside).side)) _ _ _ c.add_record.result (top-heap c.args.heap.now c.args.base) (sym e) c.add_record.ensures
+returns-clause-told c = λ bits s ks xs ms h e. told-record c.args.heap.now h (an_operator c.args.n.kind ks xs ms) (plain-operator c.args.n.kind ks xs ms) [] c.args.base refl (omega (arith, h.side_count, (within-parts s h.inside).side)) _ _ _ c.add_record.result (top-heap c.args.heap.now c.args.base) (sym e) c.add_record.ensures.recorded

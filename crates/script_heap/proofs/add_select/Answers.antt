@@ -6,8 +6,8 @@ use Rattle.script_heap.proofs.add_select.Goals as goal
 pub overflow_sub-side : goal.overflow_sub-side
 overflow_sub-side c = omega (arith, side-room c.requires.holds.1.1)
 
-pub returns-then-stores-side : goal.returns-then-stores-side
-returns-then-stores-side c = λ s script refs xs h w e l. select-over h script w c.args.base xs (size_low c.args.base (2 * c.args.stores) xs w e l) e c.args.stores l c.args.array c.if-stores-side.true
+pub returns-then-stores-side-clause-told : goal.returns-then-stores-side-clause-told
+returns-then-stores-side-clause-told c = λ bits s script refs xs h w e l. select-over c.args.heap.now h script w c.args.base xs (size_low c.args.base (2 * c.args.stores) xs w e l) e c.args.stores l c.args.array c.if-stores-side.true
 
 pub copy_pairs-requires : goal.copy_pairs-requires
 copy_pairs-requires c = record {
@@ -18,5 +18,5 @@ copy_pairs-requires c = record {
 pub overflow_add-heap : goal.overflow_add-heap
 overflow_add-heap c = omega (arith, side-room c.requires.holds.1.1)
 
-pub returns : goal.returns
-returns c = λ s script refs xs h w e l. told-select h script w c.args.base xs (size_low c.args.base (2 * c.args.stores) xs w e l) e c.args.stores l c.args.array c.operand-index.result _ _ c.add_record.result c.if-stores-side.false c.operand-index.ensures.half c.copy_pairs.ensures c.add_record.ensures
+pub returns-clause-told : goal.returns-clause-told
+returns-clause-told c = λ bits s script refs xs h w e l. told-select c.args.heap.now h script w c.args.base xs (size_low c.args.base (2 * c.args.stores) xs w e l) e c.args.stores l c.args.array c.operand-index.result _ _ c.add_record.result c.if-stores-side.false c.operand-index.ensures.half c.copy_pairs.ensures c.add_record.ensures.recorded

@@ -6,6 +6,8 @@ use Rattle.heap_laws.specs.Adding.{plain-variable}
 use Rattle.script_heap.specs.Laws.{told-record, same_heap}
 use Rattle.script_heap.proofs.add_variable.Goals as goal
 
-pub returns : goal.returns
+pub returns-clause-told : goal.returns-clause-told
 unfolding side_in record_of
-returns c = λ s h. told-record h (a_variable c.args.width) (plain-variable c.args.width) [] _ refl (omega (arith, h.side_count, (within-parts s h.inside).side)) _ _ _ c.add_record.result (same_heap _) refl c.add_record.ensures
+returns-clause-told c =
+    λ bits s h. told-record c.args.heap.now h (a_variable c.args.width) (plain-variable c.args.width) [] _ refl (omega (arith, h.side_count, (within-parts s h.inside).side)) _ _ _ c.add_record.result (same_heap _) refl
+    c.add_record.ensures.recorded

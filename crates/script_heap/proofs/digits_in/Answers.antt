@@ -7,7 +7,7 @@ pub overflow_sub-n : goal.overflow_sub-n
 overflow_sub-n c = c.requires.digits.low
 
 pub loop-i-init : goal.loop-i-init
-loop-i-init c = λ long. digits-none c.args.s.now c.args.bits.now c.args.at c.args.e
+loop-i-init c = digits-none c.args.s.now c.args.bits.now c.args.at c.args.e
 
 pub overflow_add-bits : goal.overflow_add-bits
 overflow_add-bits c = omega (arith, c.requires.digits.high (omega arith))
@@ -20,8 +20,8 @@ overflow_sub-bits c = digit_low c.args.s.now c.args.p c.args.e (c.requires.digit
 
 pub loop-i-preserved : goal.loop-i-preserved
 loop-i-preserved c =
-    λ long. digits_more c.args.s.now c.args.bits.now c.args.at c.args.p c.args.e c.requires.digits.low (c.requires.digits.high (omega arith)) (omega (arith, long, c.requires.room)) c.loop-i.i (omega arith) (c.loop-i.invariant long)
+    digits_more c.args.s.now c.args.bits.now c.args.at c.args.p c.args.e c.requires.digits.low (c.requires.digits.high (omega arith)) c.requires.room c.loop-i.i (omega arith) c.loop-i.invariant
 
 pub returns : goal.returns
 returns c =
-    λ long. digits-all c.args.s.now c.args.bits.now c.args.at c.args.p c.args.e c.loop-i.i c.requires.digits.low (omega arith) (c.loop-i.invariant long)
+    digits-all c.args.s.now c.args.bits.now c.args.at c.args.p c.args.e c.loop-i.i c.requires.digits.low (omega arith) c.loop-i.invariant

@@ -1,5 +1,4 @@
 -- `find_bits` meets its contract: at each turn the constant, if it has a node, stands before the node that is next in the chain.
-use Prim.Native.Nat.{ℕ}
 use mathlib.Core.List.{List}
 use lib.ListN.{take, drop}
 use Rattle.readback.specs.Rebuild.{Item}

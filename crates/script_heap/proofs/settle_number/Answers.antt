@@ -10,13 +10,13 @@ pub returns-then-w-gt-MAX_BITS : goal.returns-then-w-gt-MAX_BITS
 returns-then-w-gt-MAX_BITS c = λ s h. over-wide (low_bits c.args.width c.args.value) s (omega (arith, length-low-bits c.args.width c.args.value, c.if-w-gt-MAX_BITS.true))
 
 pub number_in-requires : goal.number_in-requires
-number_in-requires c = omega (arith, bit-room c.requires.1, c.if-w-gt-MAX_BITS.false)
+number_in-requires c = omega (arith, bit-room c.requires.1, c.requires.1.bits-long, c.if-w-gt-MAX_BITS.false)
 
 pub settle-requires : goal.settle-requires
 settle-requires c = record {
-  holds = (c.requires.0, held-filled c.requires.1 _ (low_bits c.args.width c.args.value) c.args.width c.if-w-gt-MAX_BITS.false (length-low-bits c.args.width c.args.value) c.number_in.ensures);
+  holds = (c.requires.0, held-filled c.requires.1 _ (low_bits c.args.width c.args.value) c.args.width c.if-w-gt-MAX_BITS.false (length-low-bits c.args.width c.args.value) (λ _. c.number_in.ensures));
   few = c.if-w-gt-MAX_BITS.false;
 }
 
 pub returns : goal.returns
-returns c = λ s h. told-filled h _ (low_bits c.args.width c.args.value) c.args.width c.if-w-gt-MAX_BITS.false (length-low-bits c.args.width c.args.value) c.number_in.ensures c.settle.new.heap c.settle.result (c.settle.ensures s (held-filled h _ (low_bits c.args.width c.args.value) c.args.width c.if-w-gt-MAX_BITS.false (length-low-bits c.args.width c.args.value) c.number_in.ensures))
+returns c = λ s h. told-filled h _ (low_bits c.args.width c.args.value) c.args.width c.if-w-gt-MAX_BITS.false (length-low-bits c.args.width c.args.value) (λ _. c.number_in.ensures) c.settle.new.heap c.settle.result (c.settle.ensures s (held-filled h _ (low_bits c.args.width c.args.value) c.args.width c.if-w-gt-MAX_BITS.false (length-low-bits c.args.width c.args.value) (λ _. c.number_in.ensures)))

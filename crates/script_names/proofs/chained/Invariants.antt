@@ -6,7 +6,7 @@ use Rattle.script_names.specs.Laws.{Walked}
 use Rattle.script_names.proofs.chained.Given as goal
 
 abbrev pub invariant-loop-c : goal.invariant-loop-c
-invariant-loop-c l = Walked (drop l.first l.s) (between l.s l.a (l.f - 1)) l.count l.c
+invariant-loop-c l = Walked (drop l.fn.lines.first l.s) (between l.s l.a (l.f - 1)) l.fn.lines.count l.c
 
 abbrev pub decreases-loop-c : goal.decreases-loop-c
 decreases-loop-c l = l.c

@@ -6,4 +6,4 @@ use Rattle.script_names.specs.Entries.{entry_from, name_at}
 use Rattle.script_names.proofs.scanned.Given as goal
 
 abbrev pub invariant-loop-k : goal.invariant-loop-k
-invariant-loop-k l = (l.p ≤ length l.s) × (drop l.p l.s ≡ entry_from l.k (drop l.first l.s)) × ((j : ℕ) → j < l.k → same (between l.s l.a (l.f - 1)) (name_at (drop l.first l.s) j) ≡ false)
+invariant-loop-k l = (l.p ≤ length l.s) × (drop l.p l.s ≡ entry_from l.k (drop l.fn.lines.first l.s)) × ((j : ℕ) → j < l.k → same (between l.s l.a (l.f - 1)) (name_at (drop l.fn.lines.first l.s) j) ≡ false)

@@ -1,13 +1,13 @@
 -- `place` meets its contract, by the laws of `Going` and `Turning`. The measure is what is left of the script; at each turn of the loop the operands up to the place reached are placed.
-use Rattle.std.proofs.Common.{ℕ, List, [], subst, arith}
+use Rattle.std.proofs.Common.{◌≡◌, [], subst, arith}
 use Rattle.std.proofs.lemmas.Result.{err_from_is_err_and}
 use Rattle.heap_laws.specs.Within.{within-parts}
 use Rattle.script_terms.specs.TurnLaws.{held-usable}
 use Rattle.script_terms.specs.OperandLaws.{not-zero}
-use Rattle.script_place.specs.Terms.{OpenedTo, BegunTo}
-use Rattle.script_place.specs.Going.{open-opens, done_at, nothing-at}
+use Rattle.script_place.specs.Terms.{BegunTo}
+use Rattle.script_place.specs.Going.{open-opens, done_at, nothing-at, deep-at}
 use Rattle.script_place.specs.Loop.{alone-ending}
-use Rattle.script_place.specs.Turning.{few-ready, ready-pushable, opened-not, alone_at, turning-start, asking, turn-not, turn-over, turn-next, end_none, end-closes, end-placed}
+use Rattle.script_place.specs.Turning.{ready-pushable, alone_at, turning-start, asking, turn-not, turn-over, turn-next, end_none, end-closes, end-placed}
 use Rattle.script_place.proofs.+place.Goals as goal
 
 pub head_at-requires : goal.head_at-requires
@@ -22,22 +22,26 @@ returns-in_default t c = nothing-at c.in_default.ensures
 pub end_call-r-requires : goal.end_call-r-requires
 end_call-r-requires t c = (c.requires.2.items, c.requires.2.refs, [], alone-ending c.requires.2)
 
-pub opening-requires : goal.opening-requires
-opening-requires t c = record {
-  script = c.args.script.now.text.now;
-  declarations = c.requires.0;
-  head = c.in-Some.ensures c.requires.0 c.requires.1;
-  few = c.requires.2.few;
-  count = (let b = (within-parts c.requires.2.items c.requires.2.held.inside).nodes in let d = c.requires.2.held.count in omega arith);
-}
+pub overflow_add-heap : goal.overflow_add-heap
+overflow_add-heap t c =
+    let b = (within-parts c.requires.2.items c.requires.2.held.inside).nodes in
+    let d = c.requires.2.held.count in
+    let f = c.requires.2.few in
+    omega arith
 
-pub returns-in_err-o-in-Open : goal.returns-in_err-o-in-Open
-returns-in_err-o-in-Open t c =
-    let p = err_from_is_err_and c.from_residual.result c.from_residual.ensures.1 in
-    rw (p.1, p.2) (opened-not c.in-Some.x c.in-Some.ensures (open-opens c.args.at c.in-Some.x (subst (BegunTo c.in-Some.x c.args.at) c.in-Open.is c.begin-y.ensures)) _ c.in_err-o-in-Open.ensures)
+pub returns-then-heap-levels-ge2048 : goal.returns-then-heap-levels-ge2048
+returns-then-heap-levels-ge2048 t c = deep-at c.in-Some.x c.in-Some.ensures (open-opens c.args.at c.in-Some.x (subst (BegunTo c.in-Some.x c.args.at) c.in-Open.is c.begin-y.ensures)) c.if-heap-levels-ge2048.true
+
+pub head_state-o-requires : goal.head_state-o-requires
+head_state-o-requires t c = (c.args.script.now.text.now, c.requires.0, c.in-Some.ensures c.requires.0 c.requires.1)
 
 pub loop-w-init : goal.loop-w-init
-loop-w-init t c = turning-start c.requires.1 c.requires.2 c.in-Some.x c.in-Some.ensures (open-opens c.args.at c.in-Some.x (subst (BegunTo c.in-Some.x c.args.at) c.in-Open.is c.begin-y.ensures)) c.in_ok-o-in-Open.o c.in_ok-o-in-Open.ensures
+loop-w-init t c =
+    let h = c.default-v.ensures in
+    let e : c.default-v.result ≡ record { count = 0; first = 0; second = 0 } = λ i. record { count = h.0 i; first = h.1.0 i; second = h.1.1 i } in
+    rw e
+    (turning-start c.requires.1 c.requires.2 c.in-Some.x c.in-Some.ensures (open-opens c.args.at c.in-Some.x (subst (BegunTo c.in-Some.x c.args.at) c.in-Open.is c.begin-y.ensures)) c.head_state-o.result
+    c.if-heap-levels-ge2048.false c.head_state-o.ensures.1 c.head_state-o.ensures.0)
 
 pub more-requires : goal.more-requires
 more-requires t c = ((c.loop-w.invariant.reads c.requires.0 c.requires.1).high, held-usable (c.loop-w.invariant.reads c.requires.0 c.requires.1).held)
@@ -50,7 +54,7 @@ place-requires t c = (
 
 pub returns-in_err-z-in-Open : goal.returns-in_err-z-in-Open
 returns-in_err-z-in-Open t c =
-    let p = err_from_is_err_and c.from_residual-in_err-z-in-Open.result c.from_residual-in_err-z-in-Open.ensures.1 in
+    let p = err_from_is_err_and c.from_residual.result c.from_residual.ensures.1 in
     rw (p.1, p.2) (turn-not c.loop-w.invariant c.more.ensures c.loop-w-test.true _ c.in_err-z-in-Open.ensures)
 
 pub pushed-requires : goal.pushed-requires

@@ -1,28 +1,26 @@
 -- `decide` meets its contract.
-use Rattle.std.proofs.Common.{ℕ, List, Err, ap, sym, ◌∙◌, subst}
+use Rattle.std.proofs.Common.{ℕ, List, ap, sym, ◌∙◌, subst, length, arith}
+use Rattle.std.proofs.lemmas.Result.{err_from_is_err_and}
 use Rattle.std.specs.Prelude.{T}
 use Rattle.lists.specs.Tests.{true→T}
-use Rattle.script_place.specs.declared.Unread.{Unread}
-use Rattle.script_rebuild.specs.Rebuilt.{RebuiltTo}
 use Rattle.script_rebuild.specs.Decided.{all_within}
-use Rattle.script_rebuild.specs.Deciding.{no-script, over-limit, decided-ready, decided-short}
+use Rattle.script_rebuild.specs.Deciding.{refused, within-told, decided-ready, decided-short}
 use Rattle.script_rebuild.proofs.decide.Goals as goal
 
 pub needed-sizes-requires : goal.needed-sizes-requires
-needed-sizes-requires c = (_, c.in-Ok.ensures)
+needed-sizes-requires c = (_, c.in_ok-x.ensures)
 
-pub returns-in-Err-NoScript : goal.returns-in-Err-NoScript
-returns-in-Err-NoScript c = λ lent l. no-script c.args.s.now (subst (λ (u : Unread). RebuiltTo c.args.s.now c.rebuild_script.new.t c.rebuild_script.new.heap c.rebuild_script.new.roots (Err u)) c.in-Err-NoScript.field-0-is c.in-Err-NoScript.ensures) lent
+pub returns-in_err-x : goal.returns-in_err-x
+returns-in_err-x c = let p = err_from_is_err_and c.from_residual.result c.from_residual.ensures.1 in rw (p.1, p.2) (refused c.args.s.now c.rebuild_script.new.t c.rebuild_script.new.heap c.rebuild_script.new.roots _ c.in_err-x.ensures)
 
-pub returns-in-Err-Limit : goal.returns-in-Err-Limit
-returns-in-Err-Limit c = λ lent l. over-limit c.args.s.now (subst (λ (u : Unread). RebuiltTo c.args.s.now c.rebuild_script.new.t c.rebuild_script.new.heap c.rebuild_script.new.roots (Err u)) c.in-Err-Limit.field-0-is c.in-Err-Limit.ensures) lent
+pub returns-then-not-fits : goal.returns-then-not-fits
+returns-then-not-fits c =
+    let told = within-told c.lengths.result c.args.room.now (omega (arith, ap length c.lengths.ensures, c.requires)) _ c.fits.ensures in
+    decided-short c.in_ok-x.ensures c.needed-sizes.result (c.needed-sizes.ensures _ c.in_ok-x.ensures)
+    (ap (λ (ns : List ℕ). all_within ns c.args.room.now) (sym c.lengths.ensures) ∙ sym told ∙ c.if-not-fits.true)
 
-pub returns-then-fits : goal.returns-then-fits
-returns-then-fits c =
-    decided-ready c.in-Ok.ensures c.needed-sizes.result (c.needed-sizes.ensures _ c.in-Ok.ensures)
-    (subst (λ (ns : List ℕ). T (all_within ns c.args.room.now)) c.lengths.ensures (true→T (sym c.fits.ensures ∙ c.if-fits.true)))
-
-pub returns-else-fits : goal.returns-else-fits
-returns-else-fits c =
-    decided-short c.in-Ok.ensures c.needed-sizes.result (c.needed-sizes.ensures _ c.in-Ok.ensures)
-    (ap (λ (ns : List ℕ). all_within ns c.args.room.now) (sym c.lengths.ensures) ∙ sym c.fits.ensures ∙ c.if-fits.false)
+pub returns : goal.returns
+returns c =
+    let told = within-told c.lengths.result c.args.room.now (omega (arith, ap length c.lengths.ensures, c.requires)) _ c.fits.ensures in
+    decided-ready c.in_ok-x.ensures c.needed-sizes.result (c.needed-sizes.ensures _ c.in_ok-x.ensures)
+    (subst (λ (ns : List ℕ). T (all_within ns c.args.room.now)) c.lengths.ensures (true→T (sym told ∙ c.if-not-fits.false)))

@@ -1,7 +1,5 @@
 -- `rebuild_script` meets its contract.
-use Rattle.std.proofs.Common.{Ok, Err, refl, ap, subst}
-use borrow.Author.Tests.{not-true, not-false}
-use Rattle.script_rebuild.specs.Limits.{Tables}
+use Rattle.std.proofs.Common.{Ok, Err, refl, ap}
 use Rattle.script_rebuild.specs.Steps.{not-begun, few-names, few-functions, over-tables, over-items, whole, none-placed}
 use Rattle.script_rebuild.proofs.rebuild_script.Goals as goal
 
@@ -12,37 +10,37 @@ pub returns-in_default-check_header : goal.returns-in_default-check_header
 returns-in_default-check_header c = c.in_default-check_header.ensures
 
 pub tables_fit-requires : goal.tables_fit-requires
-tables_fit-requires c = (c.in-Some-check_header.ensures.declarations, c.in-Some-check_header.ensures.known)
+tables_fit-requires c = let x = c.in-Some-check_header.ensures in (x.declarations, x.known)
 
 pub over_limit-requires : goal.over_limit-requires
-over_limit-requires c = ((c.in-Some-check_header.ensures.declarations, c.in-Some-check_header.ensures.known), c.in-Some-check_header.ensures.place)
+over_limit-requires c = let x = c.in-Some-check_header.ensures in ((x.declarations, x.known), x.place)
 
 pub returns-then-not-tables_fit : goal.returns-then-not-tables_fit
-returns-then-not-tables_fit c = over-tables c.in-Some-check_header.ensures c.args.heap.now c.args.roots.now (subst (Tables c.in-Some-check_header.ensures.declarations) (not-true c.tables_fit.result c.if-not-tables_fit.true-raw) (c.tables_fit.ensures c.in-Some-check_header.ensures.declarations c.in-Some-check_header.ensures.known)) c.over_limit.result (c.over_limit.ensures c.in-Some-check_header.ensures.declarations c.in-Some-check_header.ensures.known)
+returns-then-not-tables_fit c =
+    let x = c.in-Some-check_header.ensures in
+    over-tables x c.args.heap.now c.args.roots.now (c.if-not-tables_fit.ensures x.declarations x.known) c.over_limit.result (c.over_limit.ensures x.declarations x.known)
 
-pub called_in-requires : goal.called_in-requires
-called_in-requires c = ((c.in-Some-check_header.ensures.declarations, c.in-Some-check_header.ensures.known), c.in-Some-check_header.ensures.place, c.requires.1)
+pub called_in-called-requires : goal.called_in-called-requires
+called_in-called-requires c = let x = c.in-Some-check_header.ensures in ((x.declarations, x.known), x.place)
 
 pub place_script-requires : goal.place_script-requires
-place_script-requires c = (
-  c.in-Some-check_header.ensures.declarations,
-  c.in-Some-check_header.ensures.known,
-  few-functions c.in-Some-check_header.ensures.declarations (subst (Tables c.in-Some-check_header.ensures.declarations) (not-false c.tables_fit.result c.if-not-tables_fit.false-raw) (c.tables_fit.ensures c.in-Some-check_header.ensures.declarations c.in-Some-check_header.ensures.known)),
-  few-names c.in-Some-check_header.ensures.known (subst (Tables c.in-Some-check_header.ensures.declarations) (not-false c.tables_fit.result c.if-not-tables_fit.false-raw) (c.tables_fit.ensures c.in-Some-check_header.ensures.declarations c.in-Some-check_header.ensures.known)),
-  c.requires.2,
-  c.requires.3,
-  c.in-Some-check_header.ensures.place,
-  c.requires.4,
-)
+place_script-requires c =
+    let x = c.in-Some-check_header.ensures in
+    let w = c.if-not-tables_fit.ensures x.declarations x.known in
+    (x.declarations, x.known, few-functions x.declarations w, few-names x.known w, c.requires.1, c.requires.2, x.place)
 
 pub returns-in-Err-NoScript : goal.returns-in-Err-NoScript
-returns-in-Err-NoScript c = none-placed c.in-Some-check_header.ensures {b = Err c.in-Err-NoScript.field-0} (c.in-Err-NoScript.ensures.reads c.in-Some-check_header.ensures.declarations c.in-Some-check_header.ensures.known) (ap Err c.in-Err-NoScript.field-0-is)
+returns-in-Err-NoScript c =
+    let x = c.in-Some-check_header.ensures in
+    none-placed x {b = Err c.in-Err-NoScript.field-0} (c.in-Err-NoScript.ensures.reads x.declarations x.known) (ap Err c.in-Err-NoScript.field-0-is)
 
 pub returns-in-Err-Limit : goal.returns-in-Err-Limit
 returns-in-Err-Limit c =
-    over-items c.in-Some-check_header.ensures (subst (Tables c.in-Some-check_header.ensures.declarations) (not-false c.tables_fit.result c.if-not-tables_fit.false-raw) (c.tables_fit.ensures c.in-Some-check_header.ensures.declarations c.in-Some-check_header.ensures.known)) c.called_in.ensures c.requires.2 c.requires.3 c.requires.4 c.place_script.new.heap c.place_script.new.roots (Err c.in-Err-Limit.field-0) c.in-Err-Limit.ensures.placed (ap Err c.in-Err-Limit.field-0-is)
-    c.over_limit-in-Err-Limit.result (c.over_limit-in-Err-Limit.ensures c.in-Some-check_header.ensures.declarations c.in-Some-check_header.ensures.known)
+    let x = c.in-Some-check_header.ensures in
+    over-items x (c.if-not-tables_fit.ensures x.declarations x.known) c.called_in-called.ensures c.requires.1 c.requires.2 c.requires.3 c.place_script.new.heap c.place_script.new.roots (Err c.in-Err-Limit.field-0) c.in-Err-Limit.ensures.placed (ap Err c.in-Err-Limit.field-0-is)
+    c.over_limit-in-Err-Limit.result (c.over_limit-in-Err-Limit.ensures x.declarations x.known)
 
 pub returns-in-Ok : goal.returns-in-Ok
 returns-in-Ok c =
-    whole c.in-Some-check_header.ensures (subst (Tables c.in-Some-check_header.ensures.declarations) (not-false c.tables_fit.result c.if-not-tables_fit.false-raw) (c.tables_fit.ensures c.in-Some-check_header.ensures.declarations c.in-Some-check_header.ensures.known)) c.called_in.ensures c.requires.2 c.requires.3 c.requires.4 c.place_script.new.heap c.place_script.new.roots (Ok c.in-Ok.n) c.in-Ok.ensures.placed refl (c.in-Ok.ensures.reads c.in-Some-check_header.ensures.declarations c.in-Some-check_header.ensures.known)
+    let x = c.in-Some-check_header.ensures in
+    whole x (c.if-not-tables_fit.ensures x.declarations x.known) c.called_in-called.ensures c.requires.1 c.requires.2 c.requires.3 c.place_script.new.heap c.place_script.new.roots (Ok c.in-Ok.n) c.in-Ok.ensures.placed refl (c.in-Ok.ensures.reads x.declarations x.known)

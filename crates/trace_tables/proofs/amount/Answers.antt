@@ -15,10 +15,10 @@ part-is bits m k w e =
     ap (λ (n : ℕ). bits_value (take n (drop m.a bits)) % w) z ∙ ap (λ (n : Node). bits_value (take n.b (drop n.a bits)) % w) e
 
 pub overflow_add-to : goal.overflow_add-to
-overflow_add-to c = omega (arith, (c.requires.fact_2.inside _ c.node_of-m.ensures), c.well_formed)
+overflow_add-to c = omega (arith, (c.requires.inside.inside _ c.node_of-m.ensures), c.well_formed)
 
 pub slice_bounds-rot_amount-end : goal.slice_bounds-rot_amount-end
-slice_bounds-rot_amount-end c = omega (arith, (c.requires.fact_2.inside _ c.node_of-m.ensures))
+slice_bounds-rot_amount-end c = omega (arith, (c.requires.inside.inside _ c.node_of-m.ensures))
 
 pub returns : goal.returns
 unfolding constant_bits

@@ -1,6 +1,6 @@
--- `trace_values::values_fit` meets its contract. The loop keeps: the values so far fit, and c is the column of the next. Assumes nothing.
-use Rattle.std.proofs.Common.{length, ◌∙◌}
-use Rattle.trace_values.specs.RowTests.{no-column, part-row, fit_next, fit-fails, fit-whole, column-next}
+-- `trace_values::values_fit` meets its contract. The loops keep: the values so far fit. Assumes nothing.
+use Rattle.std.proofs.Common.{◌+◌, ◌*◌, length, ◌∙◌, rules, add_assoc}
+use Rattle.trace_values.specs.RowTests.{no-column, part-row, fit_next, fit-fails, fit-whole, column-in, rows_end}
 use Rattle.trace_values.proofs.values_fit.Goals as goal
 
 pub returns-then-v-eq0 : goal.returns-then-v-eq0
@@ -10,13 +10,17 @@ pub returns-then-values-v-ne0 : goal.returns-then-values-v-ne0
 returns-then-values-v-ne0 c = part-row c.args.widths.now c.args.values.now c.if-v-eq0.false c.if-values-v-ne0.true
 
 pub returns-then-not-fits : goal.returns-then-not-fits
-returns-then-not-fits c = fit-fails c.args.widths.now c.args.values.now c.loop-x.c c.loop-x.x-index c.loop-x.invariant.0 c.loop-x-test.true c.fits.ensures c.if-not-fits.true
+returns-then-not-fits c =
+    fit-fails c.args.widths.now c.args.values.now c.loop-c.c (c.loop-row.row * length c.args.widths.now + c.loop-c.c)
+    (column-in c.loop-row.row (length c.args.widths.now) c.loop-c.c c.loop-c-test.true) (search rules) c.fits.ensures c.if-not-fits.true
 
-pub loop-x-preserved : goal.loop-x-preserved
-loop-x-preserved c = (
-  c.next-c.ensures ∙ column-next c.loop-x.c c.loop-x.x-index (length c.args.widths.now) c.loop-x.invariant.0,
-  fit_next c.args.widths.now c.args.values.now c.loop-x.c c.loop-x.x-index c.loop-x.invariant.0 c.fits.ensures c.if-not-fits.false c.loop-x.invariant.1,
-)
+pub loop-c-preserved : goal.loop-c-preserved
+loop-c-preserved c =
+    rw (← add_assoc)
+    (fit_next c.args.widths.now c.args.values.now c.loop-c.c (c.loop-row.row * length c.args.widths.now + c.loop-c.c)
+    (column-in c.loop-row.row (length c.args.widths.now) c.loop-c.c c.loop-c-test.true) c.fits.ensures c.if-not-fits.false c.loop-c.invariant)
 
 pub returns : goal.returns
-returns c = fit-whole c.args.widths.now c.args.values.now c.if-v-eq0.false c.if-values-v-ne0.false c.loop-x.x-index c.loop-x-test.false c.loop-x.invariant.1
+returns c =
+    fit-whole c.args.widths.now c.args.values.now c.if-v-eq0.false c.if-values-v-ne0.false (c.loop-row.row * length c.args.widths.now)
+    (rows_end (length c.args.widths.now) (length c.args.values.now) c.loop-row.row c.if-values-v-ne0.false c.loop-row-test.false) c.loop-row.invariant

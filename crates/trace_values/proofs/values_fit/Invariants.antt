@@ -1,7 +1,10 @@
--- `trace_values::values_fit` meets its contract. The loop keeps: the values so far fit, and c is the column of the next. Assumes nothing.
-use Rattle.std.proofs.Common.{◌≡◌, ◌%◌, length}
+-- `trace_values::values_fit` meets its contract. The loops keep: the values so far fit. Assumes nothing.
+use Rattle.std.proofs.Common.{◌+◌, ◌*◌, length}
 use Rattle.trace_values.specs.RowTests.{FitTo}
 use Rattle.trace_values.proofs.values_fit.Given as goal
 
-abbrev pub invariant-loop-x : goal.invariant-loop-x
-invariant-loop-x l = (l.c ≡ l.x-index % length l.widths) × FitTo l.widths l.values l.x-index
+abbrev pub invariant-loop-row : goal.invariant-loop-row
+invariant-loop-row l = FitTo l.widths l.values (l.row * length l.widths)
+
+abbrev pub invariant-loop-c : goal.invariant-loop-c
+invariant-loop-c l = FitTo l.widths l.values (l.row * length l.widths + l.c)

@@ -2,7 +2,7 @@
 use Rattle.std.proofs.Common.{sym}
 use Rattle.std.proofs.Math.ListN.{get_or-eq_default}
 use Rattle.echo_spec.specs.Shapes.{shapes, unknown}
-use Rattle.blast_kernel.specs.Codes.{none_of}
+use Rattle.blast_kernel.specs.Kinds.{none_of}
 use Rattle.blast_kernel.proofs.ShapeFromU8.from.Goals as goal
 
 pub returns-in_default : goal.returns-in_default

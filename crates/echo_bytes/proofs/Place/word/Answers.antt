@@ -6,4 +6,4 @@ use Rattle.echo_bytes.proofs.Place.word.Goals as goal
 
 pub returns-then-k-out : goal.returns-then-k-out
 returns-then-k-out c =
-    written-whole _ _ _ _ _ refl (omega arith) c.copy_from_slice.ensures.after c.moved.ensures
+    written-whole _ _ _ _ _ refl (omega arith) c.copy.ensures c.moved.ensures

@@ -1,5 +1,0 @@
-use Rattle.echo_c.proofs.Laws.{as-given}
-use Rattle.echo_c.proofs.hidden_form.echo_hidden.Goals as goal
-
-pub returns : goal.returns
-returns c = as-given c.echo_answer.ensures c.echo_hidden-r.ensures

@@ -1,0 +1,6 @@
+-- `keep` meets its contract: the marks of the first nodes are those of shared nodes.
+use Rattle.echo_reach.specs.Marks.{BothTo}
+use Rattle.echo_reach.proofs.keep.Given as goal
+
+abbrev pub invariant-loop-i : goal.invariant-loop-i
+invariant-loop-i l = BothTo l.shared l.initial.marks l.i l.marks

@@ -1,0 +1,14 @@
+use Rattle.echo_walk.proofs.Heads.{node-inside, amount-inside, rotation-ready, head-of-rotation}
+use Rattle.echo_walk.proofs.Walk.head_rotation.Goals as goal
+
+pub node-n-requires : goal.node-n-requires
+node-n-requires c = node-inside c.args.self.now c.args.i c.requires
+
+pub node-m-requires : goal.node-m-requires
+node-m-requires c = amount-inside c.args.self.now c.args.i c.requires c.node-n.ensures
+
+pub rot_of-k-requires : goal.rot_of-k-requires
+rot_of-k-requires c = rotation-ready c.args.self.now c.args.i c.requires c.node-n.ensures c.node-m.ensures c.get.ensures
+
+pub returns : goal.returns
+returns c = head-of-rotation c.args.self.now c.args.i c.node-n.ensures c.node-m.ensures c.get.ensures c.rot_of-k.ensures _ c.open_one.ensures

@@ -1,5 +1,0 @@
--- `trace_terms::value` meets its contract, by the laws of `Arms`, one for each shape. The measure is the node's number. Assumes nothing.
-use Rattle.trace_terms.proofs.+value.Given as goal
-
-abbrev pub decreases-value : goal.decreases-value
-decreases-value l = l.i
