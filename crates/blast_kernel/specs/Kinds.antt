@@ -1,5 +1,5 @@
 -- The shapes of the code as the definitions have them.
-use Rattle.std.specs.Prelude.{ℕ, zero, suc, ◌≤◌, ◌≡◌, refl, false}
+use Rattle.std.specs.Prelude.{ℕ, zero, suc, ◌≤◌, ◌≡◌}
 use Rattle.std.proofs.Common.{zero-le, sym}
 use Rattle.std.proofs.Math.Arith.{lt_of_le-ne}
 use Rattle.echo_spec.specs.Shapes as shapes
@@ -21,61 +21,99 @@ use Rattle.blast_kernel.specs.declared.Shape.TheVariants.{
   Call,
   Unknown,
 }
+use Rattle.blast_kernel.specs.declared.Binary as binaries
+use Rattle.blast_kernel.specs.declared.Binary.TheVariants as two
+use Rattle.blast_kernel.specs.declared.Comparison as comparisons
+use Rattle.blast_kernel.specs.declared.Comparison.TheVariants as tests
+use Rattle.blast_kernel.specs.declared.Unary as unaries
+use Rattle.blast_kernel.specs.declared.Unary.TheVariants as one
+use Rattle.blast_kernel.specs.declared.Rotation as rotations
+use Rattle.blast_kernel.specs.declared.Rotation.TheVariants as turns
+use Rattle.blast_kernel.specs.declared.Extension as extensions
+use Rattle.blast_kernel.specs.declared.Extension.TheVariants as longer
+use Rattle.blast_kernel.specs.declared.Connective as connectives
+use Rattle.blast_kernel.specs.declared.Connective.TheVariants as truths
 
 abbrev pub shape_in : Shape → shapes.Shape
 shape_in Var = shapes.var
 shape_in Const = shapes.const
-shape_in Binary = shapes.binary
-shape_in Rotation = shapes.rotation
+shape_in (Binary o) = shapes.binary
+shape_in (Rotation o) = shapes.rotation
 shape_in Extraction = shapes.extraction
 shape_in Concat = shapes.concat
-shape_in Extension = shapes.extension
+shape_in (Extension o) = shapes.extension
 shape_in Ite = shapes.ite
-shape_in Comparison = shapes.comparison
+shape_in (Comparison o) = shapes.comparison
 shape_in Negation = shapes.negation
-shape_in Connective = shapes.connective
-shape_in Unary = shapes.unary
+shape_in (Connective o) = shapes.connective
+shape_in (Unary o) = shapes.unary
 shape_in Select = shapes.select
 shape_in Call = shapes.call
 shape_in Unknown = shapes.unknown
 
+-- the operators' kinds
+abbrev pub binary_kind : binaries.Binary → ℕ
+binary_kind two.Add = 2
+binary_kind two.Sub = 3
+binary_kind two.Mul = 4
+binary_kind two.Udiv = 5
+binary_kind two.Urem = 6
+binary_kind two.And = 7
+binary_kind two.Or = 8
+binary_kind two.Xor = 9
+binary_kind two.Shl = 10
+binary_kind two.Lshr = 11
+binary_kind two.Ashr = 12
+binary_kind two.Sdiv = 35
+binary_kind two.Srem = 36
+
+abbrev pub comparison_kind : comparisons.Comparison → ℕ
+comparison_kind tests.Equal = 19
+comparison_kind tests.Different = 20
+comparison_kind tests.Ult = 21
+comparison_kind tests.Ule = 22
+comparison_kind tests.Ugt = 23
+comparison_kind tests.Uge = 24
+comparison_kind tests.Slt = 25
+comparison_kind tests.Sle = 26
+comparison_kind tests.Sgt = 27
+comparison_kind tests.Sge = 28
+
+abbrev pub unary_kind : unaries.Unary → ℕ
+unary_kind one.Not = 32
+unary_kind one.Neg = 33
+
+abbrev pub rotation_kind : rotations.Rotation → ℕ
+rotation_kind turns.Right = 13
+rotation_kind turns.Left = 34
+
+abbrev pub extension_kind : extensions.Extension → ℕ
+extension_kind longer.Zero = 16
+extension_kind longer.Sign = 17
+
+abbrev pub connective_kind : connectives.Connective → ℕ
+connective_kind truths.And = 30
+connective_kind truths.Or = 31
+
+-- the kind that a shape has
+abbrev pub IsKind : Shape → ℕ → Type 0
+IsKind Var k = k ≡ 0
+IsKind Const k = k ≡ 1
+IsKind (Binary o) k = k ≡ binary_kind o
+IsKind (Rotation o) k = k ≡ rotation_kind o
+IsKind Extraction k = k ≡ 14
+IsKind Concat k = k ≡ 15
+IsKind (Extension o) k = k ≡ extension_kind o
+IsKind Ite k = k ≡ 18
+IsKind (Comparison o) k = k ≡ comparison_kind o
+IsKind Negation k = k ≡ 29
+IsKind (Connective o) k = k ≡ connective_kind o
+IsKind (Unary o) k = k ≡ unary_kind o
+IsKind Select k = k ≡ 37
+IsKind Call k = k ≡ 38
+IsKind Unknown k = 39 ≤ k
+
 -- ---------------------------------------------------------------- laws: the last arm of a match
-
-pub no_leaf : (s : Shape) → (s ≡ Var → ⊥) → (s ≡ Const → ⊥) → false ≡ shapes.is_leaf (shape_in s)
-unfolding shapes.is_leaf
-no_leaf Var a b = absurd (a refl)
-no_leaf Const a b = absurd (b refl)
-no_leaf Binary a b = refl
-no_leaf Rotation a b = refl
-no_leaf Extraction a b = refl
-no_leaf Concat a b = refl
-no_leaf Extension a b = refl
-no_leaf Ite a b = refl
-no_leaf Comparison a b = refl
-no_leaf Negation a b = refl
-no_leaf Connective a b = refl
-no_leaf Unary a b = refl
-no_leaf Select a b = refl
-no_leaf Call a b = refl
-no_leaf Unknown a b = refl
-
-pub no_bool : (s : Shape) → (s ≡ Comparison → ⊥) → (s ≡ Negation → ⊥) → (s ≡ Connective → ⊥) → false ≡ shapes.is_bool (shape_in s)
-unfolding shapes.is_bool
-no_bool Var a b c = refl
-no_bool Const a b c = refl
-no_bool Binary a b c = refl
-no_bool Rotation a b c = refl
-no_bool Extraction a b c = refl
-no_bool Concat a b c = refl
-no_bool Extension a b c = refl
-no_bool Ite a b c = refl
-no_bool Comparison a b c = absurd (a refl)
-no_bool Negation a b c = absurd (b refl)
-no_bool Connective a b c = absurd (c refl)
-no_bool Unary a b c = refl
-no_bool Select a b c = refl
-no_bool Call a b c = refl
-no_bool Unknown a b c = refl
 
 -- x is none of the numbers below n, as the last arm of a match is told
 abbrev pub NoneOf : ℕ → ℕ → Type 0

@@ -11,9 +11,7 @@ ghost use Rattle.bv.specs.Ranges.{Width, One};
 pub struct Vector {
     pub width: u64,
     pub number: u64,
-    pub ghost some: { 0 < width },
-    pub ghost word: { width ≤ 64 },
-    pub ghost below: { number < 2 ^ width },
+    pub ghost one: { One width number },
 }
 
 impl Vector {
@@ -342,11 +340,4 @@ impl Vector {
     {
         self.ordered(t, self.number <= t.number)
     }
-}
-
-// Ruled out: `bvult`; the order the other way about.
-pub fn bvule(s: u64, t: u64) -> bool
-    ensures { result ≡ smt.bvule s t }
-{
-    s <= t
 }

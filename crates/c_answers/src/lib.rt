@@ -56,10 +56,7 @@ impl From<Result<usize, WidthError>> for WidthAnswer {
         let (number, count) = match r {
             Ok(n) => (0, n),
             Err(WidthError::Malformed(node)) => (u64::from(EchoError::Malformed), node),
-            Err(WidthError::Encoding) => (u64::from(EchoError::Encoding), 0),
-            Err(WidthError::Limit) => (u64::from(EchoError::Limit), 0),
-            Err(WidthError::Room) => (u64::from(EchoError::Room), 0),
-            Err(WidthError::ArrayWidth) => (u64::from(EchoError::ArrayWidth), 0),
+            Err(e) => (u64::from(EchoError::from(e)), 0),
         };
         WidthAnswer {
             number,

@@ -12,8 +12,8 @@ use Rattle.fewest.specs.FewestExamples.{with_nodes, x}
 use Rattle.fewest.specs.Least.{RisingFrom, Earlier, least-passes, least-short, least-rises, none-shorter, none-earlier}
 use Rattle.fewest.proofs.Always.{fewest-least}
 use Rattle.fewest_roots.specs.declared.Fewest.{Fewest}
-use Rattle.fewest_roots.specs.declared.FewestRoots.{FewestRoots}
-use Rattle.fewest_roots.specs.declared.FewestRoots.TheVariants.{Empty, One, Two}
+use Rattle.fewest_sharing.specs.declared.FewestRoots.{FewestRoots}
+use Rattle.fewest_sharing.specs.declared.FewestRoots.TheVariants.{Empty, One, Two}
 use Rattle.refusals.specs.declared.EchoError.{EchoError}
 use Rattle.refusals.specs.declared.EchoError.TheVariants.{Malformed, Name, Shared}
 use Rattle.refusals.specs.Numbers.{error_number, error-number}

@@ -1,10 +1,10 @@
 -- What is asked of the bound nodes, by the marks that were made.
-use Rattle.std.specs.Prelude.{ℕ, zero, suc, ◌+◌, ◌-◌, ◌≤◌, ◌<◌, ◌≡◌, refl, List, [], ◌∷◌, Bool, true, false, cond, length, get_or, take, drop, Result, Ok, Err}
+use Rattle.std.specs.Prelude.{ℕ, zero, suc, ◌+◌, ◌≤◌, ◌<◌, ◌≡◌, refl, List, [], ◌∷◌, Bool, true, false, cond, length, get_or, take, drop, Result, Ok, Err}
 use Rattle.std.specs.Result.{is_ok}
 use Rattle.std.proofs.Common.{sym, ◌∙◌, arith, add-one, le-ltb, drop_of_length-le, drop-cons}
 use Rattle.std.proofs.Math.Decide.{dec_lt}
 use Rattle.std.proofs.Math.ListN.{get_or-eq_default}
-use Rattle.std.proofs.lemmas.List.{get_or-take, length-take}
+use Rattle.std.proofs.lemmas.List.{get_or-take, length-take, nil_from_length}
 use Rattle.echo_spec.specs.Refusals.{◌or_else◌}
 use Rattle.echo_spec.specs.Input.{Dag}
 use Rattle.echo_spec.specs.Walk.{walk_all, walk, walk_roots}
@@ -42,30 +42,48 @@ bound_refusal t bound i = cond (bound i) (refused (mark_at t i).told) 0
 
 -- ---------------------------------------------------------------- one after the other
 
-module _ (f : ℕ → ℕ) (n i : ℕ) {whole : ℕ} (e : first_from f i (n - i) ≡ whole) where
-  module _ (l : i < n) where
-    first-opens : (f i or_else first_from f (i + 1) (n - (i + 1))) ≡ whole
-    unfolding first_from
-    first-opens = let z : n - i ≡ suc (n - (i + 1)) = omega arith in rw add-one (rw (z, add-one) at e)
+-- by the marks and the flags of the nodes that are left
+abbrev pub left_told : List Mark → List Bool → ℕ
+left_told ms bs = first_from (bound_refusal ms (flagged bs)) 0 (length bs)
 
-    module _ {r : ℕ} (is : r ≡ f i) where
-      pub first_stops : 0 < r → r ≡ whole
-      first_stops = stops (f i) (first_from f (i + 1) (n - (i + 1))) first-opens is
+first-further : (f g : ℕ → ℕ) → ((i : ℕ) → f (suc i) ≡ g i) → (a n : ℕ) → first_from f (suc a) n ≡ first_from g a n
+unfolding first_from
+first-further f g h a zero = refl
+first-further f g h a (suc n) = λ k. h a k or_else first-further f g h (suc a) n k
 
-      pub first_passes : r ≤ 0 → first_from f (i + 1) (n - (i + 1)) ≡ whole
-      first_passes = goes_on (f i) (first_from f (i + 1) (n - (i + 1))) first-opens is
-
-  pub first_ends : n ≤ i → 0 ≡ whole
+-- node 0 is told of before the others
+module _ {ms ns : List Mark} {bs cs : List Bool} {m : Mark} {b : Bool} (p : ms ≡ m ∷ ns) (q : bs ≡ b ∷ cs) {whole : ℕ} (e : left_told ms bs ≡ whole) where
+  left-opens : (cond b (refused m.told) 0 or_else left_told ns cs) ≡ whole
   unfolding first_from
-  first_ends l = let z : n - i ≡ 0 = omega arith in rw z at e
+  left-opens =
+      sym (λ k. cond b (refused m.told) 0 or_else first-further (bound_refusal (m ∷ ns) (flagged (b ∷ cs))) (bound_refusal ns (flagged cs)) (λ i. refl) 0 (length cs) k)
+      ∙ sym (λ k. left_told (p k) (q k)) ∙ e
 
--- what is told of node i, by its mark m
-module _ (t : List Mark) (bound : ℕ → Bool) (i : ℕ) where
-  pub told-bound : bound i ≡ true → {m : Mark} → m ≡ mark_at t i → refused m.told ≡ bound_refusal t bound i
-  told-bound q e = rw (q, e) refl
+  pub left-stops : b ≡ true → 0 < refused m.told → refused m.told ≡ whole
+  left-stops t = stops (cond b (refused m.told) 0) (left_told ns cs) left-opens (rw t refl)
 
-  pub told-free : bound i ≡ false → 0 ≡ bound_refusal t bound i
-  told-free q = rw q refl
+  pub left-passes : b ≡ true → refused m.told ≤ 0 → left_told ns cs ≡ whole
+  left-passes t = goes_on (cond b (refused m.told) 0) (left_told ns cs) {r = refused m.told} left-opens (rw t refl)
+
+  pub left-free : b ≡ false → left_told ns cs ≡ whole
+  left-free t = goes_on (cond b (refused m.told) 0) (left_told ns cs) {r = 0} left-opens (rw t refl) (omega arith)
+
+-- no flags are left, or no marks
+pub flags-spent : (ms : List Mark) (bs : List Bool) {whole : ℕ} → length bs ≡ 0 → left_told ms bs ≡ whole → 0 ≡ whole
+unfolding first_from
+flags-spent ms bs z e = let n = nil_from_length bs z in sym (λ k. left_told ms (n k)) ∙ e
+
+unmarked : (b : Bool) (i n : ℕ) → n ≡ 0 → (cond b (refused (mark_at [] i).told) 0 or_else n) ≡ 0
+unmarked true i n z = z
+unmarked false i n z = z
+
+first-unmarked : (bs : List Bool) (a n : ℕ) → first_from (bound_refusal [] (flagged bs)) a n ≡ 0
+unfolding first_from
+first-unmarked bs a zero = refl
+first-unmarked bs a (suc n) = unmarked (flagged bs a) a (first_from (bound_refusal [] (flagged bs)) (suc a) n) (first-unmarked bs (suc a) n)
+
+pub marks-spent : (ms : List Mark) (bs : List Bool) {whole : ℕ} → length ms ≡ 0 → left_told ms bs ≡ whole → 0 ≡ whole
+marks-spent ms bs z e = let n = nil_from_length ms z in sym (first-unmarked bs 0 (length bs)) ∙ sym (λ k. left_told (n k) bs) ∙ e
 
 first-same : (f g : ℕ → ℕ) (a m : ℕ) → ((i : ℕ) → i < a + m → f i ≡ g i) → first_from f a m ≡ first_from g a m
 unfolding first_from

@@ -27,18 +27,19 @@ use refusals::{EchoError, MAX_NODES};
 
 // The first refusal of the bound nodes, in rising order.
 fn first_told(marks: &[Mark; MAX_NODES], bound: &[bool]) -> Result<(), EchoError>
-    requires { length bound.now ≤ 2048 }
     ensures { refused result ≡ first_from (bound_refusal marks.now (flagged bound.now)) 0 (length bound.now) }
 {
-    for (i, b) in bound.iter().enumerate() {
+    for (m, b) in marks.iter().zip(bound) {
         if *b {
-            marks[i].told?;
+            m.told?;
         }
     }
     Ok(())
 }
 
 // The problem, each node's width, and which operators are shared.
+// Kept: the marks are lent beside it, and that they are made is asked at each use, since the assertions that are written by it change the
+// names in them.
 #[derive(Clone, Copy)]
 pub struct Sharing<'a> {
     pub problem: &'a Problem<'a>,
@@ -160,11 +161,12 @@ impl<'a> Assertions<'a> {
     ghost use Rattle.echo_bindings.specs.Checking.{flagged};
     ghost use Rattle.echo_bindings.specs.LetLines.{open_text, opens_from};
     ghost use Rattle.echo_bindings.specs.Naming.{unnamed, named_at, NamedTo, text_by, own_text, assertion_text, Told, Bindable, Writable, Assertable};
+    ghost use Rattle.echo_bindings.specs.Parts.{problem_in, widths_in};
 
     // A blank, and node i as a term by its mark and those below it.
     fn term(&self, p: Place, i: u64, marks: &[Mark; MAX_NODES], out: &mut [u8]) -> Place
-        requires { Writable self.now.sharing.problem.now self.now.sharing.widths.now marks.now i }
-        ensures { page result out.new ≡ written (page p out.old) (32 ∷ text_by self.now.sharing.problem.now self.now.sharing.widths.now marks.now i) }
+        requires { Writable (problem_in self.now) (widths_in self.now) marks.now i }
+        ensures { page result out.new ≡ written (page p out.old) (32 ∷ text_by (problem_in self.now) (widths_in self.now) marks.now i) }
     {
         let walk = Walk {
             problem: self.sharing.problem,
@@ -177,8 +179,8 @@ impl<'a> Assertions<'a> {
 
     // The binding of node i, which is then named.
     fn bind(&self, p: Place, i: usize, marks: &mut [Mark; MAX_NODES], out: &mut [u8]) -> Place
-        requires { Writable self.now.sharing.problem.now self.now.sharing.widths.now marks.old i }
-        ensures text { page result out.new ≡ written (page p out.old) (open_text (text_by self.now.sharing.problem.now self.now.sharing.widths.now marks.old) i) }
+        requires { Writable (problem_in self.now) (widths_in self.now) marks.old i }
+        ensures text { page result out.new ≡ written (page p out.old) (open_text (text_by (problem_in self.now) (widths_in self.now) marks.old) i) }
         ensures names { marks.new ≡ named_at marks.old i }
     {
         let opened = open_binding(p, i as u64, out);
@@ -196,10 +198,10 @@ impl<'a> Assertions<'a> {
         marks: &mut [Mark; MAX_NODES],
         out: &mut [u8],
     ) -> Place
-        requires told { Told (dag_at self.now.sharing.problem.now) self.now.sharing.widths.now marks.old }
-        requires bindable { Bindable self.now.sharing.problem.now self.now.sharing.widths.now (flagged bound.now) }
+        requires told { Told (dag_at (problem_in self.now)) (widths_in self.now) marks.old }
+        requires bindable { Bindable (problem_in self.now) (widths_in self.now) (flagged bound.now) }
         requires names { NamedTo (flagged bound.now) 0 marks.old }
-        ensures text { page result out.new ≡ written (page p out.old) (opens_from (own_text self.now.sharing.problem.now self.now.sharing.widths.now (flagged bound.now)) (flagged bound.now) 0 (length bound.now)) }
+        ensures text { page result out.new ≡ written (page p out.old) (opens_from (own_text (problem_in self.now) (widths_in self.now) (flagged bound.now)) (flagged bound.now) 0 (length bound.now)) }
         ensures names { NamedTo (flagged bound.now) (length bound.now) marks.new }
         ensures told { map unnamed marks.new ≡ map unnamed marks.old }
     {
@@ -222,8 +224,8 @@ impl<'a> Assertions<'a> {
         bound: &mut [bool; MAX_NODES],
         out: &mut [u8],
     ) -> Place
-        requires { Assertable self.now.sharing.problem.now self.now.sharing.widths.now marks.old root }
-        ensures text { page result out.new ≡ written (page start out.old) (literal "(assert" ++ ((32 ∷ assertion_text self.now.sharing.problem.now self.now.sharing.widths.now root) ++ literal ")\n")) }
+        requires { Assertable (problem_in self.now) (widths_in self.now) marks.old root }
+        ensures text { page result out.new ≡ written (page start out.old) (literal "(assert" ++ ((32 ∷ assertion_text (problem_in self.now) (widths_in self.now) root) ++ literal ")\n")) }
         ensures told { map unnamed marks.new ≡ map unnamed marks.old }
     {
         let shared = self.sharing.shared;

@@ -21,6 +21,7 @@ pub struct Place {
 }
 
 // The place where nothing is written yet. Ruled out: a place past the first byte; a count that starts at 1.
+// Kept: by its name, which the definitions have too; `Default` would say the same of two zeros.
 pub fn start() -> Place
     ensures { result ≡ start }
 {
@@ -28,6 +29,7 @@ pub fn start() -> Place
 }
 
 // The highest digits of ds, as many as there is room for from `at` on: ds holds them lowest first, and the highest is stored first (`push_bits`).
+// Kept: an index, since behind `iter_mut` in a chain with `rev` a proof knows no byte that was written.
 fn copy_digits(out: &mut [u8], at: usize, ds: &[u8], k: usize)
     requires { (k ≤ length ds.now) × (k ≤ length out.old - at) × T (every (λ d. leb d 9) ds.now) }
     ensures { out.new ≡ paste out.old at (binary_digits ds.now) k }
@@ -92,8 +94,8 @@ impl Place {
         n.min(size.saturating_sub(self.at))
     }
 
-    // k bytes further on, n bytes more needed.
-    fn moved(self, k: usize, n: usize) -> Place
+    // k bytes further on, n bytes more needed. Ruled out: the place by itself, k; a length that forgets what was written before.
+    pub fn moved(self, k: usize, n: usize) -> Place
         requires { self.at + k < 2 ^ 64 }
         ensures { result ≡ record { at = self.at + k; need = saturated self.need n } }
     {

@@ -10,5 +10,5 @@ use release::numbers::ReleaseAnswer;
 pub extern "C" fn check_release(file: &[u8]) -> ReleaseAnswer
     ensures { numbers_of result ≡ «release_answer» file.now }
 {
-    release::numbers::release_numbers(file)
+    ReleaseAnswer::from(release::check_release(file))
 }

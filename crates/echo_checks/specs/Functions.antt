@@ -9,6 +9,7 @@ use Rattle.echo_spec.specs.Widths.{width_at}
 use Rattle.echo_spec.specs.Tables.{find_call, arguments_inside, argument_widths, signature, decl_func_ok}
 use Rattle.lent.specs.declared.Problem.{Problem as Lent}
 use Rattle.lent.specs.Lent.{problem_at}
+use Rattle.echo_tables.specs.Steps.{CutOut}
 use Rattle.echo_tables.specs.Found.{found_of, Calls, found_none, found_some}
 
 -- has the node a width
@@ -29,6 +30,12 @@ unfolding argument_widths
 arguments-have ws side f e =
     let k : f.c + f.d - f.c ≡ f.d = omega arith in
     (rw k at e) ∙ sym (every_map (ltb 0) (width_at ws) (take f.d (drop f.c side)))
+
+-- the arguments that are cut out
+pub arguments-cut : (ws side : List ℕ) (f : Node) {xs : List ℕ} → CutOut side f (Some xs) → {b : Bool} → b ≡ every (has_width ws) xs
+    → b ≡ (arguments_inside side f && every (ltb 0) (argument_widths ws side f))
+unfolding argument_widths
+arguments-cut ws side f cut e = rw cut.0 ((rw cut.1 at e) ∙ sym (every_map (ltb 0) (width_at ws) (take f.d (drop f.c side))))
 
 -- function g has width w
 module _ (d : Dag) (ws : List ℕ) (g : ℕ) {w : ℕ} (is : w ≡ width_at d.func_width g) where

@@ -1,3 +1,3 @@
-pub mod Answered
 pub mod Limits
 pub mod Functions
+pub mod Tables

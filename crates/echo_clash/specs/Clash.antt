@@ -1,17 +1,19 @@
 -- Which declared name is that of a shared node, by the number that is read from it.
 use Prim.Native.Nat.{ℕ, zero, suc, ◌+◌, ◌-◌, ◌*◌, ◌/◌, ◌%◌, ◌≤◌, ◌<◌, min}
-use Rattle.std.specs.Prelude.{◌≡◌, List, [], ◌∷◌, ◌++◌, Bool, ◌&&◌, ltb, length, get_or, take, drop}
+use Rattle.std.specs.Prelude.{◌≡◌, List, [], ◌∷◌, ◌++◌, Bool, ◌&&◌, ltb, length, get_or, slice_index_or, take, drop}
+use Rattle.std.specs.List.{fold}
 use Rattle.std.proofs.Math.Path.{refl, ap}
-use Rattle.std.proofs.Common.{sym, ◌∙◌, subst, length-append, length-drop, drop_of_length-le, drop-cons, take_all}
+use Rattle.std.proofs.Common.{sym, ◌∙◌, subst, length-append, length-drop, take_all}
 use Rattle.std.proofs.Math.Bool.{true, false, not, and-false}
 use native.Mathlib.Omega.{arith}
-use Rattle.std.proofs.Math.Numerals.{add-one}
 use borrow.Author.Tests.{lt-ltb, ltb-false}
 use Rattle.std.proofs.Math.Decide.{dec_lt}
 use Rattle.std.proofs.Math.ListN.{get_or-eq_default}
 use Rattle.std.proofs.Math.Dec.{T, ltb→lt, T_not, not_T}
 use Rattle.std.proofs.lemmas.List.{take-append-le}
 use Rattle.lists.specs.Bytes.{bytes}
+use Rattle.lists.specs.Build.{get_or-tabulate}
+use Rattle.chains.specs.Tests.{every-told}
 use Rattle.lists.specs.Tests.{same, in_list, every, and_0, and-1, and_T, every-at, every-from, every_in, same→eq, same_refl, or_l, or_r, every_append, true→T, T→true}
 use Rattle.reading.specs.Trees.{Name}
 use Rattle.echo_spec.specs.Input.{Dag, part, names_of, name_table, aname_table, fname_table}
@@ -21,7 +23,9 @@ use Rattle.echo_bytes.specs.declared.Place.{Place}
 use Rattle.echo_bytes.specs.Page.{Page, page, start, written}
 use Rattle.echo_bytes.specs.Laws.{written_then, written-fits}
 use Rattle.echo_sharing.specs.Flags.{Flags}
-use Rattle.echo_names.specs.NameTables.{length-names_of, get_or-names_of}
+use Rattle.echo_checks.specs.declared.Names.{Names}
+use Rattle.echo_checks.specs.Tables.{names_in, NamesOf}
+use Rattle.echo_names.specs.NameTables.{length-names_of}
 
 -- one digit more, the number held at 2,048
 unfoldable pub digit : ℕ → ℕ → ℕ
@@ -40,6 +44,12 @@ unfoldable pub clashes : List Bool → List ℕ → Bool
 clashes table m = get_or table (number_of m) false && same m (let_name (number_of m))
 
 -- ---------------------------------------------------------------- reading
+
+-- one digit after the other
+pub fold-read : (v : ℕ) (xs : List ℕ) → fold digit v xs ≡ read_from v xs
+unfolding read_from
+fold-read v [] = refl
+fold-read v (c ∷ cs) = fold-read (digit v c) cs
 
 read-last : (v : ℕ) (xs : List ℕ) (c : ℕ) → read_from v (xs ++ (c ∷ [])) ≡ digit (read_from v xs) c
 unfolding read_from
@@ -138,28 +148,21 @@ module _ (table : List Bool) (m : List ℕ) where
 
 -- ---------------------------------------------------------------- a table of names
 
--- the names from k on
-abbrev pub clear_from : List Bool → List Name → ℕ → Bool
-clear_from table names k = every (λ m. not (clashes table m)) (drop k names)
-
-module _ (table : List Bool) (arena starts lens : List ℕ) (k : ℕ) {whole : Bool} (e : clear_from table (names_of arena starts lens) k ≡ whole) where
-  module _ (l : k < length starts) {m : List ℕ} (p : m ≡ part arena (get_or starts k 0) (get_or lens k 0)) {r : Bool} (q : r ≡ clashes table m) where
-    clear-opens : (not r && clear_from table (names_of arena starts lens) (k + 1)) ≡ whole
-    clear-opens =
-        let here : k < length (names_of arena starts lens) = rw length-names_of l in
-        let f : get_or (names_of arena starts lens) k [] ≡ m = get_or-names_of arena starts lens k l ∙ sym p in
-        rw (q, add-one k) (rw (drop-cons (names_of arena starts lens) k [] here, f) at e)
-
-    pub clear-stops : r ≡ true → false ≡ whole
-    clear-stops t = rw t at clear-opens
-
-    pub clear_next : r ≡ false → clear_from table (names_of arena starts lens) (k + 1) ≡ whole
-    clear_next t = rw t at clear-opens
-
-  pub clear-ends : length starts ≤ k → true ≡ whole
-  clear-ends l =
-      let past : length (names_of arena starts lens) ≤ k = rw length-names_of l in
-      rw (drop_of_length-le (names_of arena starts lens) past) at e
+-- no name clashes, or that of a place does
+pub clear-told : (table : List Bool) (arena starts lens : List ℕ) (r : Bool)
+    → (r ≡ true → (k : ℕ) → k < length starts → (d : ℕ) → not (clashes table (part arena (slice_index_or starts k d) (slice_index_or lens k d))) ≡ true)
+    → (r ≡ false → (k : ℕ) × (k < length starts) × ((d : ℕ) → not (clashes table (part arena (slice_index_or starts k d) (slice_index_or lens k d))) ≡ false))
+    → r ≡ every (λ m. not (clashes table m)) (names_of arena starts lens)
+unfolding names_of
+clear-told table arena starts lens r h g =
+    every-told (λ m. not (clashes table m)) (names_of arena starts lens) r
+    (λ e k l d. let m : k < length starts = omega (arith, l, length-names_of arena starts lens) in
+    rw (get_or-tabulate (length starts) (λ j. part arena (get_or starts j 0) (get_or lens j 0)) d k m) (h e k m 0))
+    (λ e. let q = g e in (
+      q.0,
+      omega (arith, q.1, length-names_of arena starts lens),
+      λ d. rw (get_or-tabulate (length starts) (λ j. part arena (get_or starts j 0) (get_or lens j 0)) d q.0 q.1) (q.2 0),
+    ))
 
 -- ---------------------------------------------------------------- all names
 
@@ -225,3 +228,6 @@ module _ (d : Dag) (us : List ℕ) (table : List Bool) (flags : Flags (shared d 
   pub parts : (every clear (name_table d) && (every clear (aname_table d) && every clear (fname_table d))) ≡ names_clear d us
   parts =
       ap (λ (x : Bool). every clear (name_table d) && x) (sym (every_append clear (aname_table d) (fname_table d))) ∙ sym (every_append clear (name_table d) (aname_table d ++ fname_table d)) ∙ clear-is
+
+  pub clear-names : {n : Names} → NamesOf d n → (every clear (names_in n.variables) && (every clear (names_in n.arrays) && every clear (names_in n.functions))) ≡ names_clear d us
+  clear-names n = rw (n.variables, n.arrays, n.functions) parts

@@ -12,43 +12,42 @@ ghost use Rattle.lent.specs.Lent.{problem_at, dag_at};
 ghost use Rattle.echo_clash.specs.Clash.{digit, read_from, clashes as «clashes-of»};
 ghost use Rattle.echo_clash.specs.Clearable.{Clearable};
 
+use echo_checks::Names;
 use echo_names::{NameTable, part};
 use echo_sharing::flagged;
 use lent::Problem;
+use refusals::MAX_NODES;
 
 // What a byte is as a digit; 0 for a byte below the digits.
 fn value_of(c: u8) -> u64
     ensures { result ≡ c - 48 }
 {
-    u64::from(c).saturating_sub(48)
+    u64::from(c).saturating_sub(u64::from(b'0'))
 }
 
 // One digit more, the number held at 2,048.
 #[tactic(auto, unfolding(crate::specs::Clash::digit))]
 fn one_digit(v: u64, c: u8) -> u64
-    requires { v ≤ 2048 }
-    ensures { (result ≡ digit v c) × (result ≤ 2048) }
+    ensures { result ≡ digit v c }
 {
-    (10 * v + value_of(c)).min(2048)
+    v.saturating_mul(10)
+        .saturating_add(value_of(c))
+        .min(MAX_NODES as u64)
 }
 
 // The number that the bytes make as digits, the highest first, held at 2,048, which is past every node.
-#[tactic(auto, unfolding(crate::specs::Clash::read_from))]
 fn read_number(s: &[u8]) -> u64
     ensures { result ≡ read_from 0 s.now }
 {
-    let mut v = 0;
-    for c in s {
-        v = one_digit(v, *c);
-    }
-    v
+    s.iter().fold(0, |v, c| one_digit(v, *c))
 }
 
 // Is this the name of node i.
 fn is_let_name(name: &[u8], i: u64) -> bool
-    requires { i < 2048 }
+    requires { i < MAX_NODES }
     ensures { result ≡ same name.now (let_name i) }
 {
+    // The longest name is `d2047`.
     let mut room = [0u8; 8];
     let p = echo_bytes::start();
     let q = p.byte(&mut room, b'd');
@@ -59,7 +58,7 @@ fn is_let_name(name: &[u8], i: u64) -> bool
 
 // Is this the name of a shared node.
 fn clashes(name: &[u8], shared: &[bool]) -> bool
-    requires { length shared.now ≤ 2048 }
+    requires { length shared.now ≤ MAX_NODES }
     ensures { result ≡ «clashes-of» shared.now name.now }
 {
     let [_letter, digits @ ..] = name else {
@@ -71,16 +70,13 @@ fn clashes(name: &[u8], shared: &[bool]) -> bool
 
 // Is no name of a table that of a shared node.
 fn table_clear(table: &NameTable, shared: &[bool]) -> bool
-    requires { length shared.now ≤ 2048 }
+    requires { length shared.now ≤ MAX_NODES }
     ensures { result ≡ every (λ m. not («clashes-of» shared.now m)) (names_of table.now.arena.now table.now.starts.now table.now.lens.now) }
 {
-    for (k, start) in table.starts.iter().enumerate() {
-        let name = part(table.arena, *start, table.lens[k]);
-        if clashes(name, shared) {
-            return false;
-        }
-    }
-    true
+    table.starts.iter().zip(table.lens).all(|(start, len)| {
+        let name = part(table.arena, *start, *len);
+        !clashes(name, shared)
+    })
 }
 
 // `Clash` is where this is false: no declared name is that of a shared node, reached or not. Ruled out: variables alone looked at; a name
@@ -89,20 +85,8 @@ pub fn names_clear(problem: &Problem, shared: &[bool]) -> bool
     requires { Clearable problem.now shared.now }
     ensures { result ≡ names_clear (dag_at problem.now) (uses_in (dag_at problem.now) (problem_at problem.now).roots) }
 {
-    let names = NameTable {
-        arena: problem.names,
-        starts: problem.name_start,
-        lens: problem.name_len,
-    };
-    let arrays = NameTable {
-        arena: problem.anames,
-        starts: problem.aname_start,
-        lens: problem.aname_len,
-    };
-    let functions = NameTable {
-        arena: problem.fnames,
-        starts: problem.fname_start,
-        lens: problem.fname_len,
-    };
-    table_clear(&names, shared) && table_clear(&arrays, shared) && table_clear(&functions, shared)
+    let names = Names::of(problem);
+    table_clear(&names.variables, shared)
+        && table_clear(&names.arrays, shared)
+        && table_clear(&names.functions, shared)
 }

@@ -1,7 +1,7 @@
 -- The line of each entry, by its number, and the lines before the roots. Assumes nothing.
-use Rattle.std.specs.Prelude.{ℕ, ◌+◌, ◌-◌, ◌≡◌, List, [], ◌++◌, map, length, take, drop, get_or}
+use Rattle.std.specs.Prelude.{ℕ, ◌≡◌, List, [], ◌++◌, map, length, take, drop, get_or}
 use Rattle.std.proofs.Math.Path.{refl, sym}
-use Rattle.std.proofs.Common.{◌∙◌, arith}
+use Rattle.std.proofs.Common.{◌∙◌}
 use Rattle.std.proofs.Math.Option.{some}
 use Rattle.lists.specs.Build.{length-tabulate}
 use Rattle.reading.specs.Trees.{Name, Declarations}
@@ -43,14 +43,12 @@ module _ (d : Dag) (k : ℕ) {n : Name} where
   unfolding array_line
   array-line p q r = λ i. array_text (record { name = p i; index = q i; value = r i })
 
-  -- node c, which is f, is the function's first call, and its part of the side entries is lent from its start to its end
+  -- node c, which is f, is the function's first call, and xs its arguments
   pub function-line : (ws : List ℕ) {c w : ℕ} {f : Node} → find_call d.nodes k ≡ some c → f ≡ get_or d.nodes c no_node
-      → n ≡ get_or (fname_table d) k [] → w ≡ get_or d.func_width k 0
-      → function_text (record { name = n; arguments = map (width_at ws) (take (f.c + f.d - f.c) (drop f.c d.side)); width = w }) ≡ function_line d ws k
+      → {xs : List ℕ} → xs ≡ take f.d (drop f.c d.side) → n ≡ get_or (fname_table d) k [] → w ≡ get_or d.func_width k 0
+      → function_text (record { name = n; arguments = map (width_at ws) xs; width = w }) ≡ function_line d ws k
   unfolding function_line signature argument_widths
-  function-line ws {f = m} e f p q =
-      let k : m.c + m.d - m.c ≡ m.d = omega arith in
-      rw (k, e, signature, ← f, p, q) refl
+  function-line ws e f x p q = rw (x, e, signature, ← f, p, q) refl
 
 -- ---------------------------------------------------------------- the lines of a table
 

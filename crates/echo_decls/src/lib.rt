@@ -4,8 +4,7 @@
 // side entries. So no function here refuses. Under "Ruled out" stand wrong programs that a public function's contract refuses.
 #![tactic(auto)]
 
-ghost use Rattle.std.specs.Prelude.{◌≡◌, [], ◌<◌, length, get_or};
-ghost use Rattle.echo_spec.specs.Input.{names_of};
+ghost use Rattle.std.specs.Prelude.{◌≡◌, ◌<◌, length};
 ghost use Rattle.echo_spec.specs.Tables.{variables_of, arrays_of, functions_of, declarations_of};
 ghost use Rattle.echo_spec.specs.Render.{texts, variable_text, array_text, function_text};
 ghost use Rattle.lent.specs.Lent.{dag_at};
@@ -15,18 +14,10 @@ ghost use Rattle.echo_decls.specs.DeclaredLines.{variable_line, array_line, func
 
 use echo_bytes::{Place, start};
 use echo_lines::{decl_array, decl_func, decl_var, push_logic};
-use echo_names::part;
-use echo_tables::looked_up;
+use echo_names::name_at;
+use echo_tables::{arguments, looked_up};
 use lent::{Problem, get, node_of};
 use sliver_kernel::ArrayWidths;
-
-// The name of entry k of a table. (That a table's columns are of one length is not asked here.)
-fn entry_name<'a>(arena: &'a [u8], starts: &[u64], lens: &[u64], k: usize) -> &'a [u8]
-    requires { k < length starts.now }
-    ensures { result.now ≡ get_or (names_of arena.now starts.now lens.now) k [] }
-{
-    part(arena, starts[k], get(lens, k as u64))
-}
 
 // What is declared: the tables of a problem, with the widths of its nodes and the first call of each function.
 #[derive(Clone, Copy)]
@@ -44,7 +35,12 @@ impl<'a> Declarations<'a> {
         ensures { page result out.new ≡ written (page p out.old) (variable_line (dag_at self.now.problem.now) k) }
     {
         let problem = self.problem;
-        let name = entry_name(problem.names, problem.name_start, problem.name_len, k);
+        let name = name_at(
+            problem.names,
+            problem.name_start,
+            problem.name_len,
+            k as u64,
+        );
         decl_var(name, get(problem.var_width, k as u64), p, out)
     }
 
@@ -67,11 +63,13 @@ impl<'a> Declarations<'a> {
         ensures { page result out.new ≡ written (page p out.old) (array_line (dag_at self.now.problem.now) k) }
     {
         let problem = self.problem;
-        let name = entry_name(problem.anames, problem.aname_start, problem.aname_len, k);
-        let widths = ArrayWidths {
-            index: problem.index_width,
-            value: problem.value_width,
-        };
+        let name = name_at(
+            problem.anames,
+            problem.aname_start,
+            problem.aname_len,
+            k as u64,
+        );
+        let widths = ArrayWidths::of(problem);
         let index = widths.index_of(k as u64);
         let value = widths.value_of(k as u64);
         decl_array(name, index, value, p, out)
@@ -98,12 +96,15 @@ impl<'a> Declarations<'a> {
         let problem = self.problem;
         let c = looked_up(self.first, g as u64).unwrap();
         let call = node_of(problem.nodes, c as u64);
-        let start = call.c as usize;
-        let count = call.d as usize;
-        let arguments = &problem.side[start..start + count];
-        let name = entry_name(problem.fnames, problem.fname_start, problem.fname_len, g);
+        let xs = arguments(problem.side, call).unwrap();
+        let name = name_at(
+            problem.fnames,
+            problem.fname_start,
+            problem.fname_len,
+            g as u64,
+        );
         let width = get(problem.func_width, g as u64);
-        decl_func(name, self.widths, arguments, width, p, out)
+        decl_func(name, self.widths, xs, width, p, out)
     }
 
     // The functions, in table order.

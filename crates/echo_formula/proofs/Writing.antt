@@ -6,11 +6,11 @@ use mathlib.Core.Bool.{Bool, true, false}
 use mathlib.Core.List.{List, [], ◌∷◌, ◌++◌, append-nil}
 use native.Mathlib.Omega.{arith}
 use borrow.Author.Tests.{lt-ltb, le-ltb}
-use lib.Dec.{T, ltb}
+use lib.Dec.{T, ltb, ltb→lt}
 use lib.ListN.{length, get_or, drop, length-drop}
 use lib.Seq.{drop-length}
 use Rattle.lists.specs.Bytes.{bytes}
-use Rattle.lists.specs.Tests.{every_from, every-at}
+use Rattle.lists.specs.Tests.{every_from, every-at, true→T}
 use Rattle.reading.specs.Trees.{Tree}
 use Rattle.echo_spec.specs.Shapes.{Shape, var, const, binary, concat, comparison, connective, shapes, shape_of, is_leaf}
 use Rattle.echo_spec.specs.Input.{Node, shape, nodes_of, Dag, dag_of}
@@ -35,7 +35,7 @@ use Rattle.echo_pieces.specs.declared.Piece.{Piece}
 use Rattle.echo_pieces.specs.Pieces.{piece, behind_text, two_pieces, store_pieces, chain_pieces, arg_pieces, pieces_of, count_of, pieces_text}
 use Rattle.echo_pieces.specs.PieceLaws.{no_piece, pieces-count, arg-more, arg-last, Wanted, pieces-each, each_at, text-step}
 use Rattle.echo_openings.specs.Openings.{plain_opening, opening_as}
-use Rattle.echo_openings.specs.NodeText.{placed_tree, level-bound, own-inside, node-level, node-kind, node-text}
+use Rattle.echo_openings.specs.NodeText.{placed_tree, own-inside, node-level, node-kind, node-text}
 use Rattle.echo_openings.specs.Placed.{opening_of, placed_at}
 use Rattle.echo_formula.specs.Texts.{bracket_text, list_text, operands_text}
 
@@ -276,11 +276,8 @@ module _ (W : Walk) (i : ℕ) (fine : Fine W i) where
 
   -- m is the record that was read
   module _ {m : Node} (e : m ≡ node_within W i) where
-    pub level-fits : {own : ℕ} → own ≡ level_of m.kind → own ≤ 11
-    level-fits f = rw f (level-bound m.kind)
-
-    pub level-low : {own : ℕ} → own ≡ level_of m.kind → own < 10 → level_of (node_within W i).kind < 10
-    level-low f l = rw (← e, ← f) l
+    pub level-low : true ≡ ltb (level_of m.kind) 10 → level_of (node_within W i).kind < 10
+    level-low f = rw (← e) (ltb→lt (level_of m.kind) 10 (true→T (sym f)))
 
     module _ {f : Form} (g : f ≡ form_as m (shape m)) where
       form-is : f ≡ form
@@ -294,13 +291,13 @@ module _ (W : Walk) (i : ℕ) (fine : Fine W i) where
 
       -- the opening and the operands
       pub other-done : {own : ℕ} → own ≡ level_of m.kind → (l : ℕ) {r : Page} (p : Page) {a b c : Page} → a ≡ written p (bracket_text (ltb own l) 40) → b ≡ written a (opening_of W i)
-          → c ≡ written b (operands_text W m.kind (pieces_of own (problem_in W).side f)) → r ≡ written c (bracket_text (ltb own l) 41) → r ≡ written p (placed_at W l i)
+          → c ≡ written b (operands_text W m.kind (pieces_of (level_of m.kind) (problem_in W).side f)) → r ≡ written c (bracket_text (ltb own l) 41) → r ≡ written p (placed_at W l i)
       unfolding dag_of
       other-done {own} h l p {a} u v w x =
           node-placed l p (h ∙ ap (λ (n : Node). level_of n.kind) e) u
-          (written_then a (opening_of W i) (operands_text W m.kind (pieces_of own (problem_in W).side f)) v w
+          (written_then a (opening_of W i) (operands_text W m.kind (pieces_of (level_of m.kind) (problem_in W).side f)) v w
           ∙ ap (written a)
-          (rw (h, form-is, e)
+          (rw (form-is, e)
           (node-text (dag_in W) (length (problem_in W).bits) (widths_in W) (problem_in W).bits W.ready.widths i fine.here)))
           x
 
@@ -327,8 +324,8 @@ module _ (W : Walk) (i : ℕ) (fine : Fine W i) where
             (sym (infix-text (dag_in W) (widths_in W) (problem_in W).bits i (node_within W i) (λ l j. placed_at W l j) low (shape (node_within W i)) two_shaped)
             ∙ node-text (dag_in W) (length (problem_in W).bits) (widths_in W) (problem_in W).bits W.ready.widths i fine.here)
 
-        pub infix-done : (l : ℕ) {r : Page} (p : Page) {a b c d : Page} {sign : List ℕ} → sign ≡ sign_of m.kind → a ≡ written p (bracket_text (ltb own l) 40) → b ≡ written a (placed_at W own m.a)
-            → c ≡ written b sign → d ≡ written c (placed_at W (own + 1) m.b) → r ≡ written d (bracket_text (ltb own l) 41) → r ≡ written p (placed_at W l i)
-        infix-done l p {a} {b} s u v w x y =
+        pub infix-done : (l : ℕ) {r : Page} (p : Page) {a b c d : Page} → a ≡ written p (bracket_text (ltb own l) 40) → b ≡ written a (placed_at W own m.a)
+            → c ≡ written b (sign_of m.kind) → d ≡ written c (placed_at W (own + 1) m.b) → r ≡ written d (bracket_text (ltb own l) 41) → r ≡ written p (placed_at W l i)
+        infix-done l p {a} {b} u v w x y =
             node-placed l p (f ∙ ap (λ (n : Node). level_of n.kind) e) u
-            (written_then a _ _ v (written_then b _ _ (w ∙ ap (written b) s) x) ∙ ap (written a) both-text) y
+            (written_then a _ _ v (written_then b _ _ w x) ∙ ap (written a) both-text) y

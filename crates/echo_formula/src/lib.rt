@@ -1,7 +1,7 @@
 // A node as a formula: functions that call each other, the level that is wanted passed down: leaves, operators between their operands,
 // stores, arguments, and all others, with a loop over the operands.
 //
-// A place that came back from a writer is taken apart before it is handed on, as in the walk.
+// A place that came back from a writer is taken apart before it is handed on, and `lim` stands among the arguments, as in the walk.
 #![tactic(auto)]
 
 ghost use Rattle.std.specs.Prelude.{◌≡◌, ◌≤◌, ◌<◌};
@@ -9,6 +9,7 @@ ghost use Rattle.echo_bytes.specs.Page.{page, written};
 ghost use Rattle.echo_tables.specs.Uses.{FormInside};
 ghost use Rattle.echo_walk.specs.Operands.{OverForm};
 ghost use Rattle.echo_walk.specs.Walks.{problem_in, node_within, Fine, Under, TermAt};
+ghost use Rattle.echo_pieces.specs.declared.TheConstants.{PREFIX, CLOSED};
 ghost use Rattle.echo_pieces.specs.Signs.{sign_of, level_of};
 ghost use Rattle.echo_pieces.specs.Pieces.{chain_pieces, arg_pieces, pieces_of};
 ghost use Rattle.echo_openings.specs.Placed.{placed_at};
@@ -16,7 +17,7 @@ ghost use Rattle.echo_formula.specs.Texts.{bracket_text, list_text, operands_tex
 
 use echo_bytes::Place;
 use echo_openings::{open_leaf, open_term};
-use echo_pieces::{count, level, operand, push_behind, sign};
+use echo_pieces::{Notation, count, level, operand, push_behind, push_sign};
 use echo_tables::{Form, operands};
 use echo_walk::Walk;
 use lent::get;
@@ -35,7 +36,7 @@ fn push_bracket(there: bool, b: u8, p: Place, out: &mut [u8]) -> Place
 // An operator between its operands: its sign between them, and nothing before the first.
 #[cycle(formula)]
 fn formula_infix(walk: &Walk, p: Place, i: u64, l: u64, out: &mut [u8]) -> Place
-    requires { Fine walk.now i × (level_of (node_within walk.now i).kind < 10) }
+    requires { Fine walk.now i × (level_of (node_within walk.now i).kind < PREFIX) }
     ensures { page result out.new ≡ written (page p out.old) (placed_at walk.now l i) }
 {
     let n = walk.node(i);
@@ -51,11 +52,14 @@ fn formula_infix(walk: &Walk, p: Place, i: u64, l: u64, out: &mut [u8]) -> Place
         own,
         out,
     );
-    let c = Place {
-        at: b.at,
-        need: b.need,
-    }
-    .word(out, sign(n.kind));
+    let c = push_sign(
+        n.kind,
+        Place {
+            at: b.at,
+            need: b.need,
+        },
+        out,
+    );
     let d = formula_node(
         walk,
         Place {
@@ -78,6 +82,7 @@ fn formula_infix(walk: &Walk, p: Place, i: u64, l: u64, out: &mut [u8]) -> Place
 }
 
 // n stores over the pairs of side entries from place s on, the last pair first, and then the index j; all of these nodes are below lim.
+// Kept: two entries by their numbers in each turn; a chain over pairs from the last would take them by number as well.
 #[cycle(formula)]
 fn formula_chain(walk: &Walk, p: Place, lim: u64, j: u64, s: u64, n: u64, out: &mut [u8]) -> Place
     requires { OverForm (Under walk.now lim) (problem_in walk.now).side (Form.Chain j s n) }
@@ -126,6 +131,7 @@ fn formula_chain(walk: &Walk, p: Place, lim: u64, j: u64, s: u64, n: u64, out: &
 }
 
 // n arguments, the side entries from place s on; all of these nodes are below lim.
+// Kept: by their numbers, by which it is known that each is below lim; the last one apart, since another text stands behind it.
 #[cycle(formula)]
 fn formula_args(walk: &Walk, p: Place, lim: u64, s: u64, n: u64, out: &mut [u8]) -> Place
     requires { OverForm (Under walk.now lim) (problem_in walk.now).side (Form.Arguments s n) }
@@ -162,20 +168,13 @@ fn formula_args(walk: &Walk, p: Place, lim: u64, s: u64, n: u64, out: &mut [u8])
     .byte(out, b')')
 }
 
-// The operands of a form, each with what is behind it: stores and arguments by their own loops. The kind and its level are the operator's;
-// all of these nodes are below lim.
+// The operands of a form, each with what is behind it: stores and arguments by their own loops. The kind is the operator's; all of these
+// nodes are below lim.
+// Kept: an operand by its number, for three forms in one loop; an arm for each form would write an operand and what is behind it six times.
 #[cycle(formula)]
-fn formula_operands(
-    walk: &Walk,
-    p: Place,
-    lim: u64,
-    kind: u8,
-    own: u64,
-    form: Form,
-    out: &mut [u8],
-) -> Place
-    requires { OverForm (Under walk.now lim) (problem_in walk.now).side form × FormInside (problem_in walk.now).side form × (own ≤ 11) }
-    ensures { page result out.new ≡ written (page p out.old) (operands_text walk.now kind (pieces_of own (problem_in walk.now).side form)) }
+fn formula_operands(walk: &Walk, p: Place, lim: u64, kind: u8, form: Form, out: &mut [u8]) -> Place
+    requires { OverForm (Under walk.now lim) (problem_in walk.now).side form × FormInside (problem_in walk.now).side form }
+    ensures { page result out.new ≡ written (page p out.old) (operands_text walk.now kind (pieces_of (level_of kind) (problem_in walk.now).side form)) }
 {
     match form {
         Form::Chain(j, s, n) => formula_chain(walk, p, lim, j, s, n, out),
@@ -187,7 +186,7 @@ fn formula_operands(
                 need: p.need,
             };
             for k in 0..count(form) {
-                let x = operand(form, side, own, k);
+                let x = operand(form, side, kind, k);
                 let a = formula_node(walk, q, x.node, x.level, out);
                 let b = push_behind(
                     kind,
@@ -216,9 +215,8 @@ fn formula_other(walk: &Walk, p: Place, i: u64, l: u64, out: &mut [u8]) -> Place
 {
     let n = walk.node(i);
     let own = level(n.kind);
-    let form = operands(n);
     let a = push_bracket(own < l, b'(', p, out);
-    let b = open_term(walk, a, i, n.kind, out);
+    let b = open_term(walk, a, i, out);
     let c = formula_operands(
         walk,
         Place {
@@ -227,8 +225,7 @@ fn formula_other(walk: &Walk, p: Place, i: u64, l: u64, out: &mut [u8]) -> Place
         },
         i,
         n.kind,
-        own,
-        form,
+        operands(n),
         out,
     );
     push_bracket(
@@ -246,15 +243,15 @@ fn formula_other(walk: &Walk, p: Place, i: u64, l: u64, out: &mut [u8]) -> Place
 // wanted; the left operand's level for the right one; an operand left out.
 #[cycle(formula)]
 pub fn formula_node(walk: &Walk, p: Place, i: u64, l: u64, out: &mut [u8]) -> Place
-    requires { Fine walk.now i × (l ≤ 11) }
+    requires { Fine walk.now i × (l ≤ CLOSED) }
     ensures { page result out.new ≡ written (page p out.old) (placed_at walk.now l i) }
 {
     if walk.is_leaf(i) {
         return open_leaf(walk, p, i, out);
     }
     let n = walk.node(i);
-    if level(n.kind) < 10 {
-        return formula_infix(walk, p, i, l, out);
+    match Notation::from(n.kind) {
+        Notation::Between(..) => formula_infix(walk, p, i, l, out),
+        Notation::Before(_) | Notation::Named => formula_other(walk, p, i, l, out),
     }
-    formula_other(walk, p, i, l, out)
 }

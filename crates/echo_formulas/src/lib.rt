@@ -13,14 +13,13 @@ ghost use Rattle.echo_openings.specs.Placed.{placed_at};
 ghost use Rattle.echo_roots.specs.Roots.{AllFine};
 ghost use Rattle.echo_script.specs.Scripts.{tables_refusal};
 ghost use Rattle.echo_script.specs.Outcomes.{Wrote};
-ghost use Rattle.echo_script.specs.Prepared.{WellFormed};
 ghost use Rattle.echo_kernel.specs.Answered.{answered};
 ghost use Rattle.echo_formulas.specs.Lines.{lines_text, lines_with};
 
 use echo_bytes::Place;
 use echo_formula::formula_node;
 use echo_kernel::settle;
-use echo_script::{Tables, measure};
+use echo_script::{Formed, Tables, measure};
 use echo_tables::BLANK;
 use echo_walk::Walk;
 use lent::Problem;
@@ -39,10 +38,9 @@ fn lines(walk: &Walk, roots: &[u64], p: Place, out: &mut [u8]) -> Place
     q
 }
 
-// From the names on: the columns are of one length, and the nodes well formed and of these widths.
-fn from_names(problem: &Problem, ws: &[u64], out: &mut [u8]) -> Result<Place, EchoError>
-    requires { WellFormed (problem_at problem.now) ws.now }
-    ensures { Wrote (tables_refusal (problem_at problem.now) ws.now) (lines_with (problem_at problem.now) ws.now) (page start out.old) result out.new }
+// From the names on.
+fn from_names(formed: &Formed, out: &mut [u8]) -> Result<Place, EchoError>
+    ensures { Wrote (tables_refusal (problem_at formed.now.problem.now) formed.now.widths.now) (lines_with (problem_at formed.now.problem.now) formed.now.widths.now) (page start out.old) result out.new }
 {
     // Made where they stand: a function that answers them has them on the stack more than once.
     let mut tables = Tables {
@@ -50,10 +48,11 @@ fn from_names(problem: &Problem, ws: &[u64], out: &mut [u8]) -> Result<Place, Ec
         marks: [BLANK; MAX_NODES],
     };
     let mut first = [None; MAX_ENTRIES];
-    tables.prepare(problem, ws, &mut first)?;
+    tables.prepare(formed, &mut first)?;
+    let problem = formed.problem;
     let walk = Walk {
         problem: &*problem,
-        widths: &*ws,
+        widths: &*formed.widths,
         entries: &tables.entries,
         marks: &tables.marks,
     };
@@ -66,7 +65,11 @@ fn checked(problem: &Problem, out: &mut [u8]) -> Result<Place, EchoError>
 {
     let mut ws = [0u64; MAX_NODES];
     let n = measure(problem, &mut ws)?;
-    from_names(problem, &ws[..n], out)
+    let formed = Formed {
+        problem: &*problem,
+        widths: &ws[..n],
+    };
+    from_names(&formed, out)
 }
 
 // THE MAP FILE'S LINES. One line a root, the root as a formula with no bracket too many, ended by byte 10. An acceptance writes the lines and

@@ -15,6 +15,7 @@ use lent::Problem;
 use refusals::EchoError;
 
 // From place i on in a name: the place behind its second bar.
+// Kept: a `for` that answers the place; `position` counts from i, so that its answer would be added to i again, with an arm for none.
 fn past_name(out: &[u8], i: usize) -> usize
     requires { i ≤ length out.now }
     ensures { Came inName i out.now outside result out.now }
@@ -36,6 +37,7 @@ fn left_of(b: u8) -> u8
 }
 
 // From place i on in a constant: its digits made 0, and the place behind the byte that ends it.
+// Kept: by place, since the place is the answer.
 fn cover_digits(out: &mut [u8], i: usize) -> usize
     requires { i ≤ length out.old }
     ensures { Came inConstant i out.old outside result out.new }

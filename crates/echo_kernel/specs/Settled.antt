@@ -7,6 +7,7 @@ use Rattle.echo_spec.specs.Answers.{zeroed, text_refusal, echo_answer, text_answ
 use Rattle.refusals.specs.declared.EchoError.{EchoError}
 use Rattle.refusals.specs.declared.EchoError.TheVariants.{Room}
 use Rattle.refusals.specs.Numbers.{error_number, error-number}
+use Rattle.lent.specs.Clearing.{left}
 use Rattle.echo_bytes.specs.declared.Place.{Place}
 use Rattle.echo_bytes.specs.Page.{Page, page, start, written}
 use Rattle.echo_bytes.specs.Laws.{need-exact, written-fits}
@@ -17,11 +18,6 @@ use Rattle.echo_kernel.specs.Answered.{answered}
 abbrev pub settled_as : Result Place EchoError → ℕ → Result ℕ EchoError
 settled_as (Ok p) room = cond (leb p.need room) (Ok p.need) (Err Room)
 settled_as (Err e) room = Err e
-
--- the buffer behind an answer
-abbrev pub left : Result ℕ EchoError → List ℕ → List ℕ
-left (Ok n) out = out
-left (Err e) out = zeroed out
 
 -- ---------------------------------------------------------------- laws
 
@@ -45,7 +41,7 @@ module _ (text lent l : List ℕ) (kept : length l ≡ length lent) where
 
   module _ (small : length lent < 2 ^ 63) where
     by_room : (number : ℕ) {q : Place} → Wrote number text (page start lent) (Ok q) l → (b : Bool) → leb q.need (length l) ≡ b
-        → answered (cond b (Ok q.need) (Err Room)) (left (cond b (Ok q.need) (Err Room)) l) ≡ text_answer number text lent
+        → answered (cond b (Ok q.need) (Err Room)) (left 0 (cond b (Ok q.need) (Err Room)) l) ≡ text_answer number text lent
     by_room number {q} w true e =
         let d : page q l ≡ written (page start lent) text = (outcome-done w).1 in
         let n : q.need ≡ (written (page start lent) text).place.need = ap (λ (z : Page). z.place.need) d in
@@ -57,12 +53,12 @@ module _ (text lent l : List ℕ) (kept : length l ≡ length lent) where
         no_room number w.told.0 (lt-leb (length text) (length lent) (lt_of_not-le h))
 
     settles : (number : ℕ) (told : Result Place EchoError) → Wrote number text (page start lent) told l
-        → answered (settled_as told (length l)) (left (settled_as told (length l)) l) ≡ text_answer number text lent
+        → answered (settled_as told (length l)) (left 0 (settled_as told (length l)) l) ≡ text_answer number text lent
     settles number (Ok q) w = by_room number w (leb q.need (length l)) refl
     settles number (Err e) w = refused number e w.told
 
 -- what `settle` answers of a text that was written from the start of the buffer, or refused, is that text's answer
 pub settled : (number : ℕ) (text lent : List ℕ) → length lent < 2 ^ 63 → {told : Result Place EchoError} {l : List ℕ}
     → Wrote number text (page start lent) told l → length l ≡ length lent
-    → {r : Result ℕ EchoError} {end : List ℕ} → r ≡ settled_as told (length l) → end ≡ left r l → answered r end ≡ text_answer number text lent
+    → {r : Result ℕ EchoError} {end : List ℕ} → r ≡ settled_as told (length l) → end ≡ left 0 r l → answered r end ≡ text_answer number text lent
 settled number text lent small {told} {l} w kept a b = rw (b, a) (settles text lent l kept small number told w)

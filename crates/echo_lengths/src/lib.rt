@@ -15,10 +15,9 @@ ghost use Rattle.echo_lengths.specs.LengthTable.{closings, Long, Longs};
 use echo_bytes::start;
 use echo_decls::Declarations;
 use echo_lines::check_sat;
-use echo_script::Tables;
+use echo_script::{Formed, Tables};
 use echo_tables::Form;
 use echo_walk::Walk;
-use lent::Problem;
 use refusals::{MAX_ENTRIES, MAX_NODES};
 
 // ---------------------------------------------------------------- a node
@@ -52,38 +51,42 @@ fn node_length(walk: &Walk, lens: &[u64], i: u64) -> u64
 
 // ---------------------------------------------------------------- the script
 
+// What a root's line has beside its term: `(assert` and `)` with the end of the line.
+const LINE: usize = 9;
+
 // So many bytes, and the lines of the roots.
 fn roots_length(walk: &Walk, roots: &[u64], c: usize) -> u64
-    requires { AllFine walk.now roots.now × (length (widths_in walk.now) ≤ 2048) }
+    requires { AllFine walk.now roots.now × (length (widths_in walk.now) ≤ MAX_NODES) }
     ensures { result ≡ held (c + length (roots_text (text_at walk.now) roots.now)) }
 {
     let mut lens = [0u64; MAX_NODES];
     for i in 0..walk.widths.len() {
         lens[i] = node_length(walk, &lens, i as u64);
     }
-    let lines = c.saturating_add(9 * roots.len());
+    let lines = c.saturating_add(LINE * roots.len());
     echo_terms::add_each(&lens, lines as u64, roots)
 }
 
 // The length of the script of a problem that passed every check but the one for room, with the tables that were filled. Ruled out: a length
 // without the closing brackets; the lengths of the nodes that no root reaches added.
 pub fn script_length(
-    problem: &Problem,
-    ws: &[u64],
+    formed: &Formed,
     tables: &Tables,
     first: &[Option<usize>; MAX_ENTRIES],
 ) -> usize
-    requires { Prepared problem.now ws.now tables.now first.now }
-    ensures { result ≡ held (length (plain_script (problem_at problem.now) ws.now)) }
+    requires { Prepared formed.now.problem.now formed.now.widths.now tables.now first.now }
+    ensures { result ≡ held (length (plain_script (problem_at formed.now.problem.now) formed.now.widths.now)) }
 {
+    let problem = formed.problem;
     let declarations = Declarations {
-        problem: &*problem,
-        widths: &*ws,
+        problem,
+        widths: formed.widths,
         first: &*first,
     };
+    // Kept: the parts as in `echo_script::print`.
     let walk = Walk {
-        problem: &*problem,
-        widths: &*ws,
+        problem,
+        widths: formed.widths,
         entries: &tables.entries,
         marks: &tables.marks,
     };

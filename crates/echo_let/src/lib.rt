@@ -14,10 +14,10 @@ use echo_bytes::Place;
 use echo_checks::names_ok;
 use echo_clash::names_clear;
 use echo_kernel::settle;
-use echo_script::measure;
+use echo_script::{Formed, measure};
 use echo_sharing::shared_nodes;
 use lent::Problem;
-use let_script::Formed;
+use let_script::{let_filled, plain_filled};
 use refusals::{EchoError, MAX_NODES};
 
 // ---------------------------------------------------------------- the checks
@@ -31,14 +31,14 @@ fn let_tables(formed: &Formed, out: &mut [u8]) -> Result<Place, EchoError>
     if !names_ok(problem) {
         return Err(EchoError::Name);
     }
-    let shared = shared_nodes(problem.nodes, problem.side, problem.roots);
+    let shared = shared_nodes(problem);
     let Some(shared) = &shared else {
-        return formed.plain_filled(out);
+        return plain_filled(formed, out);
     };
     if !names_clear(problem, shared) {
         return Err(EchoError::Clash);
     }
-    formed.let_filled(shared, out)
+    let_filled(formed, shared, out)
 }
 
 // Every check but the one for room, in order, and then the script as far as it fits; the place has the length that is needed.

@@ -1,7 +1,7 @@
 -- Texts by the pieces that are written one after the other. Assumes nothing.
-use Rattle.std.proofs.Common.{◌≡◌, refl, ap, ◌∙◌, ℕ, zero, suc, ◌+◌, ◌-◌, ◌≤◌, ◌<◌, List, [], ◌∷◌, ◌++◌, append_assoc, append-nil, map, length, take, drop, get_or, arith}
+use Rattle.std.proofs.Common.{◌≡◌, refl, ap, sym, ◌∙◌, ℕ, zero, suc, ◌+◌, ◌-◌, ◌≤◌, ◌<◌, List, [], ◌∷◌, ◌++◌, append_assoc, append-nil, map, length, take, drop, get_or, arith}
 use Rattle.std.proofs.Math.Seq.{take-length}
-use Rattle.std.proofs.lemmas.List.{map_more}
+use Rattle.std.proofs.lemmas.List.{map_more, take_more}
 use Rattle.lists.specs.Bytes.{bytes}
 use Rattle.echo_spec.specs.Widths.{width_at}
 use Rattle.echo_spec.specs.Render.{decimal, numerals_text, operator_text, sort_text, sorts_text}
@@ -10,14 +10,24 @@ use Rattle.echo_lines.specs.Lines.{logic_name}
 
 -- ---------------------------------------------------------------- heads
 
-pub operator-one : (s : List ℕ) (k : ℕ) → (bytes "((_ " ++ s) ++ ((bytes " " ++ decimal k) ++ bytes ")") ≡ bytes "(" ++ operator_text s (k ∷ [])
-unfolding bytes operator_text numerals_text
-operator-one s k = simp (append-nil, append_assoc)
+numerals-push : (ks : List ℕ) (k : ℕ) → numerals_text ks ++ (bytes " " ++ decimal k) ≡ numerals_text (ks ++ (k ∷ []))
+unfolding bytes numerals_text
+numerals-push [] k = sym (append-nil (32 ∷ decimal k))
+numerals-push (j ∷ ks) k = simp append_assoc (ap (λ (t : List ℕ). 32 ∷ (decimal j ++ t)) (numerals-push ks k))
 
-pub operator-two : (s : List ℕ) (j k : ℕ)
-    → (bytes "((_ " ++ s) ++ ((bytes " " ++ decimal j) ++ ((bytes " " ++ decimal k) ++ bytes ")")) ≡ bytes "(" ++ operator_text s (j ∷ k ∷ [])
-unfolding bytes operator_text numerals_text
-operator-two s j k = simp (append-nil, append_assoc)
+-- the numerals so far, and one more
+pub numerals-more : (s ks : List ℕ) (i : ℕ) → i < length ks → (s ++ numerals_text (take i ks)) ++ (bytes " " ++ decimal (get_or ks i 0)) ≡ s ++ numerals_text (take (i + 1) ks)
+numerals-more s ks i h =
+    append_assoc s (numerals_text (take i ks)) (bytes " " ++ decimal (get_or ks i 0))
+    ∙ ap (λ (t : List ℕ). s ++ t) (numerals-push (take i ks) (get_or ks i 0) ∙ ap numerals_text (sym (take_more ks i 0 h)))
+
+-- a symbol with all of its numerals
+pub operator-closed : (s ks : List ℕ) (i : ℕ) → 0 < length ks → i ≡ length ks
+    → ((bytes "((_ " ++ s) ++ numerals_text (take i ks)) ++ bytes ")" ≡ bytes "(" ++ operator_text s ks
+unfolding bytes operator_text
+operator-closed s [] i h e = absurd (omega arith)
+operator-closed s (k ∷ ks) i h e =
+    rw (e, take-length (k ∷ ks)) (ap (λ (t : List ℕ). 40 ∷ 40 ∷ 95 ∷ 32 ∷ t) (append_assoc s (numerals_text (k ∷ ks)) (41 ∷ [])))
 
 pub call-bare : (n : ℕ) (name : List ℕ) → n ≡ 0 → name ≡ call_head n name
 unfolding call_head

@@ -4,7 +4,7 @@
 // their arena. Under "Ruled out" stand wrong programs that a function's contract refuses.
 #![tactic(auto, unfolding(lists::specs::Bytes::bytes))]
 
-ghost use Rattle.std.specs.Prelude.{◌≡◌, map, [], ◌∷◌, ◌++◌};
+ghost use Rattle.std.specs.Prelude.{◌≡◌, ◌<◌, map, ◌++◌, length};
 ghost use Rattle.lists.specs.Bytes.{bytes};
 ghost use Rattle.echo_spec.specs.Render.{symbol_of, quoted, operator_text, decimal, sort_text, sorts_text, variable_text, array_text, function_text};
 ghost use Rattle.echo_spec.specs.Widths.{width_at};
@@ -13,11 +13,12 @@ ghost use Rattle.echo_lines.specs.Heads.{repeated, call_head};
 ghost use Rattle.echo_lines.specs.Lines.{logic_name, logic_for};
 
 use echo_bytes::Place;
-use lent::get;
+use lent::{at, get};
 
 // ---------------------------------------------------------------- symbols
 
 // The symbol of each kind from 0 to 36 (`push_sym`). A variable and a constant have none.
+// Kept: a table by the number of a kind; with literals by a match on the kind, trees took 0.66 of the Rust's time (docs/PERFORMANCE.md).
 static SYMBOLS: [&[u8]; 37] = [
     b"",
     b"",
@@ -62,8 +63,7 @@ static SYMBOLS: [&[u8]; 37] = [
 pub fn symbol(kind: u8) -> &'static [u8]
     ensures { result.now ≡ symbol_of kind }
 {
-    let i = kind as usize;
-    if i < SYMBOLS.len() { SYMBOLS[i] } else { b"" }
+    at(&SYMBOLS, u64::from(kind), b"")
 }
 
 // ---------------------------------------------------------------- heads of terms
@@ -75,44 +75,28 @@ pub fn spaced_plain(kind: u8, p: Place, out: &mut [u8]) -> Place
     p.led(out, b' ', b'(', symbol(kind))
 }
 
-// `((_ extract`, before the symbol's numerals.
-fn open_indexed(kind: u8, p: Place, out: &mut [u8]) -> Place
-    ensures { page result out.new ≡ written (page p out.old) (bytes "((_ " ++ symbol_of kind) }
+// `((_ extract j k)`, the symbol with its numerals. Compiled into its callers, which know how many there are. Ruled out: an operator that is
+// not closed; a numeral next to the symbol; a head with one parenthesis, `(_ extract j k)`.
+#[inline(always)]
+pub fn open_indexed(kind: u8, numerals: &[u64], p: Place, out: &mut [u8]) -> Place
+    requires { 0 < length numerals.now }
+    ensures { page result out.new ≡ written (page p out.old) (bytes "(" ++ operator_text (symbol_of kind) numerals.now) }
 {
-    p.word(out, b"((_ ").word(out, symbol(kind))
+    let mut q = p.word(out, b"((_ ").word(out, symbol(kind));
+    for k in numerals {
+        q = q.byte(out, b' ').number(out, *k);
+    }
+    q.byte(out, b')')
 }
 
-// A numeral after its blank.
-fn push_numeral(k: u64, p: Place, out: &mut [u8]) -> Place
-    ensures { page result out.new ≡ written (page p out.old) (bytes " " ++ decimal k) }
-{
-    p.byte(out, b' ').number(out, k)
-}
-
-// `((_ zero_extend k)`, for a symbol with one numeral. Ruled out: an operator that is not closed; a numeral next to the symbol.
-pub fn open_one(kind: u8, k: u64, p: Place, out: &mut [u8]) -> Place
-    ensures { page result out.new ≡ written (page p out.old) (bytes "(" ++ operator_text (symbol_of kind) (k ∷ [])) }
-{
-    let opened = open_indexed(kind, p, out);
-    push_numeral(k, opened, out).byte(out, b')')
-}
-
-// `((_ extract j k)`, for a symbol with two numerals. Ruled out: the numerals exchanged; a head with one parenthesis, `(_ extract j k)`.
-pub fn open_two(kind: u8, j: u64, k: u64, p: Place, out: &mut [u8]) -> Place
-    ensures { page result out.new ≡ written (page p out.old) (bytes "(" ++ operator_text (symbol_of kind) (j ∷ k ∷ [])) }
-{
-    let opened = open_indexed(kind, p, out);
-    let first = push_numeral(j, opened, out);
-    push_numeral(k, first, out).byte(out, b')')
-}
-
-// n times `(store `. Ruled out: one too few; a chain without the blanks.
-pub fn push_stores(n: u64, p: Place, out: &mut [u8]) -> Place
-    ensures { page result out.new ≡ written (page p out.old) (repeated n (bytes "(store ")) }
+// n times the same word. Compiled into its callers, which know its length. Ruled out: one too few; the words parted by a blank.
+#[inline(always)]
+pub fn push_repeated(word: &[u8], n: u64, p: Place, out: &mut [u8]) -> Place
+    ensures { page result out.new ≡ written (page p out.old) (repeated n word.now) }
 {
     let mut q = p;
-    for _store in 0..n {
-        q = q.word(out, b"(store ");
+    for _word in 0..n {
+        q = q.word(out, word);
     }
     q
 }
@@ -123,7 +107,7 @@ pub fn open_select(name: &[u8], n: u64, p: Place, out: &mut [u8]) -> Place
         ≡ written (page p out.old) (bytes "(select " ++ (repeated n (bytes "(store ") ++ quoted name.now)) }
 {
     let opened = p.word(out, b"(select ");
-    push_stores(n, opened, out).name(out, name)
+    push_repeated(b"(store ", n, opened, out).name(out, name)
 }
 
 // `(|name|`, or `|name|` for a call without arguments. Ruled out: a parenthesis for a call without arguments; none for a call with one.

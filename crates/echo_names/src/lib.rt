@@ -2,28 +2,41 @@
 // A name is the part of its arena itself, never a copy, so `range_eq` and `word_is` of the Rust are `==` of two slices.
 #![tactic(auto)]
 
-ghost use Rattle.std.specs.Prelude.{◌≡◌, ◌++◌, ◌≤◌, ◌<◌, length, take, get_or};
+ghost use Rattle.std.specs.Prelude.{◌≡◌, [], ◌++◌, ◌≤◌, ◌<◌, length, take, get_or};
 ghost use Rattle.lists.specs.Tests.{same, in_list, every};
 ghost use Rattle.echo_spec.specs.Input.{part as «part_of», names_of};
 ghost use Rattle.echo_spec.specs.Names.{byte_ok, first_ok, reserved, table_ok};
 ghost use Rattle.echo_names.specs.Groups.{total, in_table};
 ghost use Rattle.echo_names.specs.NameTables.{entry_at};
 
+use lent::get;
+
 // ---------------------------------------------------------------- parts of an arena
 
 // The part of the arena from `start` on, `len` bytes long; the empty part where that does not lie inside.
 // Ruled out: a part that starts one byte late; one cut short at the arena's end.
+#[tactic(auto, using(crate::specs::NameTables::part_out))]
 pub fn part<'a>(arena: &'a [u8], start: u64, len: u64) -> &'a [u8]
     ensures { result.now ≡ «part_of» arena.now start len }
 {
-    let (s, l) = (start as usize, len as usize);
-    if s > arena.len() || l > arena.len() - s {
-        return &arena[..0];
+    let from = start as usize;
+    match from.checked_add(len as usize) {
+        Some(to) if to <= arena.len() => &arena[from..to],
+        _ => &[],
     }
-    &arena[s..s + l]
+}
+
+// Name k of a table whose columns may differ in length: a length past the last one is 0.
+// Ruled out: each entry with the first one's start; with the first one's length.
+pub fn name_at<'a>(arena: &'a [u8], starts: &[u64], lens: &[u64], k: u64) -> &'a [u8]
+    requires { k < length starts.now }
+    ensures { result.now ≡ get_or (names_of arena.now starts.now lens.now) k [] }
+{
+    part(arena, get(starts, k), get(lens, k))
 }
 
 // Are the two the same bytes?
+// Kept: `==` of a slice and an array is refused, and the words that callers compare a name with are arrays.
 // Ruled out: one that compares no more bytes than the shorter has; one that leaves the last byte out.
 pub fn same_bytes(a: &[u8], b: &[u8]) -> bool
     ensures { result ≡ same a.now b.now }
@@ -45,12 +58,7 @@ fn byte_ok(c: u8) -> bool
 pub fn bytes_ok(name: &[u8]) -> bool
     ensures { result ≡ every byte_ok name.now }
 {
-    for c in name {
-        if !byte_ok(*c) {
-            return false;
-        }
-    }
-    true
+    name.iter().all(|c| byte_ok(*c))
 }
 
 // There is a first byte, and it is none that SMT-LIB keeps for solvers. Ruled out: the empty name; a name that begins with @.
@@ -95,6 +103,7 @@ static COUNTS: [usize; 21] = [
 
 // Is the name one of the words of a table grouped by length?
 // The loops over groups and over the words of a group are left with the answer at the first match.
+// Kept: two loops; with `chunks_exact` and `any` over the words of a group it stayed open which words had been looked at.
 fn find_word(name: &[u8], words: &[u8], counts: &[usize]) -> bool
     requires { total 1 counts.now ≤ length words.now }
     ensures { result ≡ in_table name.now words.now counts.now }
@@ -139,6 +148,7 @@ fn same_name(a: &[u8], b: &[u8]) -> bool
 }
 
 // The names of a table: parts of its arena, each by an entry of two columns of one length.
+// Kept: the arena and the columns in each contract, as `names_of` of the definitions takes them; a word for all three would be one more to look up.
 #[derive(Clone, Copy)]
 pub struct NameTable<'a> {
     pub arena: &'a [u8],
@@ -157,6 +167,8 @@ impl<'a> NameTable<'a> {
     }
 
     // Is the name one of the first `upto` names?
+    // Kept: by numbers: over the columns together `upto` would cut both, and in a chain the name of an entry is asked for without
+    // the fact that there is one.
     fn has(&self, upto: usize, name: &[u8]) -> bool
         requires { upto ≤ length self.now.starts.now }
         ensures { result ≡ in_list name.now (take upto (names_of self.now.arena.now self.now.starts.now self.now.lens.now)) }
@@ -189,6 +201,7 @@ impl<'a> NameTable<'a> {
 
     // Does each name pass, after the names of the two tables before this one and those before it in its own?
     // That a table's columns are of one length is for who makes it to show, where the Rust tests it here.
+    // Kept: a loop, as in `has`.
     // Ruled out: names compared with their own table alone; a last name that is not looked at.
     pub fn accepted(&self, first: &NameTable<'a>, second: &NameTable<'a>) -> bool
         ensures { result

@@ -1,20 +1,21 @@
 -- The laws of openings: what is written of a node, by its shape. Assumes nothing.
-use Prim.Native.Nat.{ℕ, ◌+◌, ◌%◌, ◌<◌}
+use Prim.Native.Nat.{ℕ, ◌+◌, ◌<◌}
 use mathlib.Core.Path.{◌≡◌, refl, sym, ap, ◌∙◌}
 use mathlib.Core.Bool.{Bool, true, false}
 use mathlib.Core.List.{List, [], ◌∷◌, ◌++◌, append_assoc}
-use borrow.Author.Tests.{lt-ltb}
-use lib.Dec.{T}
-use lib.ListN.{length, get_or, take, drop}
+use lib.Dec.{T, ltb}
+use lib.ListN.{length, get_or, take}
 use lib.Seq.{take-length}
 use Rattle.std.proofs.lemmas.List.{take_more}
 use Rattle.lists.specs.Bytes.{bytes}
 use Rattle.echo_spec.specs.Shapes.{Shape, var, const, rotation, extraction, extension, select, call, is_leaf}
-use Rattle.echo_spec.specs.Input.{array_widths, Node, shape, names_of, dag_of}
+use Rattle.echo_spec.specs.Input.{array_widths, Node, shape, aname_table, fname_table}
 use Rattle.echo_spec.specs.Widths.{wf_as}
-use Rattle.echo_spec.specs.Trees.{constant_bits, bits_value, amount_of, variable_name}
+use Rattle.echo_spec.specs.Trees.{constant_bits, amount_of, variable_name}
 use Rattle.echo_spec.specs.Render.{decimal, binary_digits, quoted}
 use Rattle.blast_kernel.specs.Kinds.{shape_in}
+use Rattle.blast_kernel.specs.declared.Extension as extensions
+use Rattle.blast_kernel.specs.declared.Rotation as rotations
 use Rattle.blast_kernel.specs.declared.Shape as code
 use Rattle.blast_kernel.specs.declared.Shape.TheVariants as codes
 use Rattle.echo_bytes.specs.Page.{Page, written}
@@ -41,51 +42,49 @@ numbered-more s ks i h =
 pub numbered-all : (s ks : List ℕ) (i : ℕ) → i ≡ length ks → s ++ numbered (take i ks) ≡ s ++ numbered ks
 numbered-all s ks i e = rw (e, take-length ks) refl
 
-pub plain-none : (k : ℕ) {l : ℕ} → l ≡ level_of k → l < 10 → [] ≡ plain_opening k
-unfolding plain_opening
-plain-none k e h = ap (λ (t : Bool). elim t [ true ↦ [] | false ↦ sign_of k ]) (sym (lt-ltb (level_of k) 10 (rw e at h)))
+-- between operands nothing, and else the sign
+module _ (k : ℕ) where
+  pub plain-none : true ≡ ltb (level_of k) 10 → [] ≡ plain_opening k
+  unfolding plain_opening
+  plain-none e = ap (λ (t : Bool). elim t [ true ↦ [] | false ↦ sign_of k ]) e
 
-pub constant-is : (bits : List ℕ) {m x : Node} → m ≡ x → {q : Page} (P : Page) → q ≡ written P (bytes "#b" ++ binary_digits (take m.b (drop m.a bits)))
-    → q ≡ written P (bytes "#b" ++ binary_digits (constant_bits bits x))
-unfolding constant_bits
-constant-is bits e P w = w ∙ rw e refl
+  pub plain-sign : false ≡ ltb (level_of k) 10 → sign_of k ≡ plain_opening k
+  unfolding plain_opening
+  plain-sign e = ap (λ (t : Bool). elim t [ true ↦ [] | false ↦ sign_of k ]) e
 
 -- ---------------------------------------------------------------- nodes by shape
 
 module _ (W : Walk) (i : ℕ) where
-  pub of-var : {x : List ℕ} → x ≡ variable_name (dag_in W) i → {q : Page} (P : Page) → q ≡ written P (quoted x) → q ≡ written P (opening_at W i var)
-  unfolding opening_as
-  of-var e P w = w ∙ ap (λ (m : List ℕ). written P (quoted m)) e
-
   -- by the shape, the opening
   pub of-shape : {s : Shape} → shape (node_within W i) ≡ s → {q : Page} (P : Page) → q ≡ written P (opening_at W i s) → q ≡ written P (opening_of W i)
   of-shape e P w = w ∙ ap (λ (s : Shape). written P (opening_at W i s)) (sym e)
 
-  pub of-const : shape (node_within W i) ≡ const → {q : Page} (P : Page) → q ≡ written P (bytes "#b" ++ binary_digits (constant_bits (problem_in W).bits (node_within W i)))
+  pub of-var : shape (node_within W i) ≡ var → {x : List ℕ} → x ≡ variable_name (dag_in W) i → {q : Page} (P : Page) → q ≡ written P (quoted x) → q ≡ written P (opening_of W i)
+  unfolding opening_as
+  of-var f e P w = of-shape f P (w ∙ ap (λ (m : List ℕ). written P (quoted m)) e)
+
+  pub of-const : shape (node_within W i) ≡ const → {x : List ℕ} → x ≡ constant_bits (problem_in W).bits (node_within W i) → {q : Page} (P : Page) → q ≡ written P (bytes "#b" ++ binary_digits x)
       → q ≡ written P (opening_of W i)
   unfolding opening_as
-  of-const e P w = of-shape e P w
-
-  pub of-rotation : {m : Node} → m ≡ node_within W i → {a : Node} → a ≡ node_within W m.b → {w : ℕ} → w ≡ get_or (widths_in W) i 0
-      → {k : ℕ} → k ≡ bits_value (take a.b (drop a.a (problem_in W).bits)) % w → {q : Page} (P : Page) → q ≡ written P (sign_of m.kind ++ numbered (k ∷ []))
-      → q ≡ written P (opening_at W i rotation)
-  unfolding opening_as amount_of dag_of constant_bits
-  of-rotation {m} e {a} f {w} g {k} h P r =
-      let x : a ≡ node_within W (node_within W i).b = f ∙ ap (λ (z : Node). node_within W z.b) e in
-      r ∙ rw (h, g, x, e) refl
+  of-const f e P w = of-shape f P (w ∙ rw e refl)
 
   module _ {m : Node} (e : m ≡ node_within W i) {q : Page} (P : Page) where
-    pub of-select : {x : List ℕ} → x ≡ get_or (names_of (problem_in W).anames (problem_in W).aname_start (problem_in W).aname_len) m.a []
-        → q ≡ written P (bytes "select(" ++ (repeated m.d (bytes "store(") ++ (quoted x ++ bytes ", "))) → q ≡ written P (opening_at W i select)
-    unfolding opening_as dag_of
-    of-select ex w = w ∙ rw (ex, e) refl
+    pub of-select : shape (node_within W i) ≡ select → {x : List ℕ} → x ≡ get_or (aname_table (dag_in W)) m.a []
+        → q ≡ written P (bytes "select(" ++ (repeated m.d (bytes "store(") ++ (quoted x ++ bytes ", "))) → q ≡ written P (opening_of W i)
+    unfolding opening_as
+    of-select f ex w = of-shape f P (w ∙ rw (ex, e) refl)
 
-    pub of-call : {x : List ℕ} → x ≡ get_or (names_of (problem_in W).fnames (problem_in W).fname_start (problem_in W).fname_len) m.a []
-        → q ≡ written P (call_opening m.d (quoted x)) → q ≡ written P (opening_at W i call)
-    unfolding opening_as dag_of
-    of-call ex w = w ∙ rw (ex, e) refl
+    pub of-call : shape (node_within W i) ≡ call → {x : List ℕ} → x ≡ get_or (fname_table (dag_in W)) m.a []
+        → q ≡ written P (call_opening m.d (quoted x)) → q ≡ written P (opening_of W i)
+    unfolding opening_as
+    of-call f ex w = of-shape f P (w ∙ rw (ex, e) refl)
 
     module _ {kind : ℕ} (own : kind ≡ (node_within W i).kind) where
+      pub of-rotation : shape (node_within W i) ≡ rotation → {k : ℕ} → k ≡ amount_of (dag_in W) (widths_in W) (problem_in W).bits i (node_within W i)
+          → q ≡ written P (sign_of kind ++ numbered (k ∷ [])) → q ≡ written P (opening_of W i)
+      unfolding opening_as
+      of-rotation f h w = of-shape f P (w ∙ rw (h, own) refl)
+
       pub of-extraction : shape (node_within W i) ≡ extraction → q ≡ written P (sign_of kind ++ numbered (m.a ∷ m.b ∷ [])) → q ≡ written P (opening_of W i)
       unfolding opening_as
       of-extraction f w = of-shape f P (w ∙ rw (e, own) refl)
@@ -96,14 +95,14 @@ module _ (W : Walk) (i : ℕ) where
 
   -- the shapes that have no arm of their own
   plain-as : (s : code.Shape) → T (wf_as (length (problem_in W).bits) (array_widths (problem_in W)) (problem_in W).side (take i (widths_in W)) (node_within W i) (shape_in s))
-      → is_leaf (shape_in s) ≡ false → (s ≡ codes.Rotation → ⊥) → (s ≡ codes.Extraction → ⊥) → (s ≡ codes.Extension → ⊥) → (s ≡ codes.Select → ⊥) → (s ≡ codes.Call → ⊥)
+      → is_leaf (shape_in s) ≡ false → ((o : rotations.Rotation) → s ≡ codes.Rotation o → ⊥) → (s ≡ codes.Extraction → ⊥) → ((o : extensions.Extension) → s ≡ codes.Extension o → ⊥) → (s ≡ codes.Select → ⊥) → (s ≡ codes.Call → ⊥)
       → plain_opening (node_within W i).kind ≡ opening_at W i (shape_in s)
   unfolding is_leaf opening_as wf_as
   plain-as codes.Var f a c g h j k = cc
   plain-as codes.Const f a c g h j k = cc
-  plain-as codes.Rotation f a c g h j k = absurd (c refl)
+  plain-as (codes.Rotation o) f a c g h j k = absurd (c o refl)
   plain-as codes.Extraction f a c g h j k = absurd (g refl)
-  plain-as codes.Extension f a c g h j k = absurd (h refl)
+  plain-as (codes.Extension o) f a c g h j k = absurd (h o refl)
   plain-as codes.Select f a c g h j k = absurd (j refl)
   plain-as codes.Call f a c g h j k = absurd (k refl)
   plain-as codes.Unknown f a c g h j k = absurd f
@@ -111,7 +110,7 @@ module _ (W : Walk) (i : ℕ) where
 
   -- r is the shape of the node's mark
   module _ {r : code.Shape} (e : shape (node_within W i) ≡ shape_in r) (p : Taken W i (shape_in r)) (inner : is_leaf (shape (node_within W i)) ≡ false)
-      (c : r ≡ codes.Rotation → ⊥) (g : r ≡ codes.Extraction → ⊥) (h : r ≡ codes.Extension → ⊥) (j : r ≡ codes.Select → ⊥) (k : r ≡ codes.Call → ⊥)
+      (c : (o : rotations.Rotation) → r ≡ codes.Rotation o → ⊥) (g : r ≡ codes.Extraction → ⊥) (h : (o : extensions.Extension) → r ≡ codes.Extension o → ⊥) (j : r ≡ codes.Select → ⊥) (k : r ≡ codes.Call → ⊥)
       {kind : ℕ} (own : kind ≡ (node_within W i).kind) where
     pub of_plain : {q : Page} (P : Page) → q ≡ written P (plain_opening kind) → q ≡ written P (opening_of W i)
     of_plain P w =

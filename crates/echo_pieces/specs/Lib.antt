@@ -1,3 +1,4 @@
 pub mod Signs
+pub mod Notated
 pub mod Pieces
 pub mod PieceLaws

@@ -1,85 +1,109 @@
-// The formula of a node in pieces: the signs and levels of the kinds as one table, and for each operand of a node its node, the level that is
-// wanted there, and what is written behind it. Under "Ruled out" stand wrong programs that a public function's contract refuses.
+// The formula of a node in pieces: how each kind is written, its sign and its level, as one table, and for each operand of a node its node,
+// the level that is wanted there, and what is written behind it. Under "Ruled out" stand wrong programs that a public function's contract
+// refuses.
 #![tactic(auto)]
 
 ghost use Rattle.std.specs.Prelude.{◌≡◌, ◌+◌, ◌^◌, ◌≤◌, ◌<◌, length, get_or, drop};
 ghost use Rattle.echo_bytes.specs.Page.{page, written};
 ghost use Rattle.echo_tables.specs.Uses.{FormInside};
 ghost use Rattle.echo_pieces.specs.Signs.{sign_of, level_of};
+ghost use Rattle.echo_pieces.specs.Notated.{Notated};
 ghost use Rattle.echo_pieces.specs.Pieces.{piece, behind_text, one_pieces, two_pieces, choice_pieces, chain_pieces, arg_pieces, pieces_of, count_of};
 ghost use Rattle.echo_pieces.specs.PieceLaws.{no_piece};
 
 use echo_bytes::Place;
+use echo_lines::symbol;
 use echo_tables::Form;
-use lent::get;
+use lent::{at, get};
 
 // ---------------------------------------------------------------- signs
 
-// The level of a kind, and what is written of it by itself.
-struct Notation(u64, &'static [u8]);
+// How a kind is written.
+#[derive(Clone, Copy, Debug, PartialEq, Eq)]
+pub enum Notation {
+    // a sign between two operands, on a level; the loosest is 0
+    Between(u64, &'static [u8]),
+    // a sign before one operand
+    Before(&'static [u8]),
+    // SMT-LIB's name, before parentheses
+    Named,
+}
 
 // For each kind from 0 to 36.
+// Kept: a table by the number of a kind, as the symbols are (`echo_lines`).
 static NOTATIONS: [Notation; 37] = [
-    Notation(11, b"("),
-    Notation(11, b"("),
-    Notation(8, b" + "),
-    Notation(8, b" - "),
-    Notation(9, b" * "),
-    Notation(9, b" / "),
-    Notation(9, b" % "),
-    Notation(4, b" band "),
-    Notation(2, b" bor "),
-    Notation(3, b" bxor "),
-    Notation(7, b" << "),
-    Notation(7, b" >> "),
-    Notation(11, b"bvashr("),
-    Notation(11, b"rotate_right("),
-    Notation(11, b"extract("),
-    Notation(11, b"concat("),
-    Notation(11, b"zero_extend("),
-    Notation(11, b"sign_extend("),
-    Notation(11, b"ite("),
-    Notation(5, b" == "),
-    Notation(5, b" != "),
-    Notation(6, b" < "),
-    Notation(6, b" <= "),
-    Notation(6, b" > "),
-    Notation(6, b" >= "),
-    Notation(11, b"bvslt("),
-    Notation(11, b"bvsle("),
-    Notation(11, b"bvsgt("),
-    Notation(11, b"bvsge("),
-    Notation(10, b"!"),
-    Notation(1, b" and "),
-    Notation(0, b" or "),
-    Notation(10, b"~"),
-    Notation(10, b"-"),
-    Notation(11, b"rotate_left("),
-    Notation(11, b"bvsdiv("),
-    Notation(11, b"bvsrem("),
+    Notation::Named, // a variable
+    Notation::Named, // a constant
+    Notation::Between(8, b" + "),
+    Notation::Between(8, b" - "),
+    Notation::Between(9, b" * "),
+    Notation::Between(9, b" / "),
+    Notation::Between(9, b" % "),
+    Notation::Between(4, b" band "),
+    Notation::Between(2, b" bor "),
+    Notation::Between(3, b" bxor "),
+    Notation::Between(7, b" << "),
+    Notation::Between(7, b" >> "),
+    Notation::Named, // bvashr
+    Notation::Named, // rotate_right
+    Notation::Named, // extract
+    Notation::Named, // concat
+    Notation::Named, // zero_extend
+    Notation::Named, // sign_extend
+    Notation::Named, // ite
+    Notation::Between(5, b" == "),
+    Notation::Between(5, b" != "),
+    Notation::Between(6, b" < "),
+    Notation::Between(6, b" <= "),
+    Notation::Between(6, b" > "),
+    Notation::Between(6, b" >= "),
+    Notation::Named, // bvslt
+    Notation::Named, // bvsle
+    Notation::Named, // bvsgt
+    Notation::Named, // bvsge
+    Notation::Before(b"!"),
+    Notation::Between(1, b" and "),
+    Notation::Between(0, b" or "),
+    Notation::Before(b"~"),
+    Notation::Before(b"-"),
+    Notation::Named, // rotate_left
+    Notation::Named, // bvsdiv
+    Notation::Named, // bvsrem
 ];
 
-// The sign of a kind; one past the last has its bracket alone. Ruled out: the sign of another kind; the arithmetic shift as `>>`.
-pub fn sign(kind: u8) -> &'static [u8]
-    ensures { result.now ≡ sign_of kind }
-{
-    let i = kind as usize;
-    if i < NOTATIONS.len() {
-        NOTATIONS[i].1
-    } else {
-        b"("
+// How a kind is written; one past the last has no name. Ruled out: the notation of another kind; the arithmetic shift as `>>`.
+impl From<u8> for Notation {
+    ghost from_gives = { Notated };
+
+    fn from(kind: u8) -> Notation {
+        at(&NOTATIONS, kind as u64, Notation::Named)
     }
 }
 
-// The level of a kind: 0 to 9 between operands, 10 before one, 11 for what is closed in itself. Ruled out: two levels exchanged; 0 for a select.
+// The levels above those of a sign between operands, which are 0 to 9: that of a sign before one operand, and of what is closed in itself.
+pub const PREFIX: u64 = 10;
+
+pub const CLOSED: u64 = 11;
+
+// The level of a kind. Ruled out: two levels exchanged; 0 for a select.
 pub fn level(kind: u8) -> u64
     ensures { result ≡ level_of kind }
 {
-    let i = kind as usize;
-    if i < NOTATIONS.len() {
-        NOTATIONS[i].0
-    } else {
-        11
+    match Notation::from(kind) {
+        Notation::Between(l, _) => l,
+        Notation::Before(_) => PREFIX,
+        Notation::Named => CLOSED,
+    }
+}
+
+// The sign of a kind; of one that has a name, that and its parenthesis. Ruled out: the sign of another kind; a name without its parenthesis.
+pub fn push_sign(kind: u8, p: Place, out: &mut [u8]) -> Place
+    ensures { page result out.new ≡ written (page p out.old) (sign_of kind) }
+{
+    match Notation::from(kind) {
+        Notation::Between(_, s) => p.word(out, s),
+        Notation::Before(s) => p.word(out, s),
+        Notation::Named => p.word(out, symbol(kind)).byte(out, b'('),
     }
 }
 
@@ -116,26 +140,28 @@ impl Piece {
     }
 }
 
-#[tactic(auto, unfolding(crate::specs::Pieces::one_pieces))]
-fn one_piece(level: u64, a: u64) -> Piece
-    ensures { result ≡ get_or (one_pieces level a) 0 no_piece }
+fn one_piece(kind: u8, a: u64) -> Piece
+    ensures { result ≡ get_or (one_pieces (level_of kind) a) 0 no_piece }
 {
-    if level == 10 {
-        return Piece::new(a, 10, Behind::Nothing);
+    match Notation::from(kind) {
+        Notation::Before(_) => Piece::new(a, PREFIX, Behind::Nothing),
+        Notation::Between(..) | Notation::Named => Piece::new(a, 0, Behind::Close),
     }
-    Piece::new(a, 0, Behind::Close)
 }
 
-#[tactic(auto, unfolding(crate::specs::Pieces::two_pieces))]
-fn two_piece(level: u64, a: u64, b: u64, k: u64) -> Piece
+fn two_piece(kind: u8, a: u64, b: u64, k: u64) -> Piece
     requires { k < 2 }
-    ensures { result ≡ get_or (two_pieces level a b) k no_piece }
+    ensures { result ≡ get_or (two_pieces (level_of kind) a b) k no_piece }
 {
-    match (level < 10, k) {
-        (true, 0) => Piece::new(a, level, Behind::Sign),
-        (true, _) => Piece::new(b, level + 1, Behind::Nothing),
-        (false, 0) => Piece::new(a, 0, Behind::Comma),
-        (false, _) => Piece::new(b, 0, Behind::Close),
+    match Notation::from(kind) {
+        Notation::Between(l, _) => match k {
+            0 => Piece::new(a, l, Behind::Sign),
+            _ => Piece::new(b, l + 1, Behind::Nothing),
+        },
+        Notation::Before(_) | Notation::Named => match k {
+            0 => Piece::new(a, 0, Behind::Comma),
+            _ => Piece::new(b, 0, Behind::Close),
+        },
     }
 }
 
@@ -193,16 +219,18 @@ pub fn count(f: Form) -> u64
     }
 }
 
-// Operand k of a form, by the level of its operator. Ruled out: the operator's own level for the right operand; a chain's first pair first.
+// Operand k of a form of a node of this kind.
+// Kept: stores and arguments too, which `echo_formula` writes by loops of their own: without them this would ask for another form.
+// Ruled out: the operator's own level for the right operand; a chain's first pair first.
 #[tactic(auto, unfolding(crate::specs::Pieces::pieces_of, crate::specs::Pieces::count_of))]
-pub fn operand(f: Form, side: &[u64], level: u64, k: u64) -> Piece
+pub fn operand(f: Form, side: &[u64], kind: u8, k: u64) -> Piece
     requires { (k < count_of f) × FormInside side.now f }
-    ensures { result ≡ get_or (pieces_of level side.now f) k no_piece }
+    ensures { result ≡ get_or (pieces_of (level_of kind) side.now f) k no_piece }
 {
     match f {
         Form::Leaf => Piece::new(0, 0, Behind::Nothing),
-        Form::One(a, _) => one_piece(level, a),
-        Form::Two(a, b, _) => two_piece(level, a, b, k),
+        Form::One(a, _) => one_piece(kind, a),
+        Form::Two(a, b, _) => two_piece(kind, a, b, k),
         Form::Choice(a, b, c) => choice_piece(a, b, c, k),
         Form::Chain(j, s, n) => chain_piece(side, j, s, n, k),
         Form::Arguments(s, n) => arg_piece(side, s, n, k),
@@ -216,7 +244,7 @@ pub fn push_behind(kind: u8, behind: Behind, p: Place, out: &mut [u8]) -> Place
 {
     match behind {
         Behind::Nothing => p,
-        Behind::Sign => p.word(out, sign(kind)),
+        Behind::Sign => push_sign(kind, p, out),
         Behind::Comma => p.word(out, b", "),
         Behind::Close => p.byte(out, b')'),
         Behind::CloseComma => p.word(out, b"), "),

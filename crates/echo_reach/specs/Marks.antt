@@ -9,7 +9,7 @@ use Rattle.std.proofs.Math.Decide.{dec_lt}
 use Rattle.std.proofs.Math.ListN.{get_or-eq_default}
 use Rattle.std.proofs.lemmas.Bool.{eqb-false}
 use Rattle.std.proofs.lemmas.List.{length-replicate, get_or-replicate}
-use Rattle.lists.specs.Tests.{among}
+use Rattle.lists.specs.Tests.{among, true→T}
 use Rattle.echo_spec.specs.Input.{Node, shape, no_node, node_at, Dag, dag_of}
 use Rattle.echo_spec.specs.Widths.{ext_wf_of}
 use Rattle.echo_spec.proofs.NodeLaws.{facts}
@@ -239,6 +239,35 @@ reaching-down d root i {k} {t} e l h a = record {
     by-mark true j = sym (among-both h.marks (operands_of d i) j)
     by-mark false j = or-false (among h.marks j)
 
+-- ---------------------------------------------------------------- above the root
+
+-- No node above the root is marked.
+pub record NoneAbove (root : ℕ) (t : List Bool) : Type 0 where
+  pub above : (j : ℕ) → root < j → get_or t j false ≡ false
+
+pub above-root : (root n : ℕ) {t t' : List Bool} → t ≡ replicate n false → Adds (among (root ∷ [])) t t' → NoneAbove root t'
+above-root root n {t} {t'} z a = record { above = λ j m. by_place j m (dec_lt j (length t)) }
+  where
+    by_place : (j : ℕ) → root < j → Dec (j < length t) → get_or t' j false ≡ false
+    by_place j m (yes l) =
+        let s : length t ≡ n = rw (z, length-replicate n false) refl in
+        let o : get_or t j false ≡ false = rw z (get_or-replicate n j false false (omega arith)) in
+        a.at j l ∙ rw (o, ne_eqb j root (λ z. let y : j ≡ root = z in omega arith)) refl
+    by_place j m (no l) = get_or-eq_default t' false (omega (arith, a.size))
+
+-- operands are below their node
+pub above-down : (os : List ℕ) (root i : ℕ) {t t' : List Bool} → i ≤ root → ((j : ℕ) → T (among os j) → j < i) → NoneAbove root t
+    → Adds (λ j. get_or t i false && among os j) t t' → NoneAbove root t'
+above-down os root i {t} {t'} r lower h a = record { above = λ j m. by_place j m (dec_lt j (length t)) }
+  where
+    by-operand : (j : ℕ) → root < j → (b : Bool) → among os j ≡ b → (get_or t i false && b) ≡ false
+    by-operand j m true q = let k = lower j (true→T q) in absurd (omega arith)
+    by-operand j m false q = and-false (get_or t i false)
+
+    by_place : (j : ℕ) → root < j → Dec (j < length t) → get_or t' j false ≡ false
+    by_place j m (yes k) = a.at j k ∙ rw (h.above j m) (by-operand j m (among os j) refl)
+    by_place j m (no k) = get_or-eq_default t' false (omega (arith, a.size))
+
 -- ---------------------------------------------------------------- the marks of shared nodes
 
 pub both-none : (s t : List Bool) → BothTo s t 0 t
@@ -258,13 +287,14 @@ module _ {s t t' : List Bool} {i : ℕ} (h : BothTo s t i t') where
           rw y (get_or-set_same t' i v false l ∙ e ∙ ap (λ (x : Bool). get_or s i false && x) (h.high i (omega arith)))
       by_place j k false q = let y : j ≢ i = eqb-false j i q in get_or-set_other t' i j v false y ∙ h.low j (omega arith)
 
-  pub both-all : length t ≤ i → Both s t t'
+  -- where the others have no mark
+  pub both-all : ((j : ℕ) → i ≤ j → get_or t j false ≡ false) → Both s t t'
   both-all l = record { at = λ j. by_place j (dec_lt j i) }
     where
       by_place : (j : ℕ) → Dec (j < i) → get_or t' j false ≡ (get_or s j false && get_or t j false)
       by_place j (yes k) = h.low j k
       by_place j (no k) =
-          let z : get_or t j false ≡ false = get_or-eq_default t false (omega arith) in
+          let z = l j (omega arith) in
           h.high j (omega arith) ∙ rw z (sym (and-false (get_or s j false)))
 
 -- at the end the table has the bound nodes

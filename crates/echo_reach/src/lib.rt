@@ -2,14 +2,14 @@
 // marked nodes those that are shared.
 #![tactic(auto)]
 
-ghost use Rattle.std.specs.Prelude.{◌≡◌, ◌&&◌, [], ◌∷◌, false, ◌+◌, ◌≤◌, ◌<◌, length, get_or, replicate};
+ghost use Rattle.std.specs.Prelude.{◌≡◌, ◌&&◌, [], ◌∷◌, false, ◌+◌, ◌≤◌, ◌<◌, length, get_or};
 ghost use Rattle.lists.specs.Tests.{among};
 ghost use Rattle.lets.specs.Lets.{operands_of, uses_in, shared as «shared-in», binds};
 ghost use Rattle.lent.specs.Lent.{problem_at, dag_at};
 ghost use Rattle.echo_tables.specs.Forms.{form_operands};
 ghost use Rattle.echo_tables.specs.Uses.{FormInside};
 ghost use Rattle.echo_sharing.specs.Flags.{Flags};
-ghost use Rattle.echo_reach.specs.Marks.{Adds, nodes_in, Both, Whole};
+ghost use Rattle.echo_reach.specs.Marks.{Adds, nodes_in, BothTo, Whole};
 
 use echo_sharing::{flagged, stores, stretch};
 use echo_tables::{Form, operands};
@@ -17,13 +17,6 @@ use lent::{Problem, node_at};
 use refusals::MAX_NODES;
 
 // ---------------------------------------------------------------- marks
-
-// Takes all marks out.
-fn unmark(marks: &mut [bool])
-    ensures { marks.new ≡ replicate (length marks.old) false }
-{
-    marks.fill(false);
-}
 
 // Marks node i. A node past the table is not marked.
 fn mark_one(marks: &mut [bool], i: u64)
@@ -49,6 +42,7 @@ fn mark_form(marks: &mut [bool], side: &[u64], f: Form)
     requires { FormInside side.now f }
     ensures { Adds (among (nodes_in (form_operands side.now f))) marks.old marks.new }
 {
+    // Kept: an arm for each form, as in `form_sum`, which says why.
     match f {
         Form::Leaf => {}
         Form::One(a, _) => mark_one(marks, a),
@@ -66,7 +60,7 @@ fn mark_form(marks: &mut [bool], side: &[u64], f: Form)
 
 // Node i is visited: if it is marked its operands are.
 fn visit(problem: &Problem, i: usize, marks: &mut [bool])
-    requires { Whole problem.now × (i < length (dag_at problem.now).nodes) × (length marks.old ≡ 2048) }
+    requires { Whole problem.now × (i < length (dag_at problem.now).nodes) × (length marks.old ≡ MAX_NODES) }
     ensures { Adds (λ j. get_or marks.old i false && among (operands_of (dag_at problem.now) i) j) marks.old marks.new }
 {
     if marks[i] {
@@ -75,11 +69,13 @@ fn visit(problem: &Problem, i: usize, marks: &mut [bool])
     }
 }
 
-// Takes the marks out of all nodes but those that are shared.
-fn keep(shared: &[bool], marks: &mut [bool; MAX_NODES])
-    ensures { Both shared.now marks.old marks.new }
+// Takes the marks out of the first n nodes but those that are shared.
+fn keep(shared: &[bool], marks: &mut [bool], n: usize)
+    requires { n ≤ length marks.old }
+    ensures { BothTo shared.now marks.old n marks.new }
 {
-    for i in 0..MAX_NODES {
+    // Kept: by places, since a proof knows no element of what `iter_mut` goes over in a chain.
+    for i in 0..n {
         marks[i] = flagged(shared, i as u64) & marks[i];
     }
 }
@@ -91,10 +87,11 @@ pub fn bound_nodes(problem: &Problem, root: u64, shared: &[bool], bound: &mut [b
     requires { Whole problem.now × (root < length (dag_at problem.now).nodes) × Flags («shared-in» (dag_at problem.now) (uses_in (dag_at problem.now) (problem_at problem.now).roots)) shared.now }
     ensures { Flags (binds (dag_at problem.now) (uses_in (dag_at problem.now) (problem_at problem.now).roots) root) bound.new }
 {
-    unmark(bound);
+    bound.fill(false);
     mark_one(bound, root);
     for i in (0..root as usize + 1).rev() {
         visit(problem, i, bound);
     }
-    keep(shared, bound);
+    // No node above the root is marked.
+    keep(shared, bound, root as usize + 1);
 }

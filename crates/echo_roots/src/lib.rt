@@ -2,26 +2,14 @@
 // Under "Ruled out" stand wrong programs that a public function's contract refuses.
 #![tactic(auto)]
 
-ghost use Rattle.std.specs.Prelude.{◌≡◌, ◌+◌, ◌≤◌, ◌<◌, length};
-ghost use Rattle.echo_bytes.specs.Page.{page, start, after, written};
+ghost use Rattle.std.specs.Prelude.{◌≡◌, ◌≤◌, length};
+ghost use Rattle.echo_bytes.specs.Page.{page, start, written};
 ghost use Rattle.echo_walk.specs.Walks.{text_at, Fine};
 ghost use Rattle.echo_roots.specs.Roots.{root_text, roots_text, AllFine};
 
 use echo_bytes::{Place, start};
 use echo_lines::{close_line, open_assert};
 use echo_walk::Walk;
-
-// A place in the rest of the buffer from p on, as a place in the whole. Ruled out: the place in the rest itself; a length that forgets what
-// was written before.
-pub fn place_after(p: Place, q: Place) -> Place
-    requires { p.at + q.at < 18446744073709551616 }
-    ensures { result ≡ after p q }
-{
-    Place {
-        at: p.at + q.at,
-        need: p.need.saturating_add(q.need),
-    }
-}
 
 // One root as an assertion, at the start of what is lent.
 fn echo_root(walk: &Walk, root: u64, out: &mut [u8]) -> Place
@@ -43,7 +31,7 @@ pub fn echo_roots(walk: &Walk, roots: &[u64], p: Place, out: &mut [u8]) -> Place
     for root in roots {
         let at = q.at;
         let r = echo_root(walk, *root, &mut out[at..]);
-        q = place_after(q, r);
+        q = q.moved(r.at, r.need);
     }
     q
 }

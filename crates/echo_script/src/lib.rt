@@ -24,7 +24,18 @@ use echo_tables::{BLANK, Lookups, Mark, entries, first_calls, roots_told};
 use echo_walk::Walk;
 use lent::{Problem, node_count};
 use refusals::{EchoError, MAX_ENTRIES, MAX_NODES};
-use sliver_kernel::{ArrayWidths, Pass};
+use sliver_kernel::Pass;
+
+// ---------------------------------------------------------------- a problem that is well formed
+
+// A problem that passed the checks before the names, and the widths of its nodes.
+// Kept: `Lookups`, `Signatures`, `Declarations`, `Walk` and `Sharing` have these two fields and no `Formed`: what they ask of them is less.
+#[derive(Clone, Copy)]
+pub struct Formed<'a> {
+    pub problem: &'a Problem<'a>,
+    pub widths: &'a [u64],
+    ghost formed: { WellFormed (problem_at problem.now) widths.now },
+}
 
 // ---------------------------------------------------------------- the tables
 
@@ -38,7 +49,7 @@ pub struct Tables {
 impl Tables {
     // No node has an entry or a mark. Ruled out: marks that have a name; an entry that is the first for all.
     pub fn new() -> Tables
-        ensures { result ≡ record { entries = replicate 2048 None; marks = replicate 2048 BLANK } }
+        ensures { result ≡ record { entries = replicate MAX_NODES None; marks = replicate MAX_NODES BLANK } }
     {
         Tables {
             entries: [None; MAX_NODES],
@@ -47,24 +58,23 @@ impl Tables {
     }
 
     // What is declared, and the tables that the walk looks up: the refusal of a declared variable or function, or the tables filled, which
-    // had no marks. Ruled out: 7 before 4; a signature from a call that is not the first.
+    // had no marks. Ruled out: `Signature` before `Var`; a signature from a call that is not the first.
     pub fn fill(
         &mut self,
-        problem: &Problem,
-        ws: &[u64],
+        formed: &Formed,
         first: &mut [Option<usize>; MAX_ENTRIES],
     ) -> Result<(), EchoError>
-        requires formed { WellFormed (problem_at problem.now) ws.now }
-        requires blank { self.old.marks ≡ replicate 2048 BLANK }
-        ensures { Filling problem.now ws.now (refused result) self.new first.new }
+        requires { self.old.marks ≡ replicate MAX_NODES BLANK }
+        ensures { Filling formed.now.problem.now formed.now.widths.now (refused result) self.new first.new }
     {
+        let problem = formed.problem;
         if !decl_vars_ok(problem) {
             return Err(EchoError::Var);
         }
         first_calls(problem.nodes, first);
         let signatures = Signatures {
             problem: &*problem,
-            widths: &*ws,
+            widths: &*formed.widths,
             first: &*first,
         };
         if !signatures.all_ok() {
@@ -73,7 +83,7 @@ impl Tables {
         entries(problem.var_node, &mut self.entries);
         let lookups = Lookups {
             problem: &*problem,
-            widths: &*ws,
+            widths: &*formed.widths,
             entries: &self.entries,
             first: &*first,
         };
@@ -86,22 +96,21 @@ impl Tables {
     #[tactic(auto, unfolding(crate::specs::Scripts::tables_refusal, echo_spec::specs::Input::dag_of))]
     pub fn prepare(
         &mut self,
-        problem: &Problem,
-        ws: &[u64],
+        formed: &Formed,
         first: &mut [Option<usize>; MAX_ENTRIES],
     ) -> Result<(), EchoError>
-        requires formed { WellFormed (problem_at problem.now) ws.now }
-        requires blank { self.old.marks ≡ replicate 2048 BLANK }
-        ensures { Preparing problem.now ws.now (refused result) self.new first.new }
+        requires { self.old.marks ≡ replicate MAX_NODES BLANK }
+        ensures { Preparing formed.now.problem.now formed.now.widths.now (refused result) self.new first.new }
     {
+        let problem = formed.problem;
         if !names_ok(problem) {
             return Err(EchoError::Name);
         }
-        if !unshared(problem.nodes, problem.side, problem.roots) {
+        if !unshared(problem) {
             return Err(EchoError::Shared);
         }
-        self.fill(problem, ws, first)?;
-        roots_told(problem, ws, &self.marks, problem.roots)
+        self.fill(formed, first)?;
+        roots_told(problem, formed.widths, &self.marks, problem.roots)
     }
 }
 
@@ -110,23 +119,24 @@ impl Tables {
 // The script of a problem that passed every check but the one for room, with the tables that were filled. Ruled out: a script without its
 // last line; the declarations in place of the whole.
 pub fn print(
-    problem: &Problem,
-    ws: &[u64],
+    formed: &Formed,
     tables: &Tables,
     first: &[Option<usize>; MAX_ENTRIES],
     out: &mut [u8],
 ) -> Place
-    requires { Prepared problem.now ws.now tables.now first.now }
-    ensures { page result out.new ≡ written (page start out.old) (plain_script (problem_at problem.now) ws.now) }
+    requires { Prepared formed.now.problem.now formed.now.widths.now tables.now first.now }
+    ensures { page result out.new ≡ written (page start out.old) (plain_script (problem_at formed.now.problem.now) formed.now.widths.now) }
 {
+    let problem = formed.problem;
+    // Kept: made of the same values in each printer. A function that made them would say each field again in its contract.
     let declarations = Declarations {
-        problem: &*problem,
-        widths: &*ws,
+        problem,
+        widths: formed.widths,
         first: &*first,
     };
     let walk = Walk {
-        problem: &*problem,
-        widths: &*ws,
+        problem,
+        widths: formed.widths,
         entries: &tables.entries,
         marks: &tables.marks,
     };
@@ -137,10 +147,9 @@ pub fn print(
 
 // ---------------------------------------------------------------- the checks
 
-// From the names on: the columns are of one length, and the nodes well formed and of these widths.
-fn from_names(problem: &Problem, ws: &[u64], out: &mut [u8]) -> Result<Place, EchoError>
-    requires { WellFormed (problem_at problem.now) ws.now }
-    ensures { Wrote (tables_refusal (problem_at problem.now) ws.now) (plain_script (problem_at problem.now) ws.now) (page start out.old) result out.new }
+// From the names on.
+fn from_names(formed: &Formed, out: &mut [u8]) -> Result<Place, EchoError>
+    ensures { Wrote (tables_refusal (problem_at formed.now.problem.now) formed.now.widths.now) (plain_script (problem_at formed.now.problem.now) formed.now.widths.now) (page start out.old) result out.new }
 {
     // Made where they stand: a function that answers them has them on the stack more than once.
     let mut tables = Tables {
@@ -148,11 +157,13 @@ fn from_names(problem: &Problem, ws: &[u64], out: &mut [u8]) -> Result<Place, Ec
         marks: [BLANK; MAX_NODES],
     };
     let mut first = [None; MAX_ENTRIES];
-    tables.prepare(problem, ws, &mut first)?;
-    Ok(print(problem, ws, &tables, &first, out))
+    tables.prepare(formed, &mut first)?;
+    Ok(print(formed, &tables, &first, out))
 }
 
-// The checks before the names, in order, and the widths of the nodes: how many there are. Ruled out: a limit told after the encoding; a node
+// The checks before the names, in order, and the widths of the nodes: how many there are.
+// Kept: each entry point makes its `Formed` of this number; in an answer, `Formed` would have a shared part of what was lent to be written.
+// Ruled out: a limit told after the encoding; a node
 // that is not well formed let through.
 #[tactic(auto, unfolding(echo_spec::specs::Answers::endless_with, echo_spec::specs::Input::dag_of))]
 pub fn measure(problem: &Problem, ws: &mut [u64; MAX_NODES]) -> Result<usize, EchoError>
@@ -167,19 +178,11 @@ pub fn measure(problem: &Problem, ws: &mut [u64; MAX_NODES]) -> Result<usize, Ec
     if !columns_ok(problem) {
         return Err(EchoError::Malformed);
     }
-    let arrays = ArrayWidths {
-        index: problem.index_width,
-        value: problem.value_width,
-    };
+    let pass = Pass::of(problem);
+    let arrays = pass.arrays;
     if !arrays.allowed() {
         return Err(EchoError::ArrayWidth);
     }
-    let nbits = problem.bits.len();
-    let pass = Pass {
-        nbits,
-        side: problem.side,
-        arrays,
-    };
     let n = pass.widths(problem.nodes, ws);
     if n < node_count(problem.nodes) {
         return Err(EchoError::Malformed);
@@ -194,5 +197,9 @@ pub fn checked(problem: &Problem, out: &mut [u8]) -> Result<Place, EchoError>
 {
     let mut ws = [0u64; MAX_NODES];
     let n = measure(problem, &mut ws)?;
-    from_names(problem, &ws[..n], out)
+    let formed = Formed {
+        problem: &*problem,
+        widths: &ws[..n],
+    };
+    from_names(&formed, out)
 }

@@ -14,8 +14,8 @@ ghost use Rattle.echo_sharing.specs.Counts.{bumped, counted, once_in};
 ghost use Rattle.echo_sharing.specs.Flags.{Flags, SharedIn};
 
 use blast_kernel::Shape;
-use lent::{Node, node_at, node_count};
-use refusals::MAX_NODES;
+use lent::{Node, Problem, at, node_at, node_count};
+use refusals::{MAX_NODE_BYTES, MAX_NODES};
 
 // ---------------------------------------------------------------- counting
 
@@ -49,10 +49,8 @@ fn bump_each(uses: &mut [u8], us: &[u64])
 pub fn stretch<'a>(side: &'a [u64], s: u64, n: u64) -> &'a [u64]
     ensures { result.now ≡ take n (drop s side.now) }
 {
-    let from = (s as usize).min(side.len());
-    let rest = &side[from..];
-    let to = (n as usize).min(rest.len());
-    &rest[..to]
+    let rest = side.get(s as usize..).unwrap_or(&[]);
+    rest.get(..n as usize).unwrap_or(rest)
 }
 
 // The side entries of n stores from s on, two for each. More stores than entries have no more than all of them, so that the product fits.
@@ -72,24 +70,20 @@ fn bump_node(uses: &mut [u8], side: &[u64], node: Node)
     ensures { uses.new ≡ counted uses.old (uses_as side.now (node_of node) (shape (node_of node))) }
 {
     match Shape::from(node.kind) {
-        Shape::Var => {}
-        Shape::Const => {}
-        Shape::Binary => bump_each(uses, &[node.a, node.b]),
-        Shape::Rotation => bump_each(uses, &[node.a, node.b]),
+        Shape::Var | Shape::Const | Shape::Unknown => {}
         Shape::Extraction => bump(uses, node.c),
-        Shape::Concat => bump_each(uses, &[node.a, node.b]),
-        Shape::Extension => bump(uses, node.a),
+        Shape::Extension(_) | Shape::Negation | Shape::Unary(_) => bump(uses, node.a),
+        Shape::Binary(_)
+        | Shape::Rotation(_)
+        | Shape::Concat
+        | Shape::Comparison(_)
+        | Shape::Connective(_) => { bump_each(uses, &[node.a, node.b]) }
         Shape::Ite => bump_each(uses, &[node.a, node.b, node.c]),
-        Shape::Comparison => bump_each(uses, &[node.a, node.b]),
-        Shape::Negation => bump(uses, node.a),
-        Shape::Connective => bump_each(uses, &[node.a, node.b]),
-        Shape::Unary => bump(uses, node.a),
         Shape::Select => {
             bump(uses, node.b);
             bump_each(uses, stores(side, node.c, node.d));
         }
         Shape::Call => bump_each(uses, stretch(side, node.c, node.d)),
-        Shape::Unknown => {}
     }
 }
 
@@ -97,17 +91,18 @@ fn bump_node(uses: &mut [u8], side: &[u64], node: Node)
 pub fn count_operands(uses: &mut [u8], nodes: &[u8], side: &[u64])
     ensures { uses.new ≡ counted uses.old (uses_of_all side.now (nodes_of nodes.now)) }
 {
+    // Kept: by records' numbers: of a part of `chunks_exact` it would have to be shown that it is the record of that number.
     for i in 0..node_count(nodes) {
         bump_node(uses, side, node_at(nodes, i));
     }
 }
 
 // And those of the roots.
-fn count_uses(uses: &mut [u8], nodes: &[u8], side: &[u64], roots: &[u64])
-    ensures { uses.new ≡ counted uses.old (uses_of_all side.now (nodes_of nodes.now) ++ roots.now) }
+fn count_uses(uses: &mut [u8], problem: &Problem)
+    ensures { uses.new ≡ counted uses.old (uses_of_all problem.now.side.now (nodes_of problem.now.nodes.now) ++ problem.now.roots.now) }
 {
-    count_operands(uses, nodes, side);
-    bump_each(uses, roots);
+    count_operands(uses, problem.nodes, problem.side);
+    bump_each(uses, problem.roots);
 }
 
 // ---------------------------------------------------------------- the test
@@ -124,6 +119,7 @@ pub fn no_shared(uses: &[u8], nodes: &[u8]) -> bool
     requires { length (nodes_of nodes.now) ≤ length uses.now }
     ensures { result ≡ every_from (once_in uses.now (nodes_of nodes.now)) 0 (length (nodes_of nodes.now)) }
 {
+    // Kept: by places, since the counts are known to reach as far as the nodes, and a closure would have to require that of a place.
     for i in 0..node_count(nodes) {
         let node = node_at(nodes, i);
         if !used_once(node.kind, uses[i]) {
@@ -136,23 +132,24 @@ pub fn no_shared(uses: &[u8], nodes: &[u8]) -> bool
 // Is every operator node used once at most, over all nodes, side entries and roots?
 // Ruled out: Eq(a,a) counted as one use; roots, a call's side entries, stored values or a rotation's amount left out; a constant used
 // twice refused; a second use that is not counted.
-pub fn unshared(nodes: &[u8], side: &[u64], roots: &[u64]) -> bool
-    requires { length nodes.now ≤ 34816 }
-    ensures { result ≡ «Unshared-of» (nodes_of nodes.now) side.now roots.now }
+pub fn unshared(problem: &Problem) -> bool
+    requires { length problem.now.nodes.now ≤ MAX_NODE_BYTES }
+    ensures { result ≡ «Unshared-of» (nodes_of problem.now.nodes.now) problem.now.side.now problem.now.roots.now }
 {
     let mut uses = [0u8; MAX_NODES];
-    count_uses(&mut uses, nodes, side, roots);
-    no_shared(&uses, nodes)
+    count_uses(&mut uses, problem);
+    no_shared(&uses, problem.nodes)
 }
 
 // ---------------------------------------------------------------- the table of shared operators
 
 // For each node whether it is an operator that is used twice or more. Past the nodes none is.
 fn shared_table(uses: &[u8; MAX_NODES], nodes: &[u8]) -> [bool; MAX_NODES]
-    requires { length (nodes_of nodes.now) ≤ 2048 }
+    requires { length (nodes_of nodes.now) ≤ MAX_NODES }
     ensures { Flags (λ j. ltb j (length (nodes_of nodes.now)) && not (once_in uses.now (nodes_of nodes.now) j)) result }
 {
     let mut shared = [false; MAX_NODES];
+    // Kept: by places, since a proof knows no element of what `iter_mut` goes over in a chain.
     for i in 0..node_count(nodes) {
         let node = node_at(nodes, i);
         shared[i] = !used_once(node.kind, uses[i]);
@@ -162,21 +159,21 @@ fn shared_table(uses: &[u8; MAX_NODES], nodes: &[u8]) -> [bool; MAX_NODES]
 
 // Which operator nodes are used twice or more, where some are.
 // Ruled out: a node that is reached twice and used once taken for shared; a call without arguments left out; the table of another problem.
-pub fn shared_nodes(nodes: &[u8], side: &[u64], roots: &[u64]) -> Option<[bool; MAX_NODES]>
-    requires { length nodes.now ≤ 34816 }
-    ensures { SharedIn (nodes_of nodes.now) side.now roots.now result }
+pub fn shared_nodes(problem: &Problem) -> Option<[bool; MAX_NODES]>
+    requires { length problem.now.nodes.now ≤ MAX_NODE_BYTES }
+    ensures { SharedIn (nodes_of problem.now.nodes.now) problem.now.side.now problem.now.roots.now result }
 {
     let mut uses = [0u8; MAX_NODES];
-    count_uses(&mut uses, nodes, side, roots);
-    if no_shared(&uses, nodes) {
+    count_uses(&mut uses, problem);
+    if no_shared(&uses, problem.nodes) {
         return None;
     }
-    Some(shared_table(&uses, nodes))
+    Some(shared_table(&uses, problem.nodes))
 }
 
 // Is x a node that is shared, by the table of them. Ruled out: the node after it; the last node past the end.
 pub fn flagged(shared: &[bool], x: u64) -> bool
     ensures { result ≡ get_or shared.now x false }
 {
-    shared.get(x as usize).copied().unwrap_or(false)
+    at(shared, x, false)
 }

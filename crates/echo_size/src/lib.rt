@@ -3,12 +3,12 @@
 
 ghost use Rattle.std.specs.Prelude.{◌≡◌, ℕ, ◌<◌, ◌^◌, get_or};
 ghost use Rattle.lent.specs.Lent.{problem_at};
-ghost use Rattle.echo_script.specs.Prepared.{WellFormed};
 ghost use Rattle.sizes.specs.Size.{echo_size_answer};
 ghost use Rattle.echo_size.specs.Sized.{answered};
 
 use echo_lengths::script_length;
-use echo_script::{Tables, measure};
+use echo_script::{Formed, Tables, measure};
+use echo_tables::BLANK;
 use echo_terms::count_terms;
 use lent::Problem;
 use refusals::{EchoError, MAX_ENTRIES, MAX_NODES};
@@ -25,19 +25,23 @@ fn fits(column: &[u64])
     ensures { (i : ℕ) → get_or column.now i 0 < 2 ^ 64 }
 {}
 
-// From the names on, where the nodes are well formed and of these widths.
-fn sized(problem: &Problem, ws: &[u64]) -> Result<Size, EchoError>
-    requires { WellFormed (problem_at problem.now) ws.now }
-    ensures { answered result ≡ echo_size_answer (problem_at problem.now) }
+// From the names on.
+fn sized(formed: &Formed) -> Result<Size, EchoError>
+    ensures { answered result ≡ echo_size_answer (problem_at formed.now.problem.now) }
 {
-    let mut tables = Tables::new();
+    // Made where they stand: a function that answers them has them on the stack more than once.
+    let mut tables = Tables {
+        entries: [None; MAX_NODES],
+        marks: [BLANK; MAX_NODES],
+    };
     let mut first = [None; MAX_ENTRIES];
-    tables.prepare(problem, ws, &mut first)?;
+    tables.prepare(formed, &mut first)?;
+    let problem = formed.problem;
     fits(problem.var_width);
     fits(problem.func_width);
     Ok(Size {
-        length: script_length(problem, ws, &tables, &first),
-        terms: count_terms(problem.nodes, problem.side, problem.roots),
+        length: script_length(formed, &tables, &first),
+        terms: count_terms(problem),
     })
 }
 
@@ -49,5 +53,9 @@ pub fn echo_size(problem: &Problem) -> Result<Size, EchoError>
 {
     let mut ws = [0u64; MAX_NODES];
     let n = measure(problem, &mut ws)?;
-    sized(problem, &ws[..n])
+    let formed = Formed {
+        problem: &*problem,
+        widths: &ws[..n],
+    };
+    sized(&formed)
 }

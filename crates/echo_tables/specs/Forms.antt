@@ -1,6 +1,5 @@
 -- What operands follow the head of a term, as the code has it: the form of a node by its shape, and its operands in printing order.
-use Rattle.std.specs.Prelude.{ℕ, zero, suc, ◌+◌, ◌≡◌, refl, true, false, List, [], ◌∷◌, ◌++◌, map, take, drop}
-use Rattle.std.proofs.Common.{ap, sym, ◌∙◌}
+use Rattle.std.specs.Prelude.{ℕ, zero, suc, ◌≡◌, refl, true, false, List, [], ◌∷◌, ◌++◌, map, take, drop}
 use Rattle.echo_spec.specs.Shapes.{
   Shape,
   var,

@@ -6,3 +6,4 @@ pub mod Marks
 pub mod Uses
 pub mod Filling
 pub mod Asked
+pub mod KindOf

@@ -1,5 +1,5 @@
 -- The mark of each node, and what an operand is refused with by the marks.
-use Rattle.std.specs.Prelude.{ℕ, ◌≡◌, Bool, false, List, get_or, length, Ok}
+use Rattle.std.specs.Prelude.{ℕ, ◌≡◌, Bool, List, get_or}
 use Rattle.echo_spec.specs.Refusals.{unless, ◌or_else◌}
 use Rattle.echo_spec.specs.Shapes.{is_bool}
 use Rattle.echo_spec.specs.Input.{Dag, shape, no_node}

@@ -1,12 +1,13 @@
 -- One step further: a number stored in a table, two lists of widths compared, a bit before those that were read.
-use Rattle.std.specs.Prelude.{ℕ, suc, ◌+◌, ◌-◌, ◌*◌, ◌%◌, ◌≤◌, ◌<◌, ◌≡◌, List, ◌∷◌, map, Bool, true, false, ◌&&◌, not, leb, eqb, length, get_or, set, take, drop}
+use Rattle.std.specs.Prelude.{ℕ, zero, suc, ◌+◌, ◌-◌, ◌*◌, ◌%◌, ◌≤◌, ◌<◌, ◌≡◌, List, [], ◌∷◌, map, Bool, true, false, eqb, length, get_or, slice_index_or, take, drop, reverse, Option, Some, None}
 use Rattle.std.proofs.Math.Path.{refl}
-use Rattle.std.proofs.Common.{ap, sym, ◌∙◌, add-one, get_or-set_same, get_or-set_other, below_more}
+use Rattle.std.proofs.Math.Bool.{and-false}
+use Rattle.std.proofs.Common.{length-take, length-drop, ap, sym, ◌∙◌}
+use Rattle.std.proofs.lemmas.List.{length-reverse, get_or-reverse, get_or_default}
 use native.Mathlib.Omega.{arith}
 use Rattle.std.proofs.Math.Nat.{mod-add-mod, zero-mod}
-use Rattle.std.proofs.Math.ListN.{drop_of_length-le, get_or-eq_default}
 use Rattle.std.proofs.Math.Seq.{drop-cons, drop-length}
-use borrow.Author.Tests.{eq-eqb, ne_eqb, le-leb, lt-leb, leb-true, leb-false, not-true, not-false}
+use borrow.Author.Tests.{eq-eqb, ne_eqb, leb-true}
 use Rattle.lists.specs.Tests.{same}
 use Rattle.echo_spec.specs.Input.{Node}
 use Rattle.echo_spec.specs.Widths.{width_at}
@@ -18,59 +19,33 @@ use Rattle.echo_spec.specs.Trees.{bits_value}
 abbrev pub widths : List ℕ → List ℕ → List ℕ
 widths ws xs = map (width_at ws) xs
 
--- ---------------------------------------------------------------- a table
-
--- what is stored after i numbers that are right is right
-pub stored : (f : ℕ → ℕ) (t : List ℕ) (i : ℕ) {v : ℕ} → ((k : ℕ) → k < i → get_or t k 0 ≡ f k) → i < length t → v ≡ f i
-    → (k : ℕ) → k < i + 1 → get_or (set t i v) k 0 ≡ f k
-stored f t i {v} h l e =
-    below_more (λ k. get_or (set t i v) k 0 ≡ f k) i
-    (λ k m. get_or-set_other t i k v 0 (λ q. let z : k ≡ i = q in omega arith) ∙ h k m)
-    (get_or-set_same t i v 0 l ∙ e)
-
--- a table of zeros is 0 past its end too
-pub zeros : (t : List ℕ) (i : ℕ) → ((k : ℕ) → k < i → get_or t k 0 ≡ 0) → length t ≤ i → (k : ℕ) → get_or t k 0 ≡ 0
-zeros t i h l k = by-test (leb (length t) k) refl
-  where
-    by-test : (b : Bool) → leb (length t) k ≡ b → get_or t k 0 ≡ 0
-    by-test true e = get_or-eq_default t 0 (leb-true (length t) k e)
-    by-test false e = h k (omega (arith, leb-false (length t) k e))
-
 -- ---------------------------------------------------------------- arguments
 
--- the end is not past m, where the start is not
-pub inside-by : (m start count : ℕ) → start ≤ m → leb count (m - start) ≡ leb (start + count) m
-inside-by m start count h = by-test (leb (start + count) m) refl
+-- the arguments of a call, where they lie inside the side entries
+abbrev pub CutOut : List ℕ → Node → Option (List ℕ) → Type 0
+CutOut side n None = arguments_inside side n ≡ false
+CutOut side n (Some xs) = (arguments_inside side n ≡ true) × (xs ≡ take n.d (drop n.c side))
+
+-- two lists of nodes have the same widths, or differ at a place
+pub same-told : (ws a b : List ℕ) → length a ≡ length b → (r : Bool)
+    → (r ≡ true → (k : ℕ) → k < length a → (d : ℕ) → eqb (width_at ws (slice_index_or a k d)) (width_at ws (slice_index_or b k d)) ≡ true)
+    → (r ≡ false → (k : ℕ) × (k < length a) × ((d : ℕ) → eqb (width_at ws (slice_index_or a k d)) (width_at ws (slice_index_or b k d)) ≡ false))
+    → r ≡ same (widths ws a) (widths ws b)
+unfolding same
+same-told ws [] [] l true h g = refl
+same-told ws [] [] l false h g = absurd (omega (arith, (g refl).1))
+same-told ws [] (y ∷ ys) l r h g = absurd (omega arith)
+same-told ws (x ∷ xs) [] l r h g = absurd (omega arith)
+same-told ws (x ∷ xs) (y ∷ ys) l true h g =
+    rw (h refl 0 (omega arith) 0) (same-told ws xs ys (omega arith) true (λ e k m d. h refl (suc k) (omega (arith, m)) d) (λ e. absurd (cc)))
+same-told ws (x ∷ xs) (y ∷ ys) l false h g =
+    fails (g refl).0 (g refl).1 (g refl).2 (λ k m e. same-told ws xs ys (omega arith) false (λ z. absurd (cc)) (λ z. (k, m, e)))
   where
-    by-test : (b : Bool) → leb (start + count) m ≡ b → leb count (m - start) ≡ b
-    by-test true e = le-leb count (m - start) (omega (arith, leb-true (start + count) m e))
-    by-test false e = lt-leb count (m - start) (omega (arith, leb-false (start + count) m e))
-
--- the widths from place i on decide the answer
-module _
-    (ws a b : List ℕ)
-    (i : ℕ)
-    {whole : Bool}
-    (e : same (widths ws (drop i a)) (widths ws (drop i b)) ≡ whole)
-  where
-    widths-open : i < length a → i < length b
-        → eqb (width_at ws (get_or a i 0)) (width_at ws (get_or b i 0)) && same (widths ws (drop (i + 1) a)) (widths ws (drop (i + 1) b)) ≡ whole
-    unfolding same
-    widths-open h k = rw (add-one i) (rw (drop-cons a i 0 h, drop-cons b i 0 k) at e)
-
-    pub widths-pass : i < length a → i < length b → width_at ws (get_or a i 0) ≡ width_at ws (get_or b i 0)
-        → same (widths ws (drop (i + 1) a)) (widths ws (drop (i + 1) b)) ≡ whole
-    widths-pass h k q = rw (eq-eqb (width_at ws (get_or a i 0)) (width_at ws (get_or b i 0)) q) at (widths-open h k)
-
-    pub widths-fail : i < length a → i < length b → (width_at ws (get_or a i 0) ≡ width_at ws (get_or b i 0) → ⊥) → false ≡ whole
-    widths-fail h k q = rw (ne_eqb (width_at ws (get_or a i 0)) (width_at ws (get_or b i 0)) q) at (widths-open h k)
-
-    pub widths-end : length a ≤ i → length b ≤ i → true ≡ whole
-    unfolding same
-    widths-end h k = rw (drop_of_length-le a h, drop_of_length-le b k) at e
-
-pub inside-le : (side : List ℕ) (n : Node) {r : Bool} → r ≡ arguments_inside side n → not r ≡ false → n.c + n.d ≤ length side
-inside-le side n {r} e t = leb-true (n.c + n.d) (length side) (sym e ∙ not-false r t)
+    fails : (k : ℕ) → k < length (x ∷ xs) → ((d : ℕ) → eqb (width_at ws (slice_index_or (x ∷ xs) k d)) (width_at ws (slice_index_or (y ∷ ys) k d)) ≡ false)
+        → ((k : ℕ) → k < length xs → ((d : ℕ) → eqb (width_at ws (slice_index_or xs k d)) (width_at ws (slice_index_or ys k d)) ≡ false) → false ≡ same (widths ws xs) (widths ws ys))
+        → false ≡ same (widths ws (x ∷ xs)) (widths ws (y ∷ ys))
+    fails zero m e rest = rw (e 0) refl
+    fails (suc k) m e rest = rw (← rest k (omega (arith, m)) e) (sym (and-false (eqb (width_at ws x) (width_at ws y))))
 
 -- the tests of two calls, in order
 module _ (ws side : List ℕ) (n f : Node) where
@@ -78,25 +53,26 @@ module _ (ws side : List ℕ) (n f : Node) where
   unfolding args_match
   match-count h = rw (ne_eqb f.d n.d h) refl
 
-  module _ (as_many : f.d ≡ n.d) {r : Bool} (own : r ≡ arguments_inside side n) where
-    pub match-own : not r ≡ true → false ≡ args_match ws side n f
+  module _ (as_many : f.d ≡ n.d) where
+    pub match-own : arguments_inside side n ≡ false → false ≡ args_match ws side n f
     unfolding args_match
-    match-own t = rw (eq-eqb f.d n.d as_many, ← own, not-true r t) refl
+    match-own own = rw (eq-eqb f.d n.d as_many, own) refl
 
-    module _ (in-own : not r ≡ false) {q : Bool} (first : q ≡ arguments_inside side f) where
-      pub match-first : not q ≡ true → false ≡ args_match ws side n f
+    module _ {xs : List ℕ} (own : CutOut side n (Some xs)) where
+      pub match-first : arguments_inside side f ≡ false → false ≡ args_match ws side n f
       unfolding args_match
-      match-first t = rw (eq-eqb f.d n.d as_many, ← own, not-false r in-own, ← first, not-true q t) refl
+      match-first first = rw (eq-eqb f.d n.d as_many, own.0, first) refl
 
-      -- the parts are lent from their starts to their ends
-      pub match-widths : not q ≡ false → {b : Bool}
-          → b ≡ same (widths ws (take (n.c + n.d - n.c) (drop n.c side))) (widths ws (take (f.c + n.d - f.c) (drop f.c side)))
-          → b ≡ args_match ws side n f
-      unfolding args_match argument_widths
-      match-widths t e =
-          let k : n.c + n.d - n.c ≡ n.d = omega arith in
-          let l : f.c + n.d - f.c ≡ f.d = omega arith in
-          rw (eq-eqb f.d n.d as_many, ← own, not-false r in-own, ← first, not-false q t) (rw (k, l) at e)
+      module _ {ys : List ℕ} (first : CutOut side f (Some ys)) where
+        pub match-long : length xs ≡ length ys
+        match-long =
+            let p = leb-true (n.c + n.d) (length side) own.0 in
+            let q = leb-true (f.c + f.d) (length side) first.0 in
+            rw (own.1, first.1, length-take, length-take, length-drop, length-drop) (omega arith)
+
+        pub match-widths : {b : Bool} → b ≡ same (widths ws xs) (widths ws ys) → b ≡ args_match ws side n f
+        unfolding args_match argument_widths
+        match-widths e = rw (eq-eqb f.d n.d as_many, own.0, first.0, ← own.1, ← first.1) e
 
 -- ---------------------------------------------------------------- bits
 
@@ -120,3 +96,14 @@ amount-more bits w j p l e f =
     drop-cons bits (j - 1) 0 (omega arith) ∙ ap (λ m. get_or bits (j - 1) 0 ∷ drop m bits) s
     in
     rw (o, e, f) (twice (bits_value (drop j bits)) (get_or bits (j - 1) 0) w)
+
+-- b comes after n others, from the last one back
+pub amount-turn : (bits : List ℕ) (w n : ℕ) {k b : ℕ} → (n < length (reverse bits)) × (b ≡ get_or (reverse bits) n b)
+    → k ≡ bits_value (drop (length bits - n) bits) % w → (2 * k + b) % w ≡ bits_value (drop (length bits - (n + 1)) bits) % w
+amount-turn bits w n {k} {b} t e =
+    let l : n < length bits = omega (arith, t.0, length-reverse bits) in
+    let y : length bits - 1 - n ≡ length bits - n - 1 = omega arith in
+    let z : length bits - (n + 1) ≡ length bits - n - 1 = omega arith in
+    let is : b ≡ get_or bits (length bits - n - 1) 0 =
+    t.1 ∙ get_or-reverse bits n b l ∙ get_or_default bits (length bits - 1 - n) b 0 (omega arith) ∙ ap (λ (i : ℕ). get_or bits i 0) y in
+    rw z (amount-more bits w (length bits - n) (omega arith) (omega arith) e is)

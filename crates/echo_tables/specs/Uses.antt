@@ -1,39 +1,20 @@
 -- What an operand is refused with, by the table that was filled as far as its node, and the tests of a list of operands one by one.
-use Prim.Native.Nat.{ℕ, zero, suc, ◌+◌, ◌-◌, ◌/◌, ◌%◌, ◌≤◌, ◌<◌}
-use Rattle.std.specs.Prelude.{◌≡◌, Bool, true, false, ◌&&◌, not, List, [], ◌∷◌, ◌++◌, map, leb, length, take, drop}
+use Prim.Native.Nat.{ℕ, zero, suc, ◌+◌, ◌-◌, ◌≤◌, ◌<◌}
+use Rattle.std.specs.Prelude.{◌≡◌, Bool, true, false, List, [], ◌∷◌, ◌++◌, map, length, take, drop}
 use Rattle.std.proofs.Math.Path.{refl, ap, sym}
 use Rattle.std.proofs.Common.{◌∙◌, add-one, length-drop, drop_of_length-le, drop-cons}
 use native.Mathlib.Omega.{arith}
-use borrow.Author.Tests.{not-true, not-false}
 use Rattle.std.proofs.Math.ListN.{get_or}
 use Rattle.std.proofs.Math.Seq.{get_or-drop}
 use Rattle.echo_spec.specs.Refusals.{unless, ◌or_else◌}
 use Rattle.refusals.specs.declared.EchoError.{EchoError}
 use Rattle.refusals.specs.Numbers.{error_number, error-number}
-use Rattle.echo_spec.specs.Shapes.{
-  Shape,
-  var,
-  const,
-  binary,
-  rotation,
-  extraction,
-  concat,
-  extension,
-  ite,
-  comparison,
-  negation,
-  connective,
-  unary,
-  select,
-  call,
-  unknown,
-  is_bool,
-}
+use Rattle.echo_spec.specs.Shapes.{Shape, var, const, binary, rotation, extraction, concat, extension, ite, comparison, negation, connective, unary, select, call, unknown}
 use Rattle.echo_spec.specs.Input.{ArrayWidths, Node, shape, no_node, Dag}
 use Rattle.echo_spec.specs.Widths.{index_width_of, value_width_of, ext_wf_of}
 use Rattle.echo_spec.specs.NodeLaws.{Pairs, Formed}
 use Rattle.echo_spec.proofs.NodeLaws.{facts}
-use Rattle.echo_spec.specs.Walk.{asked_as, asked, Operand, vector, levels, walk_all, sort_ok, walk}
+use Rattle.echo_spec.specs.Walk.{asked_as, asked, Operand, vector, levels, walk_all, walk}
 use Rattle.echo_tables.specs.declared.Form.{Form}
 use Rattle.echo_tables.specs.declared.Form.TheVariants.{Leaf, One, Two, Choice, Chain, Arguments}
 use Rattle.echo_tables.specs.Forms.{call_form, form_as, form_operands, form-operands}
@@ -83,6 +64,15 @@ else_stops e m n h = stops m n refl h (omega (arith, error-number e))
 
 pub else_goes : (m n : ℕ) {r : ℕ} → 0 ≡ m → r ≡ n → r ≡ (m or_else n)
 else_goes m n z e = rw (← z) e
+
+-- what a test decides, which its refusal was told by
+pub check-refused : (e : EchoError) (b : Bool) (m : ℕ) → error_number e ≡ unless b m → (b ≡ false) × (error_number e ≡ m)
+check-refused e true m h = absurd (omega (arith, error-number e))
+check-refused e false m h = (refl, h)
+
+pub check-passed : (b : Bool) (m : ℕ) → 0 ≡ unless b (suc m) → b ≡ true
+check-passed true m h = refl
+check-passed false m h = absurd (omega arith)
 
 pub walk-append : (below : ℕ → Bool → ℕ) (os ps : List Operand) → walk_all below (os ++ ps) ≡ (walk_all below os or_else walk_all below ps)
 unfolding walk_all

@@ -3,18 +3,19 @@
 // Under "Ruled out" stand wrong programs that a public function's contract refuses.
 #![tactic(auto)]
 
-ghost use Rattle.std.specs.Prelude.{◌≡◌, true, false, map, ℕ, ◌≤◌, ◌<◌, ◌%◌, ◌+◌, ◌*◌, length, slice_index_or, drop, replicate, None};
+ghost use Rattle.std.specs.Prelude.{◌≡◌, true, false, map, ℕ, ◌≤◌, ◌<◌, ◌%◌, ◌+◌, ◌*◌, eqb, length, slice_index_or, drop, replicate, None, option_copied};
 ghost use Rattle.lists.specs.Tests.{same};
+ghost use Rattle.reading.specs.Kinds.{Const as const_kind, Call as call_kind};
+ghost use Rattle.echo_spec.specs.Refusals.{unless};
 ghost use Rattle.echo_spec.specs.Input.{nodes_of};
 ghost use Rattle.echo_spec.specs.Input as input;
-ghost use Rattle.echo_spec.specs.Tables.{arguments_inside};
 ghost use Rattle.echo_spec.specs.Trees.{bits_value};
 ghost use Rattle.echo_spec.specs.Walk.{args_match, vector, levels, walk_all, walk, walk_roots, variable_ok, rotation_ok, call_ok, asked_as};
-ghost use Rattle.refusals.specs.Numbers.{refused};
+ghost use Rattle.refusals.specs.Numbers.{refused, error_number};
 ghost use Rattle.lent.specs.Lent.{problem_at, dag_at};
 ghost use Rattle.lent.specs.Records.{node_of};
 ghost use Rattle.echo_tables.specs.Found.{Entries, Calls};
-ghost use Rattle.echo_tables.specs.Steps.{widths};
+ghost use Rattle.echo_tables.specs.Steps.{widths, CutOut};
 ghost use Rattle.echo_tables.specs.Forms.{call_form, form_as, form_operands};
 ghost use Rattle.echo_tables.specs.Marks.{mark_at, use_of, Marks};
 ghost use Rattle.echo_tables.specs.Refused.{refused_at};
@@ -22,13 +23,24 @@ ghost use Rattle.echo_tables.specs.Uses.{FormInside};
 ghost use Rattle.echo_tables.specs.Filling.{Filled, Marking, Marked, Refusable};
 
 use blast_kernel::Shape;
-use lent::{Node, Problem, clear, get, node_at, node_count, node_of};
-use refusals::{EchoError, MAX_ENTRIES, MAX_NODES};
+use lent::{Node, Problem, at, clear, get, node_at, node_count, node_of};
+use refusals::{EchoError, MAX_ENTRIES, MAX_NODES, MAX_ROTATED};
 
-// The kinds that are asked for by number.
-const KIND_CONST: u8 = 1;
+// ---------------------------------------------------------------- kinds
 
-const KIND_CALL: u8 = 38;
+// Is the node a constant.
+fn is_const(n: Node) -> bool
+    ensures { result ≡ eqb n.kind const_kind }
+{
+    matches!(Shape::from(n.kind), Shape::Const)
+}
+
+// Is the node a call.
+fn is_call(n: Node) -> bool
+    ensures { result ≡ eqb n.kind call_kind }
+{
+    matches!(Shape::from(n.kind), Shape::Call)
+}
 
 // ---------------------------------------------------------------- tables filled once
 
@@ -36,8 +48,7 @@ const KIND_CALL: u8 = 38;
 pub fn looked_up(table: &[Option<usize>], i: u64) -> Option<usize>
     ensures { result ≡ slice_index_or table.now i None }
 {
-    let k = i as usize;
-    if k < table.len() { table[k] } else { None }
+    at(table, i, None)
 }
 
 // The entry of each node: from the last entry to the first, so that the first wins. Ruled out: the last entry of a node in place of the
@@ -46,6 +57,7 @@ pub fn entries(var_node: &[u64], entry: &mut [Option<usize>; MAX_NODES])
     ensures { Entries var_node.now entry.new }
 {
     clear(entry);
+    // Kept: places, which are what is stored; `iter().enumerate().rev()` would say no more.
     for k in (0..var_node.len()).rev() {
         let x = var_node[k] as usize;
         if x < MAX_NODES {
@@ -60,10 +72,11 @@ pub fn first_calls(nodes: &[u8], first: &mut [Option<usize>; MAX_ENTRIES])
     ensures { Calls (nodes_of nodes.now) first.new }
 {
     clear(first);
+    // Kept: places, which are what is stored, and a record is taken apart at its place.
     for i in (0..node_count(nodes)).rev() {
         let n = node_at(nodes, i);
         let g = n.a as usize;
-        if n.kind == KIND_CALL && g < MAX_ENTRIES {
+        if is_call(n) && g < MAX_ENTRIES {
             first[g] = Some(i);
         }
     }
@@ -76,23 +89,15 @@ fn same_widths(ws: &[u64], a: &[u64], b: &[u64]) -> bool
     requires { length a.now ≡ length b.now }
     ensures { result ≡ same (widths ws.now a.now) (widths ws.now b.now) }
 {
-    for j in 0..a.len() {
-        if get(ws, a[j]) != get(ws, b[j]) {
-            return false;
-        }
-    }
-    true
+    a.iter().zip(b).all(|(x, y)| get(ws, *x) == get(ws, *y))
 }
 
-// Do the call's arguments lie inside the side entries. Ruled out: a start alone that is looked at; a sum that wraps.
-#[tactic(auto, unfolding(echo_spec::specs::Tables::arguments_inside))]
-pub fn arguments_inside(side: &[u64], n: Node) -> bool
-    ensures { result ≡ arguments_inside side.now (node_of n) }
+// The call's arguments, where they lie inside the side entries. Ruled out: a start alone that is looked at; as many as there are, where
+// there are fewer.
+pub fn arguments<'a>(side: &'a [u64], n: Node) -> Option<&'a [u64]>
+    ensures { CutOut side.now (node_of n) (option_copied result) }
 {
-    let m = side.len();
-    let start = n.c as usize;
-    let count = n.d as usize;
-    start <= m && count <= m - start
+    side.get(n.c as usize..)?.get(..n.d as usize)
 }
 
 // Have the two calls as many arguments, inside the side entries, of the same widths.
@@ -103,23 +108,20 @@ pub fn args_match(ws: &[u64], side: &[u64], n: Node, f: Node) -> bool
     if f.d != n.d {
         return false;
     }
-    if !arguments_inside(side, n) {
+    let Some(own) = arguments(side, n) else {
         return false;
-    }
-    if !arguments_inside(side, f) {
+    };
+    let Some(first) = arguments(side, f) else {
         return false;
-    }
-    let count = n.d as usize;
-    let s = n.c as usize;
-    let t = f.c as usize;
-    same_widths(ws, &side[s..s + count], &side[t..t + count])
+    };
+    same_widths(ws, own, first)
 }
 
 // ---------------------------------------------------------------- rotations
 
 // A number with one bit more at its end, modulo w.
 fn doubled(k: u64, b: u8, w: u64) -> u64
-    requires { (k < 65536) × (0 < w) }
+    requires { (k < MAX_ROTATED) × (0 < w) }
     ensures { result ≡ (2 * k + b) % w }
 {
     (2 * k + u64::from(b)) % w
@@ -128,12 +130,13 @@ fn doubled(k: u64, b: u8, w: u64) -> u64
 // The number that the bits stand for, the lowest first, modulo w: from the highest bit down, so that one number is kept and it stays
 // below w. Ruled out: the number not reduced; the highest bit taken for the first.
 pub fn rot_amount(bits: &[u8], w: u64) -> u64
-    requires { (0 < w) × (w ≤ 65536) }
+    requires { (0 < w) × (w ≤ MAX_ROTATED) }
     ensures { result ≡ bits_value bits.now % w }
 {
     let mut k: u64 = 0;
-    for j in (0..bits.len()).rev() {
-        k = doubled(k, bits[j], w);
+    // Kept: k stays below w from turn to turn, which a closure of `rev().fold(..)` would have to require.
+    for b in bits.iter().rev() {
+        k = doubled(k, *b, w);
     }
     k
 }
@@ -141,11 +144,13 @@ pub fn rot_amount(bits: &[u8], w: u64) -> u64
 // ---------------------------------------------------------------- what operands a node has
 
 // What operands follow the head of a term.
+// Kept: side entries by where they stand, though each caller has them: a form is what `operands` makes of a node alone, in the definitions too.
 #[derive(Clone, Copy, Debug, PartialEq, Eq)]
 pub enum Form {
     // none
     Leaf,
     // one, and whether a Bool is wanted
+    // Kept: a bool, as an operand of the definitions has it; of an enum each clause would have to say which bool it stands for.
     One(u64, bool),
     Two(u64, u64, bool),
     // a Bool, and two bit-vectors
@@ -174,21 +179,15 @@ pub fn operands(n: Node) -> Form
     ensures { result ≡ form_as (node_of n) (input.shape (node_of n)) }
 {
     match Shape::from(n.kind) {
-        Shape::Var => Form::Leaf,
-        Shape::Const => Form::Leaf,
-        Shape::Binary => Form::Two(n.a, n.b, false),
-        Shape::Rotation => Form::One(n.a, false),
+        Shape::Var | Shape::Const | Shape::Unknown => Form::Leaf,
+        Shape::Rotation(_) | Shape::Extension(_) | Shape::Unary(_) => Form::One(n.a, false),
         Shape::Extraction => Form::One(n.c, false),
-        Shape::Concat => Form::Two(n.a, n.b, false),
-        Shape::Extension => Form::One(n.a, false),
-        Shape::Ite => Form::Choice(n.a, n.b, n.c),
-        Shape::Comparison => Form::Two(n.a, n.b, false),
         Shape::Negation => Form::One(n.a, true),
-        Shape::Connective => Form::Two(n.a, n.b, true),
-        Shape::Unary => Form::One(n.a, false),
+        Shape::Binary(_) | Shape::Concat | Shape::Comparison(_) => Form::Two(n.a, n.b, false),
+        Shape::Connective(_) => Form::Two(n.a, n.b, true),
+        Shape::Ite => Form::Choice(n.a, n.b, n.c),
         Shape::Select => Form::Chain(n.b, n.c, n.d),
         Shape::Call => call_form(n.c, n.d),
-        Shape::Unknown => Form::Leaf,
     }
 }
 
@@ -214,11 +213,17 @@ pub const BLANK: Mark = Mark {
 pub fn mark_of(marks: &[Mark], x: u64) -> Mark
     ensures { result ≡ mark_at marks.now x }
 {
-    let k = x as usize;
-    if k < marks.len() { marks[k] } else { BLANK }
+    at(marks, x, BLANK)
 }
 
 // ---------------------------------------------------------------- operands by the table
+
+// The refusal, unless the test is passed.
+fn check(passed: bool, refusal: EchoError) -> Result<(), EchoError>
+    ensures { refused result ≡ unless passed (error_number refusal) }
+{
+    if passed { Ok(()) } else { Err(refusal) }
+}
 
 // Node x where a Bool is wanted, or a bit-vector: a wrong sort, or what its mark tells.
 #[tactic(auto, unfolding(crate::specs::Marks::use_of))]
@@ -226,9 +231,7 @@ fn use_of(marks: &[Mark], x: u64, want_bool: bool) -> Result<(), EchoError>
     ensures { refused result ≡ use_of marks.now x want_bool }
 {
     let m = mark_of(marks, x);
-    if m.shape.is_bool() != want_bool {
-        return Err(EchoError::Sort);
-    }
+    check(m.shape.is_bool() == want_bool, EchoError::Sort)?;
     m.told
 }
 
@@ -238,6 +241,8 @@ fn pairs_told(marks: &[Mark], side: &[u64], s: u64, n: u64) -> Result<(), EchoEr
     ensures { refused result ≡ walk_all (use_of marks.now) (levels n (drop s side.now)) }
 {
     let from = s as usize;
+    // Kept: the pairs by their places: of a part of `rchunks_exact(2)` the two entries are taken by index too, and it would have to be shown
+    // which two they are.
     for k in (0..n as usize).rev() {
         let at = from + (k + k);
         use_of(marks, side[at], false)?;
@@ -300,7 +305,7 @@ pub struct Lookups<'a> {
 impl<'a> Lookups<'a> {
     // The first entry that has node i has the node's width.
     fn variable_ok(&self, i: u64, n: Node) -> bool
-        requires { i < 2048 }
+        requires { i < MAX_NODES }
         ensures { result ≡ variable_ok (dag_at self.now.problem.now) i (node_of n) }
     {
         match looked_up(self.entries, i) {
@@ -314,19 +319,12 @@ impl<'a> Lookups<'a> {
         ensures { result ≡ rotation_ok (dag_at self.now.problem.now) self.now.widths.now i (node_of n) }
     {
         let w = get(self.widths, i);
-        if w == 0 {
-            return false;
-        }
-        if w > 65536 {
-            return false;
-        }
-        let amount = node_of(self.problem.nodes, n.b);
-        amount.kind == KIND_CONST
+        (1..=MAX_ROTATED).contains(&w) && is_const(node_of(self.problem.nodes, n.b))
     }
 
     // The call has its function's declared width, and the arguments of the function's first call.
     fn call_ok(&self, n: Node) -> bool
-        requires { n.a < 512 }
+        requires { n.a < MAX_ENTRIES }
         ensures { result ≡ call_ok (dag_at self.now.problem.now) self.now.widths.now (node_of n) }
     {
         if get(self.problem.func_width, n.a) != n.b {
@@ -345,40 +343,20 @@ impl<'a> Lookups<'a> {
 
     // What the tables ask of node i by itself.
     fn ask(&self, i: u64, n: Node) -> Result<(), EchoError>
-        requires { i < 2048 }
+        requires { i < MAX_NODES }
         ensures { refused result ≡ asked_as (dag_at self.now.problem.now) self.now.widths.now i (node_of n) (input.shape (node_of n)) }
     {
         match Shape::from(n.kind) {
-            Shape::Var => {
-                if self.variable_ok(i, n) {
-                    Ok(())
-                } else {
-                    Err(EchoError::Var)
-                }
-            }
-            Shape::Rotation => {
-                if self.rotation_ok(i, n) {
-                    Ok(())
-                } else {
-                    Err(EchoError::Rotate)
-                }
-            }
+            Shape::Var => check(self.variable_ok(i, n), EchoError::Var),
+            Shape::Rotation(_) => check(self.rotation_ok(i, n), EchoError::Rotate),
             Shape::Select => {
-                if n.a < self.problem.aname_start.len() as u64 {
-                    Ok(())
-                } else {
-                    Err(EchoError::Malformed)
-                }
+                let arrays = self.problem.aname_start.len() as u64;
+                check(n.a < arrays, EchoError::Malformed)
             }
             Shape::Call => {
-                if n.a >= self.problem.fname_start.len() as u64 {
-                    return Err(EchoError::Malformed);
-                }
-                if self.call_ok(n) {
-                    Ok(())
-                } else {
-                    Err(EchoError::Signature)
-                }
+                let functions = self.problem.fname_start.len() as u64;
+                check(n.a < functions, EchoError::Malformed)?;
+                check(self.call_ok(n), EchoError::Signature)
             }
             _ => Ok(()),
         }
@@ -410,10 +388,11 @@ impl<'a> Lookups<'a> {
     // For each node its mark, in node order, since the operands of a node are lower nodes. Ruled out: a call's signature taken from another
     // call than the first; a rotation of width 65,537 let through; a refusal of a later operand in place of that of an earlier one.
     pub fn mark(&self, marks: &mut [Mark; MAX_NODES])
-        requires { marks.old ≡ replicate 2048 BLANK }
+        requires { marks.old ≡ replicate MAX_NODES BLANK }
         ensures { Marked (dag_at self.now.problem.now) self.now.widths.now marks.new }
     {
         let nodes = self.problem.nodes;
+        // Kept: a node's mark is made from the marks before it, so that they are written by their places.
         for i in 0..node_count(nodes) {
             let m = self.mark_node(marks, i as u64, node_at(nodes, i));
             marks[i] = m;
@@ -424,13 +403,12 @@ impl<'a> Lookups<'a> {
 // ---------------------------------------------------------------- roots
 
 // What root x is refused with: it exists and it is a Bool, and its term passes.
+// Kept: the problem, its widths and its marks as three parameters, here and in `roots_told`: each caller has them for one call.
 fn root_told(problem: &Problem, ws: &[u64], marks: &[Mark], x: u64) -> Result<(), EchoError>
     requires { Refusable problem.now ws.now marks.now }
     ensures { refused result ≡ walk (dag_at problem.now) ws.now x true }
 {
-    if x >= ws.len() as u64 {
-        return Err(EchoError::Malformed);
-    }
+    check(x < ws.len() as u64, EchoError::Malformed)?;
     use_of(marks, x, true)
 }
 

@@ -1,7 +1,7 @@
 -- The laws of heads: what is known of a node that passes, by its shape.
 use Prim.Native.Nat.{ℕ, ◌+◌, ◌-◌, ◌%◌, ◌≤◌, ◌<◌}
 use mathlib.Core.Path.{◌≡◌, refl, sym, ap, ◌∙◌, subst}
-use mathlib.Core.Bool.{Bool, true, false}
+use mathlib.Core.Bool.{true, false}
 use mathlib.Core.List.{List, [], ◌∷◌, ◌++◌}
 use mathlib.Core.Option.{Option, none, some}
 use native.Mathlib.Omega.{arith}
@@ -11,7 +11,7 @@ use Rattle.lists.specs.Bytes.{bytes}
 use Rattle.lists.specs.Tests.{every, and_0, and-1}
 use Rattle.lists.specs.Build.{find-bound}
 use Rattle.echo_spec.specs.Shapes.{Shape, var, const, rotation, extraction, extension, select, call, unknown, shapes, is_leaf}
-use Rattle.echo_spec.specs.Input.{array_widths, Node, shape, nodes_of, part, names_of, Dag, dag_of, fits64, name_table}
+use Rattle.echo_spec.specs.Input.{array_widths, Node, shape, nodes_of, names_of, Dag, dag_of, fits64, name_table, aname_table, fname_table}
 use Rattle.echo_spec.specs.Refusals.{unless}
 use Rattle.echo_spec.specs.Widths.{width_at, wf_as, node_wf}
 use Rattle.echo_spec.specs.WidthLaws.{Sized, sized, bin-operands}
@@ -21,24 +21,21 @@ use Rattle.echo_spec.specs.Walk.{variable_ok, rotation_ok, call_ok, asked_as, as
 use Rattle.echo_spec.specs.Accepted.{unless-passed, or_else-passed}
 use Rattle.echo_spec.specs.Render.{symbol_of, binary_digits, quoted, operator_text}
 use Rattle.blast_kernel.specs.Kinds.{shape_in}
+use Rattle.blast_kernel.specs.declared.Extension as extensions
+use Rattle.blast_kernel.specs.declared.Rotation as rotations
 use Rattle.blast_kernel.specs.declared.Shape as code
 use Rattle.blast_kernel.specs.declared.Shape.TheVariants as codes
-use Rattle.std.specs.Prelude.{Option as Maybe, Some, None}
+use Rattle.std.specs.Prelude.{Option as Maybe, Some, None, IsSome}
 use Rattle.echo_tables.specs.declared.Mark.{Mark}
-use Rattle.echo_tables.specs.Found.{found_of, found_none, found_some}
+use Rattle.echo_tables.specs.Found.{found_of, found_some}
 use Rattle.echo_walk.proofs.Laws.{shape-is}
 use Rattle.echo_walk.specs.declared.Walk.{Walk}
-use Rattle.echo_names.specs.NameTables.{length-names_of, get_or-names_of}
+use Rattle.echo_names.specs.NameTables.{length-names_of}
 use Rattle.echo_lines.specs.Heads.{repeated, call_head}
 use Rattle.echo_bytes.specs.Page.{Page, written}
 use Rattle.echo_bytes.specs.Laws.{written_then}
 use Rattle.echo_walk.specs.Texts.{head_as, head_of}
-use Rattle.echo_walk.specs.Walks.{problem_in, dag_in, widths_in, mark_in, node_within, head_found_at, indexed_head, Taken, Constant}
-
--- ---------------------------------------------------------------- names
-
-pub name-is : (a s l : List ℕ) (k : ℕ) → k < length s → {x : List ℕ} {b c : ℕ} → b ≡ get_or s k 0 → c ≡ get_or l k 0 → x ≡ part a b c → x ≡ get_or (names_of a s l) k []
-name-is a s l k h e f q = q ∙ rw (e, f) (sym (get_or-names_of a s l k h))
+use Rattle.echo_walk.specs.Walks.{problem_in, dag_in, widths_in, mark_in, node_within, head_found_at, Taken, Constant}
 
 -- ---------------------------------------------------------------- a node of each shape that passes
 
@@ -62,11 +59,8 @@ module _ (W : Walk) (i : ℕ) where
     entry-is : r ≡ found_of (find_node (problem_in W).var_node i)
     entry-is = e ∙ W.ready.entered i p.here
 
-    pub entry-there : {A : Type 0} → r ≡ None → A
-    entry-there q = absurd (no_place (entry_of p).0 (sym (found_none (find_node (problem_in W).var_node i) (sym q ∙ entry-is)) ∙ (entry_of p).1))
-      where
-        no_place : (k : ℕ) → none ≡ some k → ⊥
-        no_place k z = let y : ◌≡◌ {A = ℕ} 0 1 = cc in omega arith
+    pub entry-some : IsSome r
+    entry-some = rw (entry-is ∙ ap found_of (entry_of p).1) refl
 
     module _ {k : ℕ} (q : r ≡ Some k) where
       own-entry : find_node (problem_in W).var_node i ≡ some k
@@ -82,11 +76,10 @@ module _ (W : Walk) (i : ℕ) where
       unfolding dag_of
       name-of-var ex = ex ∙ sym (variable-name (dag_in W) i k own-entry)
 
-      pub head-of-var : {x : List ℕ} → x ≡ get_or (names_of (problem_in W).names (problem_in W).name_start (problem_in W).name_len) k []
-          → {g h : Page} (P : Page) → g ≡ written P (32 ∷ 124 ∷ x) → h ≡ written g (124 ∷ []) → h ≡ written P (32 ∷ head_found_at W i var)
-      unfolding head_as dag_of quoted bytes
-      head-of-var {x} ex P v w =
-          written_then P (32 ∷ 124 ∷ x) (124 ∷ []) v w ∙ ap (λ (m : List ℕ). written P (32 ∷ quoted m)) (name-of-var ex)
+  pub head-of-var : {x : List ℕ} → x ≡ variable_name (dag_in W) i → {g h : Page} (P : Page) → g ≡ written P (32 ∷ 124 ∷ x) → h ≡ written g (124 ∷ [])
+      → h ≡ written P (32 ∷ head_found_at W i var)
+  unfolding head_as quoted bytes
+  head-of-var {x} e P v w = written_then P (32 ∷ 124 ∷ x) (124 ∷ []) v w ∙ ap (λ (m : List ℕ). written P (32 ∷ quoted m)) e
 
   pub array-inside : Taken W i select → {m : Node} → m ≡ node_within W i → m.a < length (problem_in W).aname_start
   unfolding asked_as dag_of
@@ -94,7 +87,7 @@ module _ (W : Walk) (i : ℕ) where
       let l = ltb→lt (node_within W i).a (length (names_of (problem_in W).anames (problem_in W).aname_start (problem_in W).aname_len)) (unless-passed (ltb (node_within W i).a (length (names_of (problem_in W).anames (problem_in W).aname_start (problem_in W).aname_len))) 0 p.taken) in
       rw e (rw length-names_of at l)
 
-  pub head-of-select : {m : Node} → m ≡ node_within W i → {x : List ℕ} → x ≡ get_or (names_of (problem_in W).anames (problem_in W).aname_start (problem_in W).aname_len) m.a []
+  pub head-of-select : {m : Node} → m ≡ node_within W i → {x : List ℕ} → x ≡ get_or (aname_table (dag_in W)) m.a []
       → {q : Page} (P : Page) → q ≡ written P (bytes "(select " ++ (repeated m.d (bytes "(store ") ++ quoted x)) → q ≡ written P (head_found_at W i select)
   unfolding head_as dag_of
   head-of-select e ex P w = w ∙ rw (ex, e) refl
@@ -106,7 +99,7 @@ module _ (W : Walk) (i : ℕ) where
       let l = ltb→lt (node_within W i).a (length (names_of (problem_in W).fnames (problem_in W).fname_start (problem_in W).fname_len)) (unless-passed (ltb (node_within W i).a (length (names_of (problem_in W).fnames (problem_in W).fname_start (problem_in W).fname_len))) 0 a.0) in
       rw e (rw length-names_of at l)
 
-  pub head-of-call : {m : Node} → m ≡ node_within W i → {x : List ℕ} → x ≡ get_or (names_of (problem_in W).fnames (problem_in W).fname_start (problem_in W).fname_len) m.a []
+  pub head-of-call : {m : Node} → m ≡ node_within W i → {x : List ℕ} → x ≡ get_or (fname_table (dag_in W)) m.a []
       → {q : Page} (P : Page) → q ≡ written P (call_head m.d (quoted x)) → q ≡ written P (head_found_at W i call)
   unfolding head_as dag_of
   head-of-call e ex P w = w ∙ rw (ex, e) refl
@@ -124,9 +117,6 @@ module _ (W : Walk) (i : ℕ) where
   unfolding wf_as
   amount-below p = (bin-operands (widths_in W) i p.here (node_within W i).a (node_within W i).b p.formed).1
 
-  pub amount-inside : Taken W i rotation → {m : Node} → m ≡ node_within W i → m.b < length (nodes_of (problem_in W).nodes)
-  amount-inside p e = rw e (omega (arith, amount-below p, node-inside p))
-
   amount-sized : Taken W i rotation → T (wf_as (length (problem_in W).bits) (array_widths (problem_in W)) (problem_in W).side (take (node_within W i).b (widths_in W)) (node_within W (node_within W i).b) (shape (node_within W (node_within W i).b)))
   unfolding dag_of node_wf
   amount-sized p =
@@ -143,26 +133,45 @@ module _ (W : Walk) (i : ℕ) where
       let k = and-1 (leb (width_at (widths_in W) i) 65536) _ (and-1 (ltb 0 (width_at (widths_in W) i)) _ (amount-ok p)) in
       rw (eqb→eq (node_within W (node_within W i).b).kind 1 k) refl
 
-  pub rotation-ready : Taken W i rotation → {m : Node} → m ≡ node_within W i → {a : Node} → a ≡ node_within W m.b → {w : ℕ} → w ≡ get_or (widths_in W) i 0
-      → (a.a + a.b ≤ length (problem_in W).bits) × (0 < w) × (w ≤ 65536)
-  unfolding rotation_ok wf_as
-  rotation-ready p {m} e {a} f {w} q =
-      let r = amount-ok p in
-      let c : T (wf_as (length (problem_in W).bits) (array_widths (problem_in W)) (problem_in W).side (take (node_within W i).b (widths_in W)) (node_within W (node_within W i).b) const) = subst (λ (s : Shape). T (wf_as (length (problem_in W).bits) (array_widths (problem_in W)) (problem_in W).side (take (node_within W i).b (widths_in W)) (node_within W (node_within W i).b) s)) (amount-const p) (amount-sized p) in
+  -- the constant that a rotation's node names, and the width
+  pub amount-constant : Taken W i rotation → {m : Node} → m ≡ node_within W i → Constant W m.b
+  unfolding wf_as
+  amount-constant p {m} e =
       let x : Node = node_within W (node_within W i).b in
-      let g : a ≡ x = f ∙ ap (λ (z : Node). node_within W z.b) e in (
-        rw g (leb→le (x.a + x.b) (length (problem_in W).bits) (and-1 (fits64 x.b) _ (and-1 (ltb 0 x.b) _ c))),
+      let c : T (wf_as (length (problem_in W).bits) (array_widths (problem_in W)) (problem_in W).side (take (node_within W i).b (widths_in W)) x const) = subst (λ (s : Shape). T (wf_as (length (problem_in W).bits) (array_widths (problem_in W)) (problem_in W).side (take (node_within W i).b (widths_in W)) x s)) (amount-const p) (amount-sized p) in
+      rw e record {
+        here = omega (arith, amount-below p, node-inside p);
+        within = leb→le (x.a + x.b) (length (problem_in W).bits) (and-1 (fits64 x.b) _ (and-1 (ltb 0 x.b) _ c));
+        binary = W.ready.binary;
+      }
+
+  pub rotation-width : Taken W i rotation → {w : ℕ} → w ≡ get_or (widths_in W) i 0 → (0 < w) × (w ≤ 65536)
+  unfolding rotation_ok
+  rotation-width p {w} q =
+      let r = amount-ok p in (
         rw q (ltb→lt 0 (width_at (widths_in W) i) (and_0 (ltb 0 (width_at (widths_in W) i)) _ r)),
         rw q (leb→le (width_at (widths_in W) i) 65536 (and_0 (leb (width_at (widths_in W) i) 65536) _ (and-1 (ltb 0 (width_at (widths_in W) i)) _ r))),
       )
 
-  pub head-of-rotation : {m : Node} → m ≡ node_within W i → {a : Node} → a ≡ node_within W m.b → {w : ℕ} → w ≡ get_or (widths_in W) i 0
-      → {k : ℕ} → k ≡ bits_value (take a.b (drop a.a (problem_in W).bits)) % w → {q : Page} (P : Page) → q ≡ written P (bytes "(" ++ operator_text (symbol_of m.kind) (k ∷ []))
-      → q ≡ written P (head_found_at W i rotation)
-  unfolding head_as amount_of dag_of constant_bits
-  head-of-rotation {m} e {a} f {w} g {k} h P r =
-      let x : a ≡ node_within W (node_within W i).b = f ∙ ap (λ (z : Node). node_within W z.b) e in
-      r ∙ rw (h, g, x, e) refl
+  pub amount-is : {m : Node} → m ≡ node_within W i → {b : List ℕ} → b ≡ constant_bits (problem_in W).bits (node_within W m.b) → {w : ℕ} → w ≡ get_or (widths_in W) i 0
+      → {k : ℕ} → k ≡ bits_value b % w → k ≡ amount_of (dag_in W) (widths_in W) (problem_in W).bits i (node_within W i)
+  unfolding amount_of dag_of
+  amount-is e f g h = h ∙ rw (g, f, e) refl
+
+  -- the record that was read is the node's
+  module _ {m : Node} (e : m ≡ node_within W i) {q : Page} (P : Page) where
+    pub head-of-rotation : {k : ℕ} → k ≡ amount_of (dag_in W) (widths_in W) (problem_in W).bits i (node_within W i)
+        → q ≡ written P (bytes "(" ++ operator_text (symbol_of m.kind) (k ∷ [])) → q ≡ written P (head_found_at W i rotation)
+    unfolding head_as
+    head-of-rotation h w = w ∙ rw (h, e) refl
+
+    pub head-of-extraction : q ≡ written P (bytes "(" ++ operator_text (symbol_of m.kind) (m.a ∷ m.b ∷ [])) → q ≡ written P (head_found_at W i extraction)
+    unfolding head_as
+    head-of-extraction w = w ∙ rw e refl
+
+    pub head-of-extension : q ≡ written P (bytes "(" ++ operator_text (symbol_of m.kind) (m.b ∷ [])) → q ≡ written P (head_found_at W i extension)
+    unfolding head_as
+    head-of-extension w = w ∙ rw e refl
 
 true-not-false : true ≡ false → ⊥
 true-not-false h = let y : ◌≡◌ {A = ℕ} 0 1 = cc in omega arith
@@ -190,16 +199,16 @@ module _ (W : Walk) (i : ℕ) (here : i < length (widths_in W)) (free : asked (d
       second : (r : code.Shape) → T (is_leaf (shape_in r)) → (r ≡ codes.Var → ⊥) → r ≡ codes.Const
       second codes.Var h g = absurd (g refl)
       second codes.Const h g = refl
-      second codes.Binary h g = absurd h
-      second codes.Rotation h g = absurd h
+      second (codes.Binary o) h g = absurd h
+      second (codes.Rotation o) h g = absurd h
       second codes.Extraction h g = absurd h
       second codes.Concat h g = absurd h
-      second codes.Extension h g = absurd h
+      second (codes.Extension o) h g = absurd h
       second codes.Ite h g = absurd h
-      second codes.Comparison h g = absurd h
+      second (codes.Comparison o) h g = absurd h
       second codes.Negation h g = absurd h
-      second codes.Connective h g = absurd h
-      second codes.Unary h g = absurd h
+      second (codes.Connective o) h g = absurd h
+      second (codes.Unary o) h g = absurd h
       second codes.Select h g = absurd h
       second codes.Call h g = absurd h
       second codes.Unknown h g = absurd h
@@ -245,37 +254,29 @@ module _ (W : Walk) (i : ℕ) (here : i < length (widths_in W)) (free : asked (d
   unfolding head_as bytes
   const-head e P w = head_in e P refl w
 
-  pub extraction-head : indexed_head true (node_within W i) ≡ head_found_at W i extraction
-  unfolding head_as indexed_head
-  extraction-head = refl
-
-  pub extension-head : indexed_head false (node_within W i) ≡ head_found_at W i extension
-  unfolding head_as indexed_head
-  extension-head = refl
-
   -- the shapes that have no arm of their own
   plain-as : (s : code.Shape) → shape (node_within W i) ≡ shape_in s → is_leaf (shape_in s) ≡ false
-      → (s ≡ codes.Rotation → ⊥) → (s ≡ codes.Extraction → ⊥) → (s ≡ codes.Extension → ⊥) → (s ≡ codes.Select → ⊥) → (s ≡ codes.Call → ⊥)
+      → ((o : rotations.Rotation) → s ≡ codes.Rotation o → ⊥) → (s ≡ codes.Extraction → ⊥) → ((o : extensions.Extension) → s ≡ codes.Extension o → ⊥) → (s ≡ codes.Select → ⊥) → (s ≡ codes.Call → ⊥)
       → bytes "(" ++ symbol_of (node_within W i).kind ≡ head_found_at W i (shape_in s)
   unfolding is_leaf head_as wf_as
   plain-as codes.Var f a c g h j k = absurd (true-not-false a)
   plain-as codes.Const f a c g h j k = absurd (true-not-false a)
-  plain-as codes.Binary f a c g h j k = refl
-  plain-as codes.Rotation f a c g h j k = absurd (c refl)
+  plain-as (codes.Binary o) f a c g h j k = refl
+  plain-as (codes.Rotation o) f a c g h j k = absurd (c o refl)
   plain-as codes.Extraction f a c g h j k = absurd (g refl)
   plain-as codes.Concat f a c g h j k = refl
-  plain-as codes.Extension f a c g h j k = absurd (h refl)
+  plain-as (codes.Extension o) f a c g h j k = absurd (h o refl)
   plain-as codes.Ite f a c g h j k = refl
-  plain-as codes.Comparison f a c g h j k = refl
+  plain-as (codes.Comparison o) f a c g h j k = refl
   plain-as codes.Negation f a c g h j k = refl
-  plain-as codes.Connective f a c g h j k = refl
-  plain-as codes.Unary f a c g h j k = refl
+  plain-as (codes.Connective o) f a c g h j k = refl
+  plain-as (codes.Unary o) f a c g h j k = refl
   plain-as codes.Select f a c g h j k = absurd (j refl)
   plain-as codes.Call f a c g h j k = absurd (k refl)
   plain-as codes.Unknown f a c g h j k = absurd (formed-as unknown f)
 
   module _ (inner : is_leaf (shape (node_within W i)) ≡ false) (r : code.Shape) (e : r ≡ (mark_in W i).shape)
-      (c : r ≡ codes.Rotation → ⊥) (g : r ≡ codes.Extraction → ⊥) (h : r ≡ codes.Extension → ⊥) (j : r ≡ codes.Select → ⊥) (k : r ≡ codes.Call → ⊥) where
+      (c : (o : rotations.Rotation) → r ≡ codes.Rotation o → ⊥) (g : r ≡ codes.Extraction → ⊥) (h : (o : extensions.Extension) → r ≡ codes.Extension o → ⊥) (j : r ≡ codes.Select → ⊥) (k : r ≡ codes.Call → ⊥) where
     pub plain-head : {q : Page} (P : Page) → q ≡ written P (bytes " (" ++ symbol_of (node_within W i).kind) → q ≡ written P (32 ∷ head_of (dag_in W) (widths_in W) (problem_in W).bits i)
     unfolding bytes
     plain-head P w = head_in (shape-at e) P (plain-as r (shape-at e) (ap is_leaf (sym (shape-at e)) ∙ inner) c g h j k) w
@@ -286,30 +287,14 @@ pub constant-inside : {W : Walk} {i : ℕ} → Constant W i → {m : Node} → m
 constant-inside c e = (rw e c.within, c.binary)
 
 module _ {m x : Node} (e : m ≡ x) where
-  pub head-of-const : (bits : List ℕ) {q : Page} (P : Page) → q ≡ written P (bytes " #b" ++ binary_digits (take m.b (drop m.a bits)))
-      → q ≡ written P (bytes " #b" ++ binary_digits (constant_bits bits x))
-  unfolding constant_bits
-  head-of-const bits P w = w ∙ rw e refl
-
   pub head-of-plain : {q : Page} (P : Page) → q ≡ written P (bytes " (" ++ symbol_of m.kind) → q ≡ written P (bytes " (" ++ symbol_of x.kind)
   head-of-plain P w = w ∙ rw e refl
 
-  pub head-of-two : {b : Bool} → b ≡ true → {q : Page} (P : Page) → q ≡ written P (bytes "(" ++ operator_text (symbol_of m.kind) (m.a ∷ m.b ∷ [])) → q ≡ written P (indexed_head b x)
-  unfolding indexed_head
-  head-of-two f P w = w ∙ rw (f, e) refl
-
-  pub head-of-one : {b : Bool} → b ≡ false → {q : Page} (P : Page) → q ≡ written P (bytes "(" ++ operator_text (symbol_of m.kind) (m.b ∷ [])) → q ≡ written P (indexed_head b x)
-  unfolding indexed_head
-  head-of-one f P w = w ∙ rw (f, e) refl
-
--- ---------------------------------------------------------------- parts of the bits, from s to s + w
+-- ---------------------------------------------------------------- a constant's bits, from s to s + w
 
 exact : (s w : ℕ) → s + w - s ≡ w
 exact s w = omega arith
 
-pub bits-exact : (bits : List ℕ) (s w : ℕ) {q : Page} (P : Page) → q ≡ written P (bytes " #b" ++ binary_digits (take (s + w - s) (drop s bits)))
-    → q ≡ written P (bytes " #b" ++ binary_digits (take w (drop s bits)))
-bits-exact bits s w P h = h ∙ ap (λ (k : ℕ). written P (bytes " #b" ++ binary_digits (take k (drop s bits)))) (exact s w)
-
-pub amount-exact : (bits : List ℕ) (s n w : ℕ) {r : ℕ} → r ≡ bits_value (take (s + n - s) (drop s bits)) % w → r ≡ bits_value (take n (drop s bits)) % w
-amount-exact bits s n w h = h ∙ ap (λ (k : ℕ). bits_value (take k (drop s bits)) % w) (exact s n)
+pub bits-of : (bits : List ℕ) {m x : Node} → m ≡ x → {t : List ℕ} → t ≡ take (m.a + m.b - m.a) (drop m.a bits) → t ≡ constant_bits bits x
+unfolding constant_bits
+bits-of bits {m} e f = f ∙ ap (λ (k : ℕ). take k (drop m.a bits)) (exact m.a m.b) ∙ rw e refl

@@ -5,7 +5,8 @@ use mathlib.Core.Bool.{Bool, true, false}
 use mathlib.Core.List.{List, [], ◌∷◌, ◌++◌, append-nil, append_assoc}
 use native.Mathlib.Omega.{arith}
 use lib.Dec.{T}
-use lib.ListN.{length, get_or}
+use lib.ListN.{length, get_or, take, drop, length-drop}
+use Rattle.std.proofs.lemmas.List.{length-take, get_or-take, get_or-drop}
 use Rattle.lists.specs.Tests.{true→T}
 use Rattle.echo_spec.specs.Shapes.{Shape, var, const, is_leaf}
 use Rattle.echo_spec.specs.Input.{Node, shape, no_node, node_at, nodes_of, Dag, dag_of}
@@ -55,6 +56,17 @@ fewer i n m e h = omega arith
 module _ {P : ℕ → Type 0} {side : List ℕ} {s n : ℕ} (h : Entries P side s n) where
   pub listed : (k : ℕ) → k < n → {x : ℕ} → x ≡ get_or side (s + k) 0 → P x
   listed k l e = rw e (h.each (s + k) (omega arith) (omega arith))
+
+-- the part of the entries that is gone through
+module _ (side : List ℕ) (s n : ℕ) {t : List ℕ} (e : t ≡ take n (drop s side)) (k : ℕ) where
+  pub part-short : k < length t → k < n
+  part-short l = omega (arith, ap length e, length-take n (drop s side))
+
+  pub part-entry : k < length t → get_or t k 0 ≡ get_or side (s + k) 0
+  part-entry l = rw e (get_or-take n (drop s side) k 0 (part-short l) ∙ get_or-drop s side k 0)
+
+  pub part-all : {P : ℕ → Type 0} → Entries P side s n → length t ≤ k → n ≤ k
+  part-all h l = omega (arith, ap length e, length-take n (drop s side), length-drop s side, h.inside)
 
 -- one entry more
 args_more : (g : ℕ → List ℕ) (side : List ℕ) (s k : ℕ) → (32 ∷ g (get_or side s 0)) ++ args_text g side (s + 1) k ≡ args_text g side s (suc k)

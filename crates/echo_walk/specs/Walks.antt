@@ -1,12 +1,10 @@
 -- The walk's tables by what they say of a node, and the texts that are written by them.
-use Rattle.std.specs.Prelude.{ℕ, ◌+◌, ◌≤◌, ◌<◌, ◌≡◌, Bool, true, false, List, [], ◌∷◌, ◌++◌, T, leb, length, get_or, take}
+use Rattle.std.specs.Prelude.{ℕ, ◌+◌, ◌≤◌, ◌<◌, ◌≡◌, Bool, false, List, T, leb, length, get_or, take}
 use Rattle.lists.specs.Tests.{every}
-use Rattle.lists.specs.Bytes.{bytes}
 use Rattle.echo_spec.specs.Shapes.{Shape, is_leaf}
 use Rattle.echo_spec.specs.Input.{array_widths, Node, shape, no_node, nodes_of, Problem, Dag}
 use Rattle.echo_spec.specs.Widths.{wf_as}
 use Rattle.echo_spec.specs.Walk.{asked_as, asked}
-use Rattle.echo_spec.specs.Render.{symbol_of, operator_text}
 use Rattle.lent.specs.Lent.{problem_at, dag_at}
 use Rattle.echo_tables.specs.declared.Mark.{Mark}
 use Rattle.echo_tables.specs.Marks.{mark_at}
@@ -72,11 +70,6 @@ pub record Constant (W : Walk) (i : ℕ) : Type 0 where
   pub here : i < length (nodes_of (problem_in W).nodes)
   pub within : (node_within W i).a + (node_within W i).b ≤ length (problem_in W).bits
   pub binary : T (every (λ b. leb b 1) (problem_in W).bits)
-
--- the head of an operator with two numerals, or with one
-unfoldable pub indexed_head : Bool → Node → List ℕ
-indexed_head true n = bytes "(" ++ operator_text (symbol_of n.kind) (n.a ∷ n.b ∷ [])
-indexed_head false n = bytes "(" ++ operator_text (symbol_of n.kind) (n.b ∷ [])
 
 -- node i is a variable or a constant, and the tables take it
 pub record LeafAt (W : Walk) (i : ℕ) : Type 0 where

@@ -9,52 +9,20 @@
 // whether it is written as a term, or as the name that a `let` gave it.
 #![tactic(auto)]
 
-ghost use Rattle.std.specs.Prelude.{◌≡◌, [], ◌∷◌, ◌++◌, ◌+◌, ◌%◌, ◌^◌, ◌≤◌, ◌<◌, T, leb, length, get_or, take, drop};
-ghost use Rattle.lists.specs.Bytes.{bytes as literal};
-ghost use Rattle.lists.specs.Tests.{every};
-ghost use Rattle.echo_spec.specs.Shapes.{is_leaf};
-ghost use Rattle.echo_spec.specs.Input.{names_of};
-ghost use Rattle.echo_spec.specs.Trees.{bits_value};
-ghost use Rattle.echo_spec.specs.Render.{binary_digits};
-ghost use Rattle.blast_kernel.specs.Kinds.{shape_in};
+ghost use Rattle.std.specs.Prelude.{◌≡◌};
 ghost use Rattle.echo_bytes.specs.Page.{page, written};
 ghost use Rattle.echo_walk.specs.Texts.{named};
 ghost use Rattle.echo_walk.specs.Ready.{Ready};
 
 use blast_kernel::Shape;
 use echo_bytes::Place;
+use echo_lines::{open_call, open_indexed, open_select, spaced_plain};
+use echo_names::name_at;
+use echo_sharing::stretch;
 use echo_tables::{Form, Mark, looked_up, mark_of, operands, rot_amount};
 use lent::{Node, Problem, get, node_at};
 
-// ---------------------------------------------------------------- parts of what is lent
-
-// A blank, and a part of the bits as a constant.
-fn push_bits(bits: &[u8], s: u64, w: u64, p: Place, out: &mut [u8]) -> Place
-    requires { (s + w ≤ length bits.now) × T (every (λ b. leb b 1) bits.now) }
-    ensures { page result out.new ≡ written (page p out.old) (literal " #b" ++ binary_digits (take w (drop s bits.now))) }
-{
-    let from = s as usize;
-    let to = from + w as usize;
-    p.spaced_constant(out, &bits[from..to])
-}
-
-// The number that a part of the bits stands for, modulo w. Ruled out: the part read from its highest bit; the number as it is.
-pub fn rot_of(bits: &[u8], s: u64, n: u64, w: u64) -> u64
-    requires { (s + n ≤ length bits.now) × (0 < w) × (w ≤ 65536) }
-    ensures { result ≡ bits_value (take n (drop s bits.now)) % w }
-{
-    let from = s as usize;
-    let to = from + n as usize;
-    rot_amount(&bits[from..to], w)
-}
-
-// Name k of a table. Ruled out: the name after it; the rest of the arena.
-pub fn name_at<'a>(arena: &'a [u8], starts: &[u64], lens: &[u64], k: u64) -> &'a [u8]
-    requires { k < length starts.now }
-    ensures { result.now ≡ get_or (names_of arena.now starts.now lens.now) k [] }
-{
-    echo_names::part(arena, get(starts, k), get(lens, k))
-}
+// ---------------------------------------------------------------- names
 
 // The name of node i: `|d2|` for node 2. Ruled out: the number without the letter; a name without its bars.
 pub fn push_named(p: Place, i: u64, out: &mut [u8]) -> Place
@@ -79,18 +47,19 @@ pub struct Walk<'a> {
 }
 
 impl<'a> Walk<'a> {
-    ghost use Rattle.std.specs.Prelude.{◌≡◌, [], ◌∷◌, ◌++◌, ◌+◌, ◌%◌, ◌^◌, ◌≤◌, ◌<◌, T, leb, length, get_or, take, drop, true, false};
+    ghost use Rattle.std.specs.Prelude.{◌≡◌, [], ◌∷◌, ◌++◌, ◌+◌, ◌<◌, T, leb, length, get_or};
     ghost use Rattle.lists.specs.Bytes.{bytes as literal};
-    ghost use Rattle.echo_spec.specs.Shapes.{var, rotation, select, call, is_leaf};
-    ghost use Rattle.echo_spec.specs.Input.{nodes_of};
-    ghost use Rattle.echo_spec.specs.Trees.{constant_bits};
+    ghost use Rattle.lists.specs.Tests.{every};
+    ghost use Rattle.echo_spec.specs.Shapes.{var, rotation, extraction, extension, select, call, is_leaf};
+    ghost use Rattle.echo_spec.specs.Input.{nodes_of, aname_table, fname_table};
+    ghost use Rattle.echo_spec.specs.Trees.{constant_bits, amount_of, variable_name};
     ghost use Rattle.echo_spec.specs.Render.{symbol_of, binary_digits};
     ghost use Rattle.lent.specs.Records.{node_of};
     ghost use Rattle.blast_kernel.specs.Kinds.{shape_in};
     ghost use Rattle.echo_bytes.specs.Page.{page, written};
     ghost use Rattle.echo_walk.specs.Operands.{Entries};
     ghost use Rattle.echo_walk.specs.Texts.{head_of, one_text, two_text, levels_text, args_text};
-    ghost use Rattle.echo_walk.specs.Walks.{problem_in, dag_in, widths_in, mark_in, node_within, style_at, text_at, head_found_at, indexed_head, Fine, Under, Taken, Constant, LeafAt, TermAt};
+    ghost use Rattle.echo_walk.specs.Walks.{problem_in, dag_in, widths_in, mark_in, node_within, style_at, text_at, head_found_at, Fine, Under, Taken, Constant, LeafAt, TermAt};
 
     // The mark of node i. Ruled out: that of the node after it; a blank one for all.
     pub fn mark(&self, i: u64) -> Mark
@@ -114,81 +83,122 @@ impl<'a> Walk<'a> {
         self.mark(i).shape.is_leaf()
     }
 
+    // ------------------------------------------------------------ parts of what is lent
+
+    // The name of node i, a variable: that of its entry. Ruled out: the name of the entry after it; no name.
+    pub fn variable_name(&self, i: u64) -> &'a [u8]
+        requires { Taken self.now i var }
+        ensures { result.now ≡ variable_name (dag_in self.now) i }
+    {
+        let problem = self.problem;
+        let k = looked_up(self.entries, i).unwrap();
+        name_at(
+            problem.names,
+            problem.name_start,
+            problem.name_len,
+            k as u64,
+        )
+    }
+
+    // The name of array a. Ruled out: the name of the array after it; the rest of the arena.
+    #[tactic(auto, unfolding(echo_spec::specs::Input::dag_of))]
+    pub fn array_name(&self, a: u64) -> &'a [u8]
+        requires { a < length (problem_in self.now).aname_start }
+        ensures { result.now ≡ get_or (aname_table (dag_in self.now)) a [] }
+    {
+        let problem = self.problem;
+        name_at(problem.anames, problem.aname_start, problem.aname_len, a)
+    }
+
+    // The name of function f. Ruled out: the name of an array; that of the function after it.
+    #[tactic(auto, unfolding(echo_spec::specs::Input::dag_of))]
+    pub fn function_name(&self, f: u64) -> &'a [u8]
+        requires { f < length (problem_in self.now).fname_start }
+        ensures { result.now ≡ get_or (fname_table (dag_in self.now)) f [] }
+    {
+        let problem = self.problem;
+        name_at(problem.fnames, problem.fname_start, problem.fname_len, f)
+    }
+
+    // The bits of node i, a constant. Ruled out: one bit more; the bits of the constant before it.
+    pub fn constant(&self, i: u64) -> &'a [u8]
+        requires { Constant self.now i }
+        ensures part { result.now ≡ constant_bits (problem_in self.now).bits (node_within self.now i) }
+        ensures binary { T (every (λ b. leb b 1) result.now) }
+    {
+        let n = self.node(i);
+        let bits = self.problem.bits;
+        let from = n.a as usize;
+        let to = from + n.b as usize;
+        &bits[from..to]
+    }
+
+    // By how much node i rotates: the number of its constant, modulo the width. Ruled out: the number as it is; that of another rotation.
+    pub fn amount(&self, i: u64) -> u64
+        requires { Taken self.now i rotation }
+        ensures { result ≡ amount_of (dag_in self.now) (widths_in self.now) (problem_in self.now).bits i (node_within self.now i) }
+    {
+        let by = self.node(i).b;
+        rot_amount(self.constant(by), get(self.widths, i))
+    }
+
     // ------------------------------------------------------------ heads
 
     // The heads of the shapes that need more than the record. Those of variables, constants and operators without numerals, which most nodes
-    // are, come with the blank before them, as one piece where it fits. A variable that is taken has an entry.
+    // are, come with the blank before them, as one piece where it fits.
     fn head_var(&self, p: Place, i: u64, out: &mut [u8]) -> Place
         requires { Taken self.now i var }
         ensures { page result out.new ≡ written (page p out.old) (32 ∷ head_found_at self.now i var) }
     {
-        match looked_up(self.entries, i) {
-            None => p,
-            Some(k) => {
-                let problem = self.problem;
-                let name = name_at(
-                    problem.names,
-                    problem.name_start,
-                    problem.name_len,
-                    k as u64,
-                );
-                p.led(out, b' ', b'|', name).byte(out, b'|')
-            }
-        }
+        p.led(out, b' ', b'|', self.variable_name(i))
+            .byte(out, b'|')
     }
 
     fn head_const(&self, p: Place, i: u64, out: &mut [u8]) -> Place
         requires { Constant self.now i }
         ensures { page result out.new ≡ written (page p out.old) (literal " #b" ++ binary_digits (constant_bits (problem_in self.now).bits (node_within self.now i))) }
     {
-        let n = self.node(i);
-        push_bits(self.problem.bits, n.a, n.b, p, out)
+        p.spaced_constant(out, self.constant(i))
     }
 
-    // Ruled out: the amount as it is, and not modulo the width; the amount of another rotation.
-    pub fn head_rotation(&self, p: Place, i: u64, out: &mut [u8]) -> Place
+    fn head_rotation(&self, p: Place, i: u64, out: &mut [u8]) -> Place
         requires { Taken self.now i rotation }
         ensures { page result out.new ≡ written (page p out.old) (head_found_at self.now i rotation) }
     {
-        let n = self.node(i);
-        let m = self.node(n.b);
-        let k = rot_of(self.problem.bits, m.a, m.b, get(self.widths, i));
-        echo_lines::open_one(n.kind, k, p, out)
+        let kind = self.node(i).kind;
+        open_indexed(kind, &[self.amount(i)], p, out)
     }
 
-    // Ruled out: the name of another array; one store too few.
-    pub fn head_select(&self, p: Place, i: u64, out: &mut [u8]) -> Place
+    fn head_extraction(&self, p: Place, i: u64, out: &mut [u8]) -> Place
+        requires { i < length (nodes_of (problem_in self.now).nodes) }
+        ensures { page result out.new ≡ written (page p out.old) (head_found_at self.now i extraction) }
+    {
+        let n = self.node(i);
+        open_indexed(n.kind, &[n.a, n.b], p, out)
+    }
+
+    fn head_extension(&self, p: Place, i: u64, out: &mut [u8]) -> Place
+        requires { i < length (nodes_of (problem_in self.now).nodes) }
+        ensures { page result out.new ≡ written (page p out.old) (head_found_at self.now i extension) }
+    {
+        let n = self.node(i);
+        open_indexed(n.kind, &[n.b], p, out)
+    }
+
+    fn head_select(&self, p: Place, i: u64, out: &mut [u8]) -> Place
         requires { Taken self.now i select }
         ensures { page result out.new ≡ written (page p out.old) (head_found_at self.now i select) }
     {
         let n = self.node(i);
-        let problem = self.problem;
-        let name = name_at(problem.anames, problem.aname_start, problem.aname_len, n.a);
-        echo_lines::open_select(name, n.d, p, out)
+        open_select(self.array_name(n.a), n.d, p, out)
     }
 
-    // Ruled out: the name of another function; a bracket before a call without arguments.
-    pub fn head_call(&self, p: Place, i: u64, out: &mut [u8]) -> Place
+    fn head_call(&self, p: Place, i: u64, out: &mut [u8]) -> Place
         requires { Taken self.now i call }
         ensures { page result out.new ≡ written (page p out.old) (head_found_at self.now i call) }
     {
         let n = self.node(i);
-        let problem = self.problem;
-        let name = name_at(problem.fnames, problem.fname_start, problem.fname_len, n.a);
-        echo_lines::open_call(name, n.d, p, out)
-    }
-
-    // The heads of operators: of a record with two numerals, with one, with none. Ruled out: the two numerals exchanged; the symbol of another
-    // kind.
-    pub fn head_indexed(&self, p: Place, i: u64, two: bool, out: &mut [u8]) -> Place
-        requires { i < length (nodes_of (problem_in self.now).nodes) }
-        ensures { page result out.new ≡ written (page p out.old) (indexed_head two (node_within self.now i)) }
-    {
-        let n = self.node(i);
-        if two {
-            return echo_lines::open_two(n.kind, n.a, n.b, p, out);
-        }
-        echo_lines::open_one(n.kind, n.b, p, out)
+        open_call(self.function_name(n.a), n.d, p, out)
     }
 
     #[inline(always)]
@@ -197,20 +207,21 @@ impl<'a> Walk<'a> {
         ensures { page result out.new ≡ written (page p out.old) (literal " (" ++ symbol_of (node_within self.now i).kind) }
     {
         let n = self.node(i);
-        echo_lines::spaced_plain(n.kind, p, out)
+        spaced_plain(n.kind, p, out)
     }
 
     // A blank, and the head of node i by itself, which is no leaf: all its text before its operands.
+    // Kept: a function for each head, though it has one caller. This one is compiled into the walk, and only the head that most nodes have goes
+    // with it.
     #[inline(always)]
     fn own_head(&self, p: Place, i: u64, out: &mut [u8]) -> Place
         requires { TermAt self.now i }
         ensures { page result out.new ≡ written (page p out.old) (32 ∷ head_of (dag_in self.now) (widths_in self.now) (problem_in self.now).bits i) }
     {
-        let mark = self.mark(i);
-        match mark.shape {
-            Shape::Rotation => self.head_rotation(p.byte(out, b' '), i, out),
-            Shape::Extraction => self.head_indexed(p.byte(out, b' '), i, true, out),
-            Shape::Extension => self.head_indexed(p.byte(out, b' '), i, false, out),
+        match self.mark(i).shape {
+            Shape::Rotation(_) => self.head_rotation(p.byte(out, b' '), i, out),
+            Shape::Extraction => self.head_extraction(p.byte(out, b' '), i, out),
+            Shape::Extension(_) => self.head_extension(p.byte(out, b' '), i, out),
             Shape::Select => self.head_select(p.byte(out, b' '), i, out),
             Shape::Call => self.head_call(p.byte(out, b' '), i, out),
             _ => self.head_plain(p, i, out),
@@ -222,8 +233,7 @@ impl<'a> Walk<'a> {
         requires { LeafAt self.now i }
         ensures { page result out.new ≡ written (page p out.old) (32 ∷ head_of (dag_in self.now) (widths_in self.now) (problem_in self.now).bits i) }
     {
-        let mark = self.mark(i);
-        match mark.shape {
+        match self.mark(i).shape {
             Shape::Var => self.head_var(p, i, out),
             _ => self.head_const(p, i, out),
         }
@@ -266,6 +276,10 @@ impl<'a> Walk<'a> {
     //
     // A place that came back from a writer is taken apart before it is handed on: a struct that is copied whole waits for its two parts to
     // reach the memory.
+    // Kept: written out each time. Trees take a fifth longer with places handed on whole (docs/PERFORMANCE.md); a function that is compiled into
+    // its callers and makes the place anew was not measured.
+    // Kept: `lim`, which no body reads but to hand it on, is what the operands are below. It would be a `ghost` clause, and in a cycle of calls
+    // a function with one gets no generated proof.
 
     // A blank, and node i as a term. Ruled out: operands that change places; a call without its arguments; operands behind the name of a node.
     #[cycle(walk)]
@@ -419,6 +433,7 @@ impl<'a> Walk<'a> {
     }
 
     // The closings of n stores, the last first: ` I V)` for each.
+    // Kept: two entries by their numbers in each turn; a chain over pairs from the last would take them by number as well.
     #[cycle(walk)]
     fn echo_levels(&self, p: Place, lim: u64, s: u64, n: u64, out: &mut [u8]) -> Place
         requires { Entries (Under self.now lim) (problem_in self.now).side s (n + n) }
@@ -447,14 +462,12 @@ impl<'a> Walk<'a> {
         requires { Entries (Under self.now lim) (problem_in self.now).side s n }
         ensures { page result out.new ≡ written (page p out.old) (args_text (text_at self.now) (problem_in self.now).side s n) }
     {
-        let side = self.problem.side;
         let mut q = Place {
             at: p.at,
             need: p.need,
         };
-        for k in 0..n {
-            let x = get(side, s + k);
-            let r = self.echo_operand(q, x, out);
+        for x in stretch(self.problem.side, s, n) {
+            let r = self.echo_operand(q, *x, out);
             q = Place {
                 at: r.at,
                 need: r.need,

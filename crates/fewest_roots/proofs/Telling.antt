@@ -1,17 +1,23 @@
 -- A problem whose nodes are well formed, with other roots. Assumes nothing.
-use Rattle.std.specs.Prelude.{ℕ, ◌≤◌, List, length}
+use Rattle.std.specs.Prelude.{ℕ, ◌≤◌, ◌≡◌, List, true, false, length}
 use Rattle.std.proofs.Common.{sym, ap, ◌∙◌}
 use Rattle.lists.specs.Tests.{true→T, T→true}
 use Rattle.echo_spec.specs.Refusals.{unless}
 use Rattle.echo_spec.specs.Input.{Problem, array_widths, within_limits, nodes_of, dag_of}
+use Rattle.echo_spec.specs.Names.{names_ok}
 use Rattle.echo_spec.specs.Widths.{ext_wf_of}
 use Rattle.echo_spec.specs.Sharing.{unshared}
 use Rattle.echo_spec.specs.Walk.{walk_roots, table_checks, refusal_with}
 use Rattle.echo_spec.specs.Answers.{endless_refusal}
 use Rattle.echo_script.specs.Prepared.{WellFormed}
 use Rattle.echo_script.proofs.Checking.{measured-checks}
-use Rattle.fewest.specs.Fewest.{with_roots}
-use Rattle.fewest.specs.Refused.{roots_few, within-with, Numbered}
+use Rattle.fewest.specs.Fewest.{with_roots, fewest_roots_answer}
+use Rattle.fewest.proofs.Refused.{shared-operands, shared-one, shared-two}
+use Rattle.fewest_sharing.specs.declared.FewestRoots.{FewestRoots}
+use Rattle.fewest_sharing.specs.declared.FewestRoots.TheVariants.{Empty, One, Two}
+use Rattle.fewest_sharing.specs.Found.{Fewest}
+use Rattle.fewest_roots.specs.Answered.{roots_positions}
+use Rattle.fewest.specs.Refused.{told, roots_few, within-with, Numbered}
 
 -- with other roots a problem is as well formed
 formed-with : (p : Problem) (ws rs : List ℕ) → length rs ≤ 256 → WellFormed p ws → WellFormed (with_roots p rs) ws
@@ -35,3 +41,10 @@ numbered p ws h = record {
       measured-checks (with_roots p rs) ws (formed-with p ws rs l h) s (walk_roots (dag_of p) e rs)
       ∙ ap (λ (z : List ℕ). table_checks (dag_of p) ws s (walk_roots (dag_of p) z rs)) (sym h.widths);
 }
+
+-- the fewest roots that share an operator, where some do
+pub shared-told : (p : Problem) (ws : List ℕ) → Numbered p ws → names_ok (dag_of p) ≡ true → (r : FewestRoots) → unshared (nodes_of p.nodes) p.side p.roots ≡ false
+    → Fewest (nodes_of p.nodes) p.side p.roots r → told 6 (roots_positions r) ≡ fewest_roots_answer p
+shared-told p ws n named Empty some h = shared-operands p ws n named some h
+shared-told p ws n named (One k) some h = shared-one p ws n named some h
+shared-told p ws n named (Two j k) some h = shared-two p ws n named some h

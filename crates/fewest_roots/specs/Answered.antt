@@ -1,5 +1,5 @@
 -- The number and the positions of what `fewest_roots` answers, and what is known on the way to it.
-use Rattle.std.specs.Prelude.{ℕ, ◌<◌, ◌≡◌, List, [], ◌∷◌, true, length, get_or, Option, Some, None, Result, Ok, Err}
+use Rattle.std.specs.Prelude.{ℕ, ◌<◌, ◌≡◌, List, [], ◌∷◌, true, length, get_or, Option, Some, None, Result, Ok, Err, ⊤}
 use Rattle.echo_spec.specs.Input.{Problem, Dag, nodes_of, dag_of}
 use Rattle.echo_spec.specs.Names.{names_ok}
 use Rattle.echo_spec.specs.Sharing.{unshared}
@@ -10,8 +10,9 @@ use Rattle.echo_script.specs.Prepared.{WellFormed}
 use Rattle.fewest.specs.Fewest.{FewestAnswer}
 use Rattle.fewest.specs.Refused.{FirstRefused}
 use Rattle.fewest_roots.specs.declared.Fewest.{Fewest}
-use Rattle.fewest_roots.specs.declared.FewestRoots.{FewestRoots}
-use Rattle.fewest_roots.specs.declared.FewestRoots.TheVariants.{Empty, One, Two}
+use Rattle.fewest_sharing.specs.declared.FewestRoots.{FewestRoots}
+use Rattle.fewest_sharing.specs.declared.FewestRoots.TheVariants.{Empty, One, Two}
+use Rattle.fewest_roots.specs.declared.Refused.{Refused}
 
 -- 0 where nothing is refused
 abbrev pub refusal_number : Option EchoError → ℕ
@@ -32,10 +33,10 @@ positions f = roots_positions f.roots
 abbrev pub answered : Fewest → FewestAnswer
 answered f = record { number = number f; positions = positions f }
 
--- a refusal before the list is known has none
-abbrev pub told : Result Fewest EchoError → FewestAnswer
-told (Ok f) = answered f
-told (Err e) = record { number = error_number e; positions = [] }
+-- as the checks tell it
+abbrev pub told : Result ⊤ Refused → FewestAnswer
+told (Ok x) = record { number = 0; positions = [] }
+told (Err r) = record { number = error_number r.0; positions = roots_positions r.1 }
 
 -- the first root that is refused, with its refusal; none where none is
 abbrev pub Walked : Dag → List ℕ → List ℕ → Option (ℕ × EchoError) → Type 0

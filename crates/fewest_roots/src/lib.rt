@@ -1,42 +1,41 @@
 // The fewest roots that still refuse: the entry point `fewest_roots`, of the same problem as `echo_ext` and no output.
 #![tactic(auto)]
 
-ghost use Rattle.std.specs.Prelude.{◌≡◌, Some};
+ghost use Rattle.std.specs.Prelude.{◌≡◌};
 ghost use Rattle.lent.specs.Lent.{problem_at, dag_at};
 ghost use Rattle.echo_tables.specs.Filling.{Refusable};
-ghost use Rattle.echo_script.specs.Prepared.{WellFormed};
 ghost use Rattle.fewest.specs.Fewest.{fewest_roots_answer};
+ghost use Rattle.fewest_sharing.specs.declared.FewestRoots.TheVariants.{Empty};
 ghost use Rattle.fewest_roots.specs.Answered.{answered, told, Walked, Apart};
 
 use echo_checks::names_ok;
-use echo_script::{Tables, measure};
+use echo_script::{Formed, Tables, measure};
 use echo_tables::{Mark, roots_told};
-use fewest_sharing::{Sharing, shared_roots};
+use fewest_sharing::shared_roots;
 use lent::Problem;
 use refusals::{EchoError, MAX_ENTRIES, MAX_NODES};
 
+// The roots by their positions.
+pub use fewest_sharing::FewestRoots;
+
 // What is told of a problem: the refusal that the printer has with endless room, or none, and the roots that still give it.
+// Kept: two fields, and not a `Result` as inside: the answer for C is made of them one by one, and has the empty list where there is no
+// refusal.
 #[derive(Clone, Copy, Debug, PartialEq, Eq)]
 pub struct Fewest {
     pub refusal: Option<EchoError>,
     pub roots: FewestRoots,
 }
 
-// The roots by their positions.
-#[derive(Clone, Copy, Debug, PartialEq, Eq)]
-pub enum FewestRoots {
-    Empty,
-    One(usize),
-    Two(usize, usize),
-}
-
 // A refusal, and the roots that still give it.
-fn because(refusal: EchoError, roots: FewestRoots) -> Fewest
-    ensures { result ≡ record { refusal = Some refusal; roots = roots } }
-{
-    Fewest {
-        refusal: Some(refusal),
-        roots,
+struct Refused(EchoError, FewestRoots);
+
+// A refusal before the roots are looked at has no list.
+impl From<EchoError> for Refused {
+    ghost from_gives = { λ e r. r ≡ record { 0 = e; 1 = Empty } };
+
+    fn from(refusal: EchoError) -> Refused {
+        Refused(refusal, FewestRoots::Empty)
     }
 }
 
@@ -55,45 +54,44 @@ fn first_refused(problem: &Problem, ws: &[u64], marks: &[Mark]) -> Option<(usize
 }
 
 // From the declared variables on: the names are allowed and no operator is shared.
-fn from_declared(problem: &Problem, ws: &[u64]) -> Result<Fewest, EchoError>
-    requires { Apart (problem_at problem.now) ws.now }
-    ensures { told result ≡ fewest_roots_answer (problem_at problem.now) }
+fn from_declared(formed: &Formed) -> Result<(), Refused>
+    requires { Apart (problem_at formed.now.problem.now) formed.now.widths.now }
+    ensures { told result ≡ fewest_roots_answer (problem_at formed.now.problem.now) }
 {
     let mut tables = Tables::new();
     let mut first = [None; MAX_ENTRIES];
-    tables.fill(problem, ws, &mut first)?;
-    Ok(match first_refused(problem, ws, &tables.marks) {
-        None => Fewest {
-            refusal: None,
-            roots: FewestRoots::Empty,
-        },
-        Some((k, refusal)) => because(refusal, FewestRoots::One(k)),
-    })
+    tables.fill(formed, &mut first)?;
+    match first_refused(formed.problem, formed.widths, &tables.marks) {
+        None => Ok(()),
+        Some((k, refusal)) => Err(Refused(refusal, FewestRoots::One(k))),
+    }
 }
 
-// From the names on: the nodes are well formed and of these widths.
-fn from_names(problem: &Problem, ws: &[u64]) -> Result<Fewest, EchoError>
-    requires { WellFormed (problem_at problem.now) ws.now }
-    ensures { told result ≡ fewest_roots_answer (problem_at problem.now) }
+// From the names on.
+fn from_names(formed: &Formed) -> Result<(), Refused>
+    ensures { told result ≡ fewest_roots_answer (problem_at formed.now.problem.now) }
 {
+    let problem = formed.problem;
     if !names_ok(problem) {
-        return Err(EchoError::Name);
+        return Err(Refused::from(EchoError::Name));
     }
-    match shared_roots(problem.nodes, problem.side, problem.roots) {
-        Sharing::Unshared => from_declared(problem, ws),
-        Sharing::Operands => Err(EchoError::Shared),
-        Sharing::One(k) => Ok(because(EchoError::Shared, FewestRoots::One(k))),
-        Sharing::Two(j, k) => Ok(because(EchoError::Shared, FewestRoots::Two(j, k))),
+    match shared_roots(problem) {
+        None => from_declared(formed),
+        Some(roots) => Err(Refused(EchoError::Shared, roots)),
     }
 }
 
-// The fewest roots of a problem, or a refusal that has no list: every check but the one for room, each made once.
-fn fewest_of(problem: &Problem) -> Result<Fewest, EchoError>
+// The fewest roots of a problem that is refused: every check but the one for room, each made once.
+fn fewest_of(problem: &Problem) -> Result<(), Refused>
     ensures { told result ≡ fewest_roots_answer (problem_at problem.now) }
 {
     let mut ws = [0u64; MAX_NODES];
     let n = measure(problem, &mut ws)?;
-    from_names(problem, &ws[..n])
+    let formed = Formed {
+        problem: &*problem,
+        widths: &ws[..n],
+    };
+    from_names(&formed)
 }
 
 // THE FEWEST ROOTS with which the problem is still refused as `echo_ext` refuses it with endless room, which is told too. A problem that is
@@ -103,7 +101,13 @@ pub fn fewest_roots(problem: &Problem) -> Fewest
     ensures { answered result ≡ fewest_roots_answer (problem_at problem.now) }
 {
     match fewest_of(problem) {
-        Ok(fewest) => fewest,
-        Err(refusal) => because(refusal, FewestRoots::Empty),
+        Ok(()) => Fewest {
+            refusal: None,
+            roots: FewestRoots::Empty,
+        },
+        Err(Refused(refusal, roots)) => Fewest {
+            refusal: Some(refusal),
+            roots,
+        },
     }
 }

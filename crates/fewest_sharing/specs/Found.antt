@@ -1,13 +1,11 @@
 -- What is found among the roots: a root that an operand uses too, a root that is there twice; and what that says of sharing.
-use Rattle.std.specs.Prelude.{ℕ, ◌+◌, ◌≤◌, ◌<◌, ◌≡◌, refl, List, [], map, Bool, true, false, ◌&&◌, not, ltb, eqb, length, get_or, Option, Some, None}
-use Rattle.std.proofs.Common.{sym, subst, arith, eqb-true}
-use Rattle.std.proofs.lemmas.Bool.{eqb-false}
+use Rattle.std.specs.Prelude.{ℕ, ◌≤◌, ◌<◌, ◌≡◌, refl, List, [], map, Bool, true, false, ◌&&◌, not, ltb, length, get_or, Option, Some, None}
 use Rattle.echo_spec.specs.Input.{Node, nodes_of}
 use Rattle.echo_spec.specs.Sharing.{unshared}
 use Rattle.echo_sharing.specs.Flags.{Flags, shared_of}
 use Rattle.fewest.specs.Least.{LeastOne, LeastTwo}
-use Rattle.fewest_sharing.specs.declared.Sharing.{Sharing}
-use Rattle.fewest_sharing.specs.declared.Sharing.TheVariants.{Unshared, Operands, One, Two}
+use Rattle.fewest_sharing.specs.declared.FewestRoots.{FewestRoots}
+use Rattle.fewest_sharing.specs.declared.FewestRoots.TheVariants.{Empty, One, Two}
 
 -- ---------------------------------------------------------------- what is found
 
@@ -58,14 +56,19 @@ PairOf shared roots (Some p) = FirstPair shared roots p.0 p.1
 abbrev pub shared_by : List Node → List ℕ → List ℕ → List ℕ → Bool
 shared_by ns side roots ks = not (unshared ns side (map (λ k. get_or roots k 0) ks))
 
-abbrev pub Shares : List Node → List ℕ → List ℕ → Sharing → Type 0
-Shares ns side roots Unshared = unshared ns side roots ≡ true
-Shares ns side roots Operands = (unshared ns side roots ≡ false) × (unshared ns side [] ≡ false)
-Shares ns side roots (One k) = (unshared ns side roots ≡ false) × LeastOne (shared_by ns side roots) (length roots) k
-Shares ns side roots (Two j k) = (unshared ns side roots ≡ false) × LeastTwo (shared_by ns side roots) (length roots) j k
+-- the roots at these positions are the fewest
+abbrev pub Fewest : List Node → List ℕ → List ℕ → FewestRoots → Type 0
+Fewest ns side roots Empty = unshared ns side [] ≡ false
+Fewest ns side roots (One k) = LeastOne (shared_by ns side roots) (length roots) k
+Fewest ns side roots (Two j k) = LeastTwo (shared_by ns side roots) (length roots) j k
+
+-- no operator is shared, with all roots; or one is, and these are the fewest
+abbrev pub Shares : List Node → List ℕ → List ℕ → Option FewestRoots → Type 0
+Shares ns side roots None = unshared ns side roots ≡ true
+Shares ns side roots (Some r) = (unshared ns side roots ≡ false) × Fewest ns side roots r
 
 -- operands share an operator
-pub operands-share : (ns : List Node) (side roots : List ℕ) → unshared ns side roots ≡ false → unshared ns side [] ≡ false → Shares ns side roots Operands
+pub operands-share : (ns : List Node) (side roots : List ℕ) → unshared ns side roots ≡ false → unshared ns side [] ≡ false → Shares ns side roots (Some Empty)
 operands-share ns side roots a b = (a, b)
 
 -- the roots share an operator, and those that are shared are flagged
@@ -76,10 +79,12 @@ pub record Flagged (nodes side roots : List ℕ) (flags : List Bool) : Type 0 wh
 
 -- ---------------------------------------------------------------- laws of what is found
 
--- what holds below k, and at k
-pub below_more : {Q : ℕ → Type 0} {k : ℕ} → ((j : ℕ) → j < k → Q j) → Q k → (j : ℕ) → j < k + 1 → Q j
-below_more {Q} {k} h q j l = go (eqb j k) refl
-  where
-    go : (b : Bool) → eqb j k ≡ b → Q j
-    go true e = subst Q (sym (eqb-true j k e)) q
-    go false e = let z = eqb-false j k e in h j (omega arith)
+-- the first element that passes
+pub first-told : (t : ℕ → Bool) (roots : List ℕ) (r : Option ℕ)
+    → (r ≡ None → (k : ℕ) → k < length roots → (d : ℕ) → t (get_or roots k d) ≡ false)
+    → ((i : ℕ) → r ≡ Some i → (i < length roots) × ((d : ℕ) → t (get_or roots i d) ≡ true))
+    → ((i : ℕ) → r ≡ Some i → (k : ℕ) → k < i → (d : ℕ) → t (get_or roots k d) ≡ false)
+    → First t roots r
+first-told t roots None none here before = λ j l. none refl j l 0
+first-told t roots (Some i) none here before =
+    let p = here i refl in record { inside = p.0; before = λ k l. before i refl k l 0; here = p.1 0 }

@@ -1,5 +1,5 @@
 -- What is found among the roots says which are the fewest that share an operator.
-use Rattle.std.specs.Prelude.{ℕ, ◌+◌, ◌≤◌, ◌<◌, min, ◌≡◌, refl, List, [], ◌∷◌, ◌++◌, Bool, true, false, ◌&&◌, not, ltb, length, get_or, replicate, None}
+use Rattle.std.specs.Prelude.{ℕ, ◌+◌, ◌≤◌, ◌<◌, min, ◌≡◌, refl, List, [], ◌∷◌, ◌++◌, Bool, true, false, ◌&&◌, not, ltb, length, get_or, replicate, Some, None}
 use Rattle.std.proofs.Common.{sym, ap, ◌∙◌, subst, arith, append-nil, lt-ltb, ltb-true, ltb-false}
 use Rattle.lists.specs.Tests.{every_from}
 use Rattle.echo_spec.specs.Input.{Node, nodes_of}
@@ -8,7 +8,7 @@ use Rattle.lent.specs.Records.{nodes-length}
 use Rattle.echo_sharing.specs.Counts.{counted, counted_zeros, once_in, guard}
 use Rattle.echo_sharing.specs.Flags.{Flags, shared_of}
 use Rattle.fewest.specs.Uses.{Operator, uses, count-place, count-places, flag-set, flag-clear, one-shared, two-shared, one-unshared, two-unshared, pair_of}
-use Rattle.fewest_sharing.specs.declared.Sharing.TheVariants.{Unshared, One, Two}
+use Rattle.fewest_sharing.specs.declared.FewestRoots.TheVariants.{One, Two}
 use Rattle.fewest_sharing.specs.Found.{flagged, used_too, FirstAt, First, Single, FirstPair, PairOf, Shares}
 
 both : (a b : Bool) → (a && b) ≡ true → (a ≡ true) × (b ≡ true)
@@ -72,7 +72,7 @@ module _ (ns : List Node) (side roots : List ℕ) (flags : List Bool) {used : Li
   alone : (k : ℕ) → k < length roots → used_too flags used (get_or roots k 0) ≡ false → unshared ns side (get_or roots k 0 ∷ []) ≡ true
   alone k l h = one-unshared ns side none (get_or roots k 0) (used-false k l h)
 
-  pub one_told : {k : ℕ} → FirstAt (used_too flags used) roots k → Shares ns side roots (One k)
+  pub one_told : {k : ℕ} → FirstAt (used_too flags used) roots k → Shares ns side roots (Some (One k))
   one_told {k} h =
       let l = h.inside in
       let (o, m) = used-true (get_or roots k 0) h.here in (
@@ -95,7 +95,7 @@ module _ (ns : List Node) (side roots : List ℕ) (flags : List Bool) {used : Li
         (λ e o. s b l u (flag-twice (get_or roots a 0) o (count-places roots a b l u e)) e)
 
     -- some two positions share one
-    pub none_told : PairOf flags roots None → Shares ns side roots Unshared
+    pub none_told : PairOf flags roots None → Shares ns side roots None
     none_told q =
         let (i, (o, (j, (k, z)))) = pair_of ns side roots some none single in
         let u = z.second.inside in
@@ -103,7 +103,7 @@ module _ (ns : List Node) (side roots : List ℕ) (flags : List Bool) {used : Li
         let f = two-shared ns side (get_or roots j 0) (get_or roots k 0) same (subst (λ (y : ℕ). Operator ns y) (sym z.first.is) o) in
         clash (unshared ns side (get_or roots j 0 ∷ get_or roots k 0 ∷ [])) (apart j k z.rises u (q j (omega (arith, z.rises)))) f
 
-    pub two_told : {j k : ℕ} → FirstPair flags roots j k → Shares ns side roots (Two j k)
+    pub two_told : {j k : ℕ} → FirstPair flags roots j k → Shares ns side roots (Some (Two j k))
     two_told {j} {k} q =
         let p = q.at in
         let u = p.inside in

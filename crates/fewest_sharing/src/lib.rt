@@ -7,15 +7,13 @@ ghost use Rattle.echo_spec.specs.Input.{nodes_of};
 ghost use Rattle.fewest_sharing.specs.Found.{used_too, First, Partner, PairOf, Shares, Flagged};
 
 use echo_sharing::flagged;
-use refusals::MAX_NODES;
+use lent::{Problem, at};
+use refusals::{MAX_NODE_BYTES, MAX_NODES};
 
-// Which roots share an operator, by their positions.
+// Roots, by their positions.
 #[derive(Clone, Copy, Debug, PartialEq, Eq)]
-pub enum Sharing {
-    // No operator is shared, with all roots.
-    Unshared,
-    // One is, with no root.
-    Operands,
+pub enum FewestRoots {
+    Empty,
     One(usize),
     Two(usize, usize),
 }
@@ -24,19 +22,14 @@ pub enum Sharing {
 fn used_too(shared: &[bool; MAX_NODES], uses: &[u8; MAX_NODES], x: u64) -> bool
     ensures { result ≡ used_too shared.now uses.now x }
 {
-    flagged(shared, x) && uses.get(x as usize).copied().unwrap_or(0) > 0
+    flagged(shared, x) && at(uses, x, 0) > 0
 }
 
 // The first position whose root an operand uses too.
 fn first_used(roots: &[u64], shared: &[bool; MAX_NODES], uses: &[u8; MAX_NODES]) -> Option<usize>
     ensures { First (used_too shared.now uses.now) roots.now result }
 {
-    for (k, x) in roots.iter().enumerate() {
-        if used_too(shared, uses, *x) {
-            return Some(k);
-        }
-    }
-    None
+    roots.iter().position(|x| used_too(shared, uses, *x))
 }
 
 // The next position of the root at position j, where that is shared.
@@ -48,6 +41,7 @@ fn partner(roots: &[u64], shared: &[bool; MAX_NODES], j: usize) -> Option<usize>
     if !flagged(shared, x) {
         return None;
     }
+    // Kept: positions after j; of `position` in `roots[j + 1..]` the answer would have to be counted on from j.
     for k in j + 1..roots.len() {
         if roots[k] == x {
             return Some(k);
@@ -60,6 +54,7 @@ fn partner(roots: &[u64], shared: &[bool; MAX_NODES], j: usize) -> Option<usize>
 fn first_pair(roots: &[u64], shared: &[bool; MAX_NODES]) -> Option<(usize, usize)>
     ensures { PairOf shared.now roots.now result }
 {
+    // Kept: j is known to be a position, which a closure of `find_map` would have to require.
     for j in 0..roots.len() {
         if let Some(k) = partner(roots, shared, j) {
             return Some((j, k));
@@ -69,32 +64,28 @@ fn first_pair(roots: &[u64], shared: &[bool; MAX_NODES]) -> Option<(usize, usize
 }
 
 // The fewest roots, where the roots share an operator; the operators that are shared are flagged.
-fn among_roots(nodes: &[u8], side: &[u64], roots: &[u64], shared: &[bool; MAX_NODES]) -> Sharing
-    requires { Flagged nodes.now side.now roots.now shared.now }
-    ensures { Shares (nodes_of nodes.now) side.now roots.now result }
+fn among_roots(problem: &Problem, shared: &[bool; MAX_NODES]) -> Option<FewestRoots>
+    requires { Flagged problem.now.nodes.now problem.now.side.now problem.now.roots.now shared.now }
+    ensures { Shares (nodes_of problem.now.nodes.now) problem.now.side.now problem.now.roots.now result }
 {
     let mut uses = [0u8; MAX_NODES];
-    echo_sharing::count_operands(&mut uses, nodes, side);
-    if !echo_sharing::no_shared(&uses, nodes) {
-        return Sharing::Operands;
+    echo_sharing::count_operands(&mut uses, problem.nodes, problem.side);
+    if !echo_sharing::no_shared(&uses, problem.nodes) {
+        return Some(FewestRoots::Empty);
     }
-    if let Some(k) = first_used(roots, shared, &uses) {
-        return Sharing::One(k);
+    if let Some(k) = first_used(problem.roots, shared, &uses) {
+        return Some(FewestRoots::One(k));
     }
-    match first_pair(roots, shared) {
-        Some((j, k)) => Sharing::Two(j, k),
-        None => Sharing::Unshared,
-    }
+    let (j, k) = first_pair(problem.roots, shared)?;
+    Some(FewestRoots::Two(j, k))
 }
 
-// The fewest roots by which an operator is shared. Ruled out: two positions where one suffices; the last position of a node for its
+// The fewest roots by which an operator is shared, where one is: none if operands share it. Ruled out: two positions where one suffices; the last position of a node for its
 // second; a root past the nodes, or a variable, taken for shared.
-pub fn shared_roots(nodes: &[u8], side: &[u64], roots: &[u64]) -> Sharing
-    requires { length nodes.now ≤ 34816 }
-    ensures { Shares (nodes_of nodes.now) side.now roots.now result }
+pub fn shared_roots(problem: &Problem) -> Option<FewestRoots>
+    requires { length problem.now.nodes.now ≤ MAX_NODE_BYTES }
+    ensures { Shares (nodes_of problem.now.nodes.now) problem.now.side.now problem.now.roots.now result }
 {
-    match echo_sharing::shared_nodes(nodes, side, roots) {
-        None => Sharing::Unshared,
-        Some(shared) => among_roots(nodes, side, roots, &shared),
-    }
+    let shared = echo_sharing::shared_nodes(problem)?;
+    among_roots(problem, &shared)
 }

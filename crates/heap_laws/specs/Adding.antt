@@ -1,5 +1,5 @@
 -- The arrays hold one node more, whatever its kind, and hold what they held where only waiting operands changed. Assumes nothing.
-use Rattle.std.specs.Prelude.{ℕ, ◌+◌, ◌*◌, ◌≤◌, ◌<◌, ◌≡◌, refl, List, [], ◌∷◌, ◌++◌, Bool, true, false, ◌⊎◌, T, eqb, length, take, get_or}
+use Rattle.std.specs.Prelude.{ℕ, ◌+◌, ◌*◌, ◌≤◌, ◌<◌, ◌≡◌, refl, List, [], ◌∷◌, ◌++◌, Bool, true, false, ◌⊎◌, T, eqb, length, take, get_or, None}
 use Rattle.std.proofs.Common.{ap, sym, ◌∙◌, subst, append-nil, inl, inr, arith, eqb→eq, length-append}
 use Rattle.std.proofs.Math.Option.{some}
 use Rattle.std.proofs.lemmas.Bool.{eqb-false}
@@ -9,7 +9,7 @@ use Rattle.lists.specs.Places.{at_less, at_snoc}
 use Rattle.echo_spec.specs.Input.{Node}
 use Rattle.readback.specs.Records.{record_bytes, records_bytes, holdable}
 use Rattle.readback.specs.Rebuild.{Item, a_variable, a_constant, an_operator, a_select, a_call, bits_in, side_in, joined, record_of, records_from}
-use Rattle.heap_laws.specs.Heap.{nodes_size, Kept, Held}
+use Rattle.heap_laws.specs.Heap.{nodes_size, past, Kept, Held}
 use Rattle.heap_laws.specs.declared.Heap.{Heap}
 use Rattle.heap_laws.specs.Filled.{filled, length-filled, take-filled}
 use Rattle.heap_laws.specs.Within.{within-parts, within-snoc, joined_snoc, bytes-snoc, record-long}
@@ -141,7 +141,7 @@ module _ {heap : Heap} {s : List Item} (h : Held heap s) (xs : List ℕ) (top : 
         side_held = ap (λ (n : ℕ). take n (filled heap.side heap.side_count xs)) sn ∙ take-filled heap.side heap.side_count xs (omega (arith, h.side_long))
             ∙ ap (λ (n : ℕ). take n heap.side ++ xs) h.side_count ∙ ap (λ (l : List ℕ). l ++ xs) h.side_held ∙ sym ss;
         constants = λ i ds f. by_place i ds (at_snoc s x i (a_constant ds) f);
-        heads = λ j l. latest-skip j s x (get_or heap.heads j 0) (λ ds f r. p.other ds f) (h.heads j l);
+        heads = λ j l. latest-skip j s x (past (get_or heap.heads j None)) (λ ds f r. p.other ds f) (h.heads j l);
       }
     where
       by_place : (i : ℕ) (ds : List ℕ) → (get_elem? s i ≡ some (a_constant ds)) ⊎ ((i ≡ length s) × (x ≡ a_constant ds)) → Kept heap.constants (s ++ (x ∷ [])) i ds

@@ -1,10 +1,12 @@
 -- A constant that may be new, behind the bits in use: its hash, its comparison with a constant that has a node, its bits from digits and
 -- from a number. Assumes nothing.
-use Prim.Native.Nat.{ℕ, zero, suc, ◌+◌, ◌*◌, ◌-◌, ◌/◌, ◌%◌, ◌≤◌, ◌<◌}
+use Prim.Native.Nat.{ℕ, zero, suc, ◌+◌, ◌*◌, ◌-◌, ◌/◌, ◌%◌, ◌≤◌, ◌<◌, min}
 use Rattle.std.specs.Prelude.{◌≡◌, refl, false, not, T, eqb, drop, get_or, set}
 use Rattle.std.proofs.Math.Path.{ap, sym}
-use Rattle.std.proofs.Common.{◌∙◌, subst, arith, add-one, eqb→eq, length-append, length-drop, length-take-le, take_all, drop-cons, drop_of_length-le, get_or-take, get_or-drop, ext_get_or}
+use Rattle.std.proofs.Common.{◌∙◌, subst, arith, add-one, eqb→eq, length-append, length-drop, length-take-le, take_all, take-suc-set, drop-cons, drop_of_length-le, get_or-take, get_or-drop, ext_get_or}
 use mathlib.Core.List.{List, [], ◌∷◌, ◌++◌, append_assoc, append-nil}
+use borrow.Rule.Slice.PartMut.{put_mid}
+use lib.Seq.{drop-drop}
 use Rattle.std.proofs.Math.Option.{some}
 use Rattle.std.proofs.Math.ListN.{length, take, get_elem?}
 use Rattle.lists.specs.Tests.{All, or_elim, not-not}
@@ -15,10 +17,11 @@ use Rattle.readback.specs.Reader.{up_to}
 use Rattle.readback.specs.Rebuild.{Item, a_constant, low_bits, bits_in, joined}
 use Rattle.reader_laws.specs.TermsStrict.{up-to-fails}
 use Rattle.script_tokens.specs.Reached.{between, ends_digits}
-use Rattle.heap_laws.specs.Heap.{bits_size, constant_at, hash_from, hash_of, bits_at, Held}
+use Rattle.heap_laws.specs.Heap.{constant_at, hash_from, hash_of, bits_at, Held}
 use Rattle.heap_laws.specs.declared.Heap.{Heap}
 use Rattle.heap_laws.specs.Filled.{filled, filled_none, filled_more}
 use Rattle.heap_laws.specs.Within.{within-parts}
+use Rattle.heap_laws.specs.Adding.{by_equal}
 
 -- ---------------------------------------------------------------- hashes
 
@@ -32,13 +35,13 @@ pub hash-end : (l : List ℕ) (h i : ℕ) → length l ≤ i → hash_from h (dr
 unfolding hash_from
 hash-end l h i k = ap (hash_from h) (drop_of_length-le l k)
 
-pub hash-whole : (l : List ℕ) {h : ℕ} → length l ≤ 48 → h ≡ hash_from 0 l → (h + length l) % 4093 ≡ hash_of l
-unfolding hash_of
-hash-whole l k e = (λ i. (e i + length l) % 4093) ∙ ap (λ (q : List ℕ). (hash_from 0 q + length l) % 4093) (sym (take_all 48 l k))
+-- the first 48 of them, or all
+take-lowest : (l : List ℕ) (n : ℕ) → n ≡ min (length l) 48 → take n l ≡ take 48 l
+take-lowest l n e = by_equal n 48 (λ z. ap (λ (k : ℕ). take k l) z) (λ z. take_all n l (omega arith) ∙ sym (take_all 48 l (omega arith)))
 
-pub hash-front : (l : List ℕ) {h : ℕ} → h ≡ hash_from 0 (take 48 l) → (h + length l) % 4093 ≡ hash_of l
+pub hash-lowest : (l : List ℕ) (n : ℕ) {h : ℕ} → n ≡ min (length l) 48 → h ≡ hash_from 0 (take n l) → (h + length l) % 4093 ≡ hash_of l
 unfolding hash_of
-hash-front l e = λ i. (e i + length l) % 4093
+hash-lowest l n z e = (λ i. (e i + length l) % 4093) ∙ ap (λ (q : List ℕ). (hash_from 0 q + length l) % 4093) (take-lowest l n z)
 
 -- a part of the bits
 part-long : (l : List ℕ) (at w : ℕ) → at + w ≤ length l → length (take w (drop at l)) ≡ w
@@ -49,19 +52,7 @@ part_at l at w =
     let e : at + w - at ≡ w = omega arith in
     ap (λ (n : ℕ). take n (drop at l)) e
 
--- ---------------------------------------------------------------- comparisons
-
--- two parts with the same elements
-pub parts_same : (l : List ℕ) (a b w : ℕ) → a + w ≤ length l → b + w ≤ length l → ((j : ℕ) → j < w → get_or l (a + j) 0 ≡ get_or l (b + j) 0) → take w (drop a l) ≡ take w (drop b l)
-parts_same l a b w m n f =
-    ext_get_or 0 (take w (drop a l)) (take w (drop b l)) (part-long l a w m ∙ sym (part-long l b w n)) (λ i h. at i (omega (arith, part-long l a w m)))
-  where
-    at : (i : ℕ) → i < w → get_or (take w (drop a l)) i 0 ≡ get_or (take w (drop b l)) i 0
-    at i h = get_or-take w (drop a l) i 0 h ∙ get_or-drop a l i 0 ∙ f i h ∙ sym (get_or-drop b l i 0) ∙ sym (get_or-take w (drop b l) i 0 h)
-
-pub parts-apart : (l : List ℕ) (a b w j : ℕ) → j < w → (get_or l (a + j) 0 ≡ get_or l (b + j) 0 → ⊥) → take w (drop a l) ≡ take w (drop b l) → ⊥
-parts-apart l a b w j h f e =
-    f (sym (get_or-drop a l j 0) ∙ sym (get_or-take w (drop a l) j 0 h) ∙ ap (λ (y : List ℕ). get_or y j 0) e ∙ get_or-take w (drop b l) j 0 h ∙ get_or-drop b l j 0)
+-- ---------------------------------------------------------------- a constant's bits
 
 module _ {heap : Heap} {s : List Item} (h : Held heap s) (k : ℕ) (ds : List ℕ) (e : get_elem? s k ≡ some (a_constant ds)) where
   pub node-small : k < 2048
@@ -90,17 +81,6 @@ module _ {heap : Heap} {s : List Item} (h : Held heap s) (k : ℕ) (ds : List �
           at : (i : ℕ) → i < w → get_or (take w (drop p (take n l))) i 0 ≡ get_or (take w (drop p l)) i 0
           at i g =
               get_or-take w (drop p (take n l)) i 0 g ∙ get_or-drop p (take n l) i 0 ∙ get_or-take n l (p + i) 0 (omega arith) ∙ sym (get_or-drop p l i 0) ∙ sym (get_or-take w (drop p l) i 0 g)
-
-  -- compared with a part of the bits
-  pub compared : (at w : ℕ) → (constant_at heap.constants k).width ≡ w → take w (drop (constant_at heap.constants k).start heap.bits) ≡ take w (drop at heap.bits) → ds ≡ take w (drop at heap.bits)
-  compared at w z f = sym bits_are ∙ ap (λ (n : ℕ). take n (drop (constant_at heap.constants k).start heap.bits)) (sym length-is ∙ z) ∙ f
-
-  pub compared-apart : (at w : ℕ) → (constant_at heap.constants k).width ≡ w → (take w (drop (constant_at heap.constants k).start heap.bits) ≡ take w (drop at heap.bits) → ⊥) → ds ≡ take w (drop at heap.bits) → ⊥
-  compared-apart at w z f g = f (ap (λ (n : ℕ). take n (drop (constant_at heap.constants k).start heap.bits)) (sym z ∙ length-is) ∙ bits_are ∙ g)
-
-  -- of another length
-  pub length-apart : (at w : ℕ) → at + w ≤ bits_size → ((constant_at heap.constants k).width ≡ w → ⊥) → ds ≡ take w (drop at heap.bits) → ⊥
-  length-apart at w m f g = f (length-is ∙ ap length g ∙ part-long heap.bits at w (omega (arith, h.bits-long)))
 
 -- ---------------------------------------------------------------- bits from digits
 
@@ -200,33 +180,21 @@ length-between script p e high = length-bits (between script p e) ∙ by_size (e
 
 -- ---------------------------------------------------------------- bits from a number
 
--- i bits of the number are stored, and v is left of it
-pub record Halving (bits bits' : List ℕ) (at w value i v : ℕ) : Type 0 where
-  pub done : List ℕ
-  pub bits_is : bits' ≡ filled bits at done
-  pub size : length done ≡ i
-  pub both : done ++ low_bits (w - i) v ≡ low_bits w value
-
-pub halving-none : (bits : List ℕ) (at w value : ℕ) → Halving bits bits at w value 0 value
-halving-none bits at w value =
-    let z : w - 0 ≡ w = omega arith in
-    record { done = []; bits_is = sym (filled_none bits at); size = refl; both = ap (λ (n : ℕ). low_bits n value) z }
-
-pub halving-more : {bits bits' : List ℕ} {at w value i v : ℕ} → at + w ≤ length bits → i < w → Halving bits bits' at w value i v
-    → Halving bits (set bits' (at + i) (v % 2)) at w value (i + 1) (v / 2)
+-- one bit more, where v is left of the number
+pub bits-next : (l : List ℕ) (w i v : ℕ) {xs : List ℕ} → i < w → i < length l → take i l ++ low_bits (w - i) v ≡ xs → take (i + 1) (set l i (v % 2)) ++ low_bits (w - (i + 1)) (v / 2) ≡ xs
 unfolding low_bits
-halving-more {bits} {bits'} {at} {w} {value} {i} {v} long l h =
-    let z : at + i ≡ at + length h.done = omega (arith, h.size) in
-    let e : w - i ≡ suc (w - (i + 1)) = omega arith in
-    record {
-      done = h.done ++ (v % 2 ∷ []);
-      bits_is = (λ j. set (h.bits_is j) (z j) (v % 2)) ∙ filled_more bits at h.done (v % 2) (omega (arith, h.size));
-      size = length-append h.done (v % 2 ∷ []) ∙ ap (λ (n : ℕ). n + 1) h.size;
-      both = append_assoc h.done (v % 2 ∷ []) (low_bits (w - (i + 1)) (v / 2)) ∙ ap (λ (n : ℕ). h.done ++ low_bits n v) (sym e) ∙ h.both;
-    }
+bits-next l w i v h k e =
+    let a : take (i + 1) (set l i (v % 2)) ≡ take i l ++ (v % 2 ∷ []) = ap (λ (n : ℕ). take n (set l i (v % 2))) (add-one i) ∙ take-suc-set l i (v % 2) k in
+    let z : w - i ≡ suc (w - (i + 1)) = omega arith in
+    ap (λ (y : List ℕ). y ++ low_bits (w - (i + 1)) (v / 2)) a ∙ append_assoc (take i l) (v % 2 ∷ []) (low_bits (w - (i + 1)) (v / 2)) ∙ ap (λ (n : ℕ). take i l ++ low_bits n v) (sym z) ∙ e
 
-pub halving-all : {bits bits' : List ℕ} {at w value i v : ℕ} → w ≤ i → Halving bits bits' at w value i v → bits' ≡ filled bits at (low_bits w value)
+pub bits-last : (l : List ℕ) (w i v : ℕ) {xs : List ℕ} → w ≤ i → length l ≤ i → take i l ++ low_bits (w - i) v ≡ xs → l ≡ xs
 unfolding low_bits
-halving-all {bits} {bits'} {at} {w} {value} {i} {v} l h =
+bits-last l w i v h k e =
     let z : w - i ≡ 0 = omega arith in
-    h.bits_is ∙ ap (filled bits at) (sym (append-nil h.done) ∙ ap (λ (n : ℕ). h.done ++ low_bits n v) (sym z) ∙ h.both)
+    sym (append-nil l) ∙ ap (λ (y : List ℕ). y ++ low_bits 0 v) (sym (take_all i l k)) ∙ ap (λ (n : ℕ). take i l ++ low_bits n v) (sym z) ∙ e
+
+-- a part of a list is another
+pub put-filled : (l ys : List ℕ) (at k : ℕ) → k ≡ length ys → put_mid at k l ys ≡ filled l at ys
+unfolding filled
+put-filled l ys at k e = (λ i. take at l ++ (ys ++ drop (e i) (drop at l))) ∙ (λ i. take at l ++ (ys ++ drop-drop (length ys) at l i))

@@ -1,5 +1,5 @@
 -- Constants found by hash: what is kept where nodes are added, and the walk along a chain. Assumes nothing.
-use Rattle.std.specs.Prelude.{ℕ, zero, suc, ◌+◌, ◌≤◌, ◌<◌, ◌≡◌, refl, List, [], ◌∷◌, ◌++◌, ◌⊎◌, T}
+use Rattle.std.specs.Prelude.{ℕ, zero, suc, ◌+◌, ◌≤◌, ◌<◌, ◌≡◌, refl, List, [], ◌∷◌, ◌++◌, ◌⊎◌, T, None}
 use Rattle.std.proofs.Common.{ap, sym, ◌∙◌, subst, inl, inr, arith}
 use Rattle.std.proofs.Math.Option.{Option, none, some}
 use lib.ListN.{length, take, drop, get_or, get_elem?, length-append}
@@ -7,7 +7,7 @@ use Rattle.std.proofs.lemmas.List.{take-append-le, drop-append-le}
 use Rattle.lists.specs.Tests.{same→eq}
 use Rattle.lists.specs.Places.{at_less, at-exists, at-append, at_snoc, one_place, find_at, find-append}
 use Rattle.readback.specs.Rebuild.{Item, a_variable, a_constant, an_operator, a_select, a_call, is_constant, find_constant, bits_in, joined}
-use Rattle.heap_laws.specs.Heap.{hash_of, constant_at, Latest, Kept, Held}
+use Rattle.heap_laws.specs.Heap.{hash_of, constant_at, past, Latest, Kept, Held}
 use Rattle.heap_laws.specs.declared.Constant.{Constant}
 use Rattle.heap_laws.specs.declared.Heap.{Heap}
 use Rattle.heap_laws.specs.Within.{joined-append}
@@ -71,7 +71,7 @@ kept-grows cs cs' s t i bs l e k =
       end = omega (arith, ap (λ (x : Constant). x.start) e, n, low);
       size = ap (λ (x : Constant). x.width) e ∙ k.size;
       bits = ap (λ (x : Constant). take (length bs) (drop x.start (joined bits_in (s ++ t)))) e ∙ b;
-      chain = subst (λ (x : Constant). Latest (hash_of bs) (s ++ t) i x.before) (sym e) (latest-grows (hash_of bs) s t i (constant_at cs i).before (omega arith) k.chain);
+      chain = subst (λ (x : Constant). Latest (hash_of bs) (s ++ t) i (past x.before)) (sym e) (latest-grows (hash_of bs) s t i (past (constant_at cs i).before) (omega arith) k.chain);
       first = find-append (is_constant bs) 0 s t i k.first;
     }
 
@@ -91,12 +91,12 @@ pub record Sought (s : List Item) (bs : List ℕ) (c : ℕ) : Type 0 where
   pub own : (k : ℕ) → c ≡ k + 1 → (k < length s) × (ds : List ℕ) × (get_elem? s k ≡ some (a_constant ds)) × (hash_of ds ≡ hash_of bs)
 
 module _ {heap : Heap} {s : List Item} (h : Held heap s) (bs : List ℕ) where
-  pub sought-first : hash_of bs < 4096 → Sought s bs (get_or heap.heads (hash_of bs) 0)
+  pub sought-first : hash_of bs < 4096 → Sought s bs (past (get_or heap.heads (hash_of bs) None))
   sought-first l =
       let k = h.heads (hash_of bs) l in
       record { before = λ j e. k.all j bs (at_less s j (a_constant bs) e) e refl; own = k.own }
 
-  pub sought-next : (k : ℕ) → Sought s bs (k + 1) → (get_elem? s k ≡ some (a_constant bs) → ⊥) → Sought s bs (constant_at heap.constants k).before
+  pub sought-next : (k : ℕ) → Sought s bs (k + 1) → (get_elem? s k ≡ some (a_constant bs) → ⊥) → Sought s bs (past (constant_at heap.constants k).before)
   sought-next k w f =
       let (l, ds, e, q) = w.own k refl in
       let chain = (h.constants k ds e).chain in
@@ -109,10 +109,10 @@ module _ {heap : Heap} {s : List Item} (h : Held heap s) (bs : List ℕ) where
       }
 
   -- the chain goes down
-  pub sought-less : (k : ℕ) → Sought s bs (k + 1) → (constant_at heap.constants k).before ≤ k
+  pub sought-less : (k : ℕ) → Sought s bs (k + 1) → past (constant_at heap.constants k).before ≤ k
   sought-less k w =
       let (l, ds, e, q) = w.own k refl in
-      by-cell (constant_at heap.constants k).before (λ j m. ((h.constants k ds e).chain.own j m).0)
+      by-cell (past (constant_at heap.constants k).before) (λ j m. ((h.constants k ds e).chain.own j m).0)
     where
       by-cell : (c : ℕ) → ((j : ℕ) → c ≡ j + 1 → j < k) → c ≤ k
       by-cell zero own = omega arith

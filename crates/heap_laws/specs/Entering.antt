@@ -1,5 +1,5 @@
 -- The arrays hold one constant more, whose bits stand behind those in use. Assumes nothing.
-use Rattle.std.specs.Prelude.{ℕ, ◌+◌, ◌*◌, ◌≤◌, ◌<◌, ◌≡◌, ◌⊎◌, drop, get_or, set}
+use Rattle.std.specs.Prelude.{ℕ, ◌+◌, ◌*◌, ◌≤◌, ◌<◌, ◌≡◌, ◌⊎◌, drop, get_or, set, Option, Some, None}
 use Rattle.std.proofs.Math.Path.{ap, sym, subst}
 use Rattle.std.proofs.Common.{◌∙◌, inl, inr, arith, length-set, get_or-set_same, get_or-set_other}
 use mathlib.Core.List.{List, [], ◌∷◌, ◌++◌, append-nil}
@@ -12,7 +12,7 @@ use Rattle.lists.specs.Places.{at_less, at_snoc, find-snoc}
 use Rattle.echo_spec.specs.Input.{Node}
 use Rattle.readback.specs.Records.{record_bytes, holdable}
 use Rattle.readback.specs.Rebuild.{Item, a_constant, is_constant, find_constant, bits_in, side_in, joined, record_of}
-use Rattle.heap_laws.specs.Heap.{constant_at, hash_of, Latest, Kept, Held}
+use Rattle.heap_laws.specs.Heap.{constant_at, past, hash_of, Latest, Kept, Held}
 use Rattle.heap_laws.specs.declared.Constant.{Constant}
 use Rattle.heap_laws.specs.declared.Heap.{Heap}
 use Rattle.heap_laws.specs.Filled.{filled}
@@ -29,15 +29,15 @@ abbrev pub entered : Heap → ℕ → ℕ → Node → Heap
 entered heap j w n = record heap {
   count = heap.count + 1;
   bit_count = heap.bit_count + w;
-  constants = set heap.constants heap.count (record { start = heap.bit_count; width = w; before = get_or heap.heads j 0 });
-  heads = set heap.heads j (heap.count + 1);
+  constants = set heap.constants heap.count (record { start = heap.bit_count; width = w; before = get_or heap.heads j None });
+  heads = set heap.heads j (Some heap.count);
   records = filled heap.records (17 * heap.count) (record_bytes n);
 }
 
 module _ {heap : Heap} {s : List Item} (h : Held heap s) (bs : List ℕ) (new : find_constant bs s ≡ none) (few : heap.count < 2048)
     (room : heap.bit_count + length bs ≤ 131072) (stands : take (length bs) (drop heap.bit_count heap.bits) ≡ bs) where
-  abbrev latest : ℕ
-  latest = get_or heap.heads (hash_of bs) 0
+  abbrev latest : Option ℕ
+  latest = get_or heap.heads (hash_of bs) None
 
   abbrev cell : Constant
   cell = record { start = heap.bit_count; width = length bs; before = latest }
@@ -45,8 +45,8 @@ module _ {heap : Heap} {s : List Item} (h : Held heap s) (bs : List ℕ) (new : 
   abbrev constants' : List Constant
   constants' = set heap.constants heap.count cell
 
-  abbrev heads' : List ℕ
-  heads' = set heap.heads (hash_of bs) (heap.count + 1)
+  abbrev heads' : List (Option ℕ)
+  heads' = set heap.heads (hash_of bs) (Some heap.count)
 
   abbrev t : List Item
   t = s ++ (a_constant bs ∷ [])
@@ -71,10 +71,10 @@ module _ {heap : Heap} {s : List Item} (h : Held heap s) (bs : List ℕ) (new : 
       let l = at_less s i (a_constant ds) e in
       let c = h.count in
       kept-grows heap.constants constants' s (a_constant bs ∷ []) i ds l
-      (get_or-set_other heap.constants heap.count i cell (record { start = 0; width = 0; before = 0 }) (λ e. omega arith)) (h.constants i ds e)
+      (get_or-set_other heap.constants heap.count i cell (record { start = 0; width = 0; before = None }) (λ e. omega arith)) (h.constants i ds e)
 
   is_cell : constant_at constants' heap.count ≡ cell
-  is_cell = get_or-set_same heap.constants heap.count cell (record { start = 0; width = 0; before = 0 }) (omega (arith, h.constants_long))
+  is_cell = get_or-set_same heap.constants heap.count cell (record { start = 0; width = 0; before = None }) (omega (arith, h.constants_long))
 
   -- the new one
   newest : Kept constants' t heap.count bs
@@ -84,9 +84,9 @@ module _ {heap : Heap} {s : List Item} (h : Held heap s) (bs : List ℕ) (new : 
     size = ap (λ (x : Constant). x.width) is_cell;
     bits = (λ i. take (length bs) (drop ((ap (λ (x : Constant). x.start) is_cell ∙ h.bit_count) i) (bits-all i))) ∙ ap (take (length bs)) (drop-append_seam (joined bits_in s) bs) ∙ take-length bs;
     chain =
-        subst (Latest (hash_of bs) t heap.count) (sym (ap (λ (x : Constant). x.before) is_cell))
-        (latest-grows (hash_of bs) s (a_constant bs ∷ []) heap.count latest (omega (arith, h.count))
-        (subst (λ (i : ℕ). Latest (hash_of bs) s i latest) (sym h.count) (h.heads (hash_of bs) small)));
+        subst (λ (o : Option ℕ). Latest (hash_of bs) t heap.count (past o)) (sym (ap (λ (x : Constant). x.before) is_cell))
+        (latest-grows (hash_of bs) s (a_constant bs ∷ []) heap.count (past latest) (omega (arith, h.count))
+        (subst (λ (i : ℕ). Latest (hash_of bs) s i (past latest)) (sym h.count) (h.heads (hash_of bs) small)));
     first = find-snoc (is_constant bs) 0 s (a_constant bs) new (same_refl bs) ∙ ap some (omega (arith, h.count));
   }
 
@@ -97,14 +97,14 @@ module _ {heap : Heap} {s : List Item} (h : Held heap s) (bs : List ℕ) (new : 
       let z : heap.count ≡ i = h.count ∙ sym e in
       subst (λ (k : ℕ). Kept constants' t k ds) z (subst (Kept constants' t heap.count) q newest)
 
-  head_at : (j : ℕ) → j < 4096 → Latest j t (length t) (get_or heads' j 0)
+  head_at : (j : ℕ) → j < 4096 → Latest j t (length t) (past (get_or heads' j None))
   head_at j l =
       by_equal j (hash_of bs)
-      (λ e. subst (λ (k : ℕ). Latest k t (length t) (get_or heads' k 0)) (sym e)
+      (λ e. subst (λ (k : ℕ). Latest k t (length t) (past (get_or heads' k None))) (sym e)
       (subst (Latest (hash_of bs) t (length t))
-      (sym (get_or-set_same heap.heads (hash_of bs) (heap.count + 1) 0 (omega (arith, h.heads_long, small)) ∙ ap (λ (k : ℕ). k + 1) h.count)) (latest-new s bs)))
-      (λ f. subst (Latest j t (length t)) (sym (get_or-set_other heap.heads (hash_of bs) j (heap.count + 1) 0 f))
-      (latest-skip j s (a_constant bs) (get_or heap.heads j 0) (λ ds e q. f (sym q ∙ (let z : ds ≡ bs = cc in ap hash_of z))) (h.heads j l)))
+      (sym (ap past (get_or-set_same heap.heads (hash_of bs) (Some heap.count) None (omega (arith, h.heads_long, small))) ∙ ap (λ (k : ℕ). k + 1) h.count)) (latest-new s bs)))
+      (λ f. subst (λ (o : Option ℕ). Latest j t (length t) (past o)) (sym (get_or-set_other heap.heads (hash_of bs) j (Some heap.count) None f))
+      (latest-skip j s (a_constant bs) (past (get_or heap.heads j None)) (λ ds e q. f (sym q ∙ (let z : ds ≡ bs = cc in ap hash_of z))) (h.heads j l)))
 
   pub held-entered : T (holdable (record_of heap.bit_count heap.side_count (a_constant bs)))
       → Held (entered heap (hash_of bs) (length bs) (record_of heap.bit_count heap.side_count (a_constant bs))) (s ++ (a_constant bs ∷ []))
@@ -116,7 +116,7 @@ module _ {heap : Heap} {s : List Item} (h : Held heap s) (bs : List ℕ) (new : 
       record {
         side_long = h.side_long;
         constants_long = length-set heap.constants heap.count cell ∙ h.constants_long;
-        heads_long = length-set heap.heads (hash_of bs) (heap.count + 1) ∙ h.heads_long;
+        heads_long = length-set heap.heads (hash_of bs) (Some heap.count) ∙ h.heads_long;
         stack_long = h.stack_long;
         nodes_long = more.0;
         bits-long = h.bits-long;

@@ -1,5 +1,5 @@
 -- The nodes that are rebuilt so far, as the arrays of `Heap` hold them.
-use Rattle.std.specs.Prelude.{ℕ, zero, suc, ◌+◌, ◌*◌, ◌/◌, ◌%◌, ◌≤◌, ◌<◌, ◌≡◌, List, [], ◌∷◌, map, Bool, true, false, ◌&&◌, T, eqb, length, take, drop, get_or}
+use Rattle.std.specs.Prelude.{ℕ, zero, suc, ◌+◌, ◌*◌, ◌/◌, ◌%◌, ◌≤◌, ◌<◌, ◌≡◌, List, [], ◌∷◌, map, Bool, true, false, ◌&&◌, T, eqb, length, take, drop, get_or, Option, Some, None}
 use Rattle.std.proofs.Math.Option.{some}
 use Rattle.std.proofs.Math.ListN.{get_elem?}
 use Rattle.lists.specs.Tests.{every}
@@ -22,12 +22,13 @@ use Rattle.readback.specs.Rebuild.{
   records_from,
 }
 use Rattle.script_tokens.specs.Reached.{ends_digits}
+use Rattle.heap_laws.specs.declared.TheConstants.{NODES, BITS, SIDE, STACK}
 use Rattle.heap_laws.specs.declared.Constant.{Constant}
 use Rattle.heap_laws.specs.declared.Heap.{Heap}
 
 -- ---------------------------------------------------------------- limits
 
--- the nodes keep to the limits of 9, and a record can hold each
+-- the nodes keep to their limits, and a record can hold each
 unfoldable pub within : List Item → Bool
 within s = every holdable (records_from 0 0 s) && nodes_within (records_bytes (records_from 0 0 s)) (joined bits_in s) (joined side_in s)
 
@@ -35,21 +36,26 @@ within s = every holdable (records_from 0 0 s) && nodes_within (records_bytes (r
 
 -- operands that wait for the term around them to end
 abbrev pub stack_size : ℕ
-stack_size = 16384
+stack_size = STACK
 
 abbrev pub side_size : ℕ
-side_size = 8192
+side_size = SIDE
 
 abbrev pub nodes_size : ℕ
-nodes_size = 34816
+nodes_size = NODES
 
 -- half of it for the bits, half for a constant that may be new
 abbrev pub bits_size : ℕ
-bits_size = 262144
+bits_size = BITS
 
 -- what is known of a constant, by its node
 abbrev pub constant_at : List Constant → ℕ → Constant
-constant_at cs i = get_or cs i (record { start = 0; width = 0; before = 0 })
+constant_at cs i = get_or cs i (record { start = 0; width = 0; before = None })
+
+-- one more than the node that is told, or 0
+abbrev pub past : Option ℕ → ℕ
+past None = 0
+past (Some k) = k + 1
 
 -- ---------------------------------------------------------------- hashes of constants
 
@@ -74,7 +80,7 @@ pub record Kept (cs : List Constant) (s : List Item) (i : ℕ) (bs : List ℕ) :
   pub end : (constant_at cs i).start + length bs ≤ length (joined bits_in s)
   pub size : (constant_at cs i).width ≡ length bs
   pub bits : take (length bs) (drop (constant_at cs i).start (joined bits_in s)) ≡ bs
-  pub chain : Latest (hash_of bs) s i (constant_at cs i).before
+  pub chain : Latest (hash_of bs) s i (past (constant_at cs i).before)
   pub first : find_constant bs s ≡ some i
 
 pub record Held (heap : Heap) (s : List Item) : Type 0 where
@@ -92,7 +98,7 @@ pub record Held (heap : Heap) (s : List Item) : Type 0 where
   pub bits_held : take (length (joined bits_in s)) heap.bits ≡ joined bits_in s
   pub side_held : take (length (joined side_in s)) heap.side ≡ joined side_in s
   pub constants : (i : ℕ) (bs : List ℕ) → get_elem? s i ≡ some (a_constant bs) → Kept heap.constants s i bs
-  pub heads : (h : ℕ) → h < 4096 → Latest h s (length s) (get_or heap.heads h 0)
+  pub heads : (h : ℕ) → h < 4096 → Latest h s (length s) (past (get_or heap.heads h None))
 
 -- ---------------------------------------------------------------- operands that wait
 

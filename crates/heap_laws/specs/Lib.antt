@@ -10,5 +10,6 @@ pub mod Pairs
 pub mod Candidates
 pub mod Going
 pub mod Start
+pub mod Blank
 pub mod Examples
 pub mod Parts

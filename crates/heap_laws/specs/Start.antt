@@ -1,10 +1,10 @@
 -- Before the first node: arrays that are 0 throughout hold no nodes, and no operand waits. Assumes nothing.
-use Rattle.std.specs.Prelude.{ℕ, ◌≡◌, refl, List, [], length, get_or}
-use Rattle.std.proofs.Common.{arith}
+use Rattle.std.specs.Prelude.{ℕ, ◌≡◌, refl, List, [], length, get_or, None}
+use Rattle.std.proofs.Common.{ap, arith}
 use Rattle.echo_spec.specs.Input.{nodes_within}
 use Rattle.readback.specs.Records.{records_bytes}
 use Rattle.readback.specs.Rebuild.{joined, records_from}
-use Rattle.heap_laws.specs.Heap.{within, stack_size, side_size, nodes_size, bits_size, Held, Stacked}
+use Rattle.heap_laws.specs.Heap.{within, stack_size, side_size, nodes_size, bits_size, past, Held, Stacked}
 use Rattle.heap_laws.specs.declared.Heap.{Heap}
 
 -- nothing is stored yet
@@ -19,7 +19,7 @@ pub record Blank (heap : Heap) : Type 0 where
   pub bit_count : heap.bit_count ≡ 0
   pub side_count : heap.side_count ≡ 0
   pub top : heap.top ≡ 0
-  pub heads : (i : ℕ) → get_or heap.heads i 0 ≡ 0
+  pub heads : (i : ℕ) → get_or heap.heads i None ≡ None
 
 pub held_none : {heap : Heap} → Blank heap → Held heap []
 unfolding within nodes_within records_bytes records_from joined
@@ -38,7 +38,7 @@ held_none b = record {
   bits_held = refl;
   side_held = refl;
   constants = λ i bs e. absurd (let z : ◌≡◌ {A = ℕ} 0 1 = cc in omega arith);
-  heads = λ h l. record { all = λ j bs k e q. absurd (omega arith); own = λ k e. absurd (omega (arith, b.heads h)) };
+  heads = λ h l. record { all = λ j bs k e q. absurd (omega arith); own = λ k e. absurd (omega (arith, ap past (b.heads h))) };
 }
 
 pub stacked-none : (script : List ℕ) {heap : Heap} → Blank heap → Stacked script heap []

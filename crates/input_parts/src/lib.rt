@@ -20,9 +20,10 @@ ghost use Rattle.input_parts.specs.Lying.{Inside, Filled};
 use echo_size::Size;
 use fewest_roots::Fewest;
 use lent::Problem;
-use refusals::{EchoError, MAX_ENTRIES, MAX_ROOTS, MAX_SIDE};
+use refusals::{EchoError, MAX_ARENA, MAX_BITS, MAX_ENTRIES, MAX_NODE_BYTES, MAX_ROOTS, MAX_SIDE};
 
 // 64 bits from place i on, least significant byte first. Ruled out: the four high bytes first; the low four alone.
+// Kept: two halves, as the definition has them; `from_le_bytes` would take an array of eight bytes, and is no shorter.
 pub fn word64(s: &[u8], i: usize) -> u64
     requires { i + 8 ≤ length s.now }
     ensures { result ≡ word64 s.now i }
@@ -36,59 +37,67 @@ pub fn word64(s: &[u8], i: usize) -> u64
 pub const INPUTS: usize = 18;
 
 // The room of the columns that hold numbers: somewhat more than the limits, so that what is over a limit is handed on.
-pub const SIDE: usize = MAX_SIDE + 8;
+const SPARE: usize = 8;
 
-pub const ROOTS: usize = MAX_ROOTS + 8;
+pub const SIDE: usize = MAX_SIDE + SPARE;
 
-pub const ENTRIES: usize = MAX_ENTRIES + 8;
+pub const ROOTS: usize = MAX_ROOTS + SPARE;
 
-// What an input has: bytes, as many as 32 bits can count, or numbers, for so many of which a column has room.
-#[derive(Clone, Copy)]
-enum Elements {
+pub const ENTRIES: usize = MAX_ENTRIES + SPARE;
+
+// What the elements of an input are: bytes, or numbers of eight bytes each.
+#[derive(Clone, Copy, Debug, PartialEq, Eq)]
+pub enum Elements {
     Bytes,
-    Numbers(usize),
+    Numbers,
 }
 
-static ELEMENTS: [Elements; INPUTS] = [
-    Elements::Bytes,
-    Elements::Bytes,
-    Elements::Numbers(SIDE),
-    Elements::Numbers(ROOTS),
-    Elements::Bytes,
-    Elements::Numbers(ENTRIES),
-    Elements::Numbers(ENTRIES),
-    Elements::Numbers(ENTRIES),
-    Elements::Numbers(ENTRIES),
-    Elements::Bytes,
-    Elements::Numbers(ENTRIES),
-    Elements::Numbers(ENTRIES),
-    Elements::Numbers(ENTRIES),
-    Elements::Numbers(ENTRIES),
-    Elements::Bytes,
-    Elements::Numbers(ENTRIES),
-    Elements::Numbers(ENTRIES),
-    Elements::Numbers(ENTRIES),
+// What is fixed of an input: its name, the largest count, and what its elements are.
+// Kept: without names for these, so that each of the eighteen rows below is one line.
+pub struct Input(pub &'static [u8], pub usize, pub Elements);
+
+pub static TABLE: [Input; INPUTS] = [
+    Input(b"nodes", MAX_NODE_BYTES, Elements::Bytes),
+    Input(b"bits", MAX_BITS, Elements::Bytes),
+    Input(b"side", MAX_SIDE, Elements::Numbers),
+    Input(b"roots", MAX_ROOTS, Elements::Numbers),
+    Input(b"names", MAX_ARENA, Elements::Bytes),
+    Input(b"name_start", MAX_ENTRIES, Elements::Numbers),
+    Input(b"name_len", MAX_ENTRIES, Elements::Numbers),
+    Input(b"var_node", MAX_ENTRIES, Elements::Numbers),
+    Input(b"var_width", MAX_ENTRIES, Elements::Numbers),
+    Input(b"anames", MAX_ARENA, Elements::Bytes),
+    Input(b"aname_start", MAX_ENTRIES, Elements::Numbers),
+    Input(b"aname_len", MAX_ENTRIES, Elements::Numbers),
+    Input(b"index_width", MAX_ENTRIES, Elements::Numbers),
+    Input(b"value_width", MAX_ENTRIES, Elements::Numbers),
+    Input(b"fnames", MAX_ARENA, Elements::Bytes),
+    Input(b"fname_start", MAX_ENTRIES, Elements::Numbers),
+    Input(b"fname_len", MAX_ENTRIES, Elements::Numbers),
+    Input(b"func_width", MAX_ENTRIES, Elements::Numbers),
 ];
 
 // The bytes of n elements of input k. Ruled out: as many bytes as numbers; eight bytes for one of the names.
 pub fn span(k: usize, n: usize) -> usize
-    requires { (k < 18) × (n < 4294967296) }
+    requires { (k < INPUTS) × (n < 4294967296) }
     ensures { (result ≡ size_of k * n) × (result ≤ 8 * n) }
 {
-    match ELEMENTS[k] {
+    match TABLE[k].2 {
         Elements::Bytes => n,
-        Elements::Numbers(_) => 8 * n,
+        Elements::Numbers => 8 * n,
     }
 }
 
-// How many elements of input k there is room for. Ruled out: the limit itself, of numbers; the room of the input before it.
+// How many elements of input k there is room for: bytes, as many as 32 bits can count, or as many numbers as a column has room for. Ruled out:
+// the limit itself, of numbers; the room of the input before it.
 pub fn room(k: usize) -> usize
-    requires { k < 18 }
+    requires { k < INPUTS }
     ensures { result ≡ room_of k }
 {
-    match ELEMENTS[k] {
-        Elements::Bytes => 4294967295,
-        Elements::Numbers(room) => room,
+    let Input(_, limit, elements) = TABLE[k];
+    match elements {
+        Elements::Bytes => u32::MAX as usize,
+        Elements::Numbers => limit + SPARE,
     }
 }
 
@@ -117,7 +126,7 @@ pub struct Parts<'a> {
 impl<'a> Parts<'a> {
     // The elements of input k, where they are bytes.
     fn bytes_of(&self, k: usize) -> &'a [u8]
-        requires { k < 18 }
+        requires { k < INPUTS }
         ensures { result.now ≡ bytes_part self.now.bytes.now self.now.at k }
     {
         let part = self.at[k];
@@ -126,7 +135,7 @@ impl<'a> Parts<'a> {
 
     // The elements of input k, where they are numbers.
     fn column<const N: usize>(&self, k: usize) -> Column<N>
-        requires { (k < 18) × (size_of k ≡ 8) × (room_of k ≤ N) }
+        requires { (k < INPUTS) × (size_of k ≡ 8) × (room_of k ≤ N) }
         ensures { take result.count result.numbers ≡ numbers_part self.now.bytes.now self.now.at k }
     {
         let part = self.at[k];
@@ -144,6 +153,7 @@ impl<'a> Parts<'a> {
 // ---------------------------------------------------------------- the columns
 
 // The numbers of an input, at the front of a column with room for N.
+// Kept: an array and a count, since the columns are of this crate, which has no heap.
 #[derive(Drop)]
 struct Column<const N: usize> {
     numbers: [u64; N],

@@ -1,30 +1,14 @@
--- A sum that is compared without being made, and what a node that was accepted says of its sums and differences. Assumes nothing.
-use Prim.Native.Nat.{ℕ, ◌+◌, ◌-◌, ◌≤◌, ◌<◌}
-use mathlib.Core.Path.{◌≡◌, refl, ap, sym, ◌∙◌}
+-- What a node that was accepted says of its sums and differences. Assumes nothing.
+use Prim.Native.Nat.{ℕ, ◌+◌, ◌≤◌, ◌<◌}
+use mathlib.Core.Path.{◌≡◌, ap, ◌∙◌}
 use mathlib.Core.List.{List, []}
-use mathlib.Core.Bool.{Bool, true, false, ◌&&◌}
-use native.Mathlib.Omega.{arith}
-use borrow.Author.Tests.{leb-true, leb-false}
+use mathlib.Core.Bool.{true, ◌&&◌}
 use lib.Dec.{leb, ltb, leb→le, ltb→lt}
 use Rattle.lists.specs.Tests.{and_0, and-1, true→T}
 use Rattle.echo_spec.specs.Shapes.{Shape, extraction, concat, extension}
 use Rattle.echo_spec.specs.Input.{Node, shape, largest}
 use Rattle.echo_spec.specs.Widths.{wf_as, width_at, earlier, un_wf, extend_wf}
 use Rattle.kernel.specs.Closed.{closed, no_arrays, CoreFormed}
-
--- two tests that say the same
-leb-same : (a b c d : ℕ) → (a ≤ b → c ≤ d) → (c ≤ d → a ≤ b) → leb a b ≡ leb c d
-leb-same a b c d f g = go (leb a b) (leb c d) refl refl
-  where
-    go : (s t : Bool) → leb a b ≡ s → leb c d ≡ t → leb a b ≡ leb c d
-    go true true p q = p ∙ sym q
-    go true false p q = absurd (omega (arith, f (leb-true a b p), leb-false c d q))
-    go false true p q = absurd (omega (arith, g (leb-true c d q), leb-false a b p))
-    go false false p q = p ∙ sym q
-
--- a sum compared without making it
-pub sum-within : (x y m : ℕ) → x ≤ m → leb y (m - x) ≡ leb (x + y) m
-sum-within x y m l = leb-same y (m - x) (x + y) m (λ h. omega arith) (λ h. omega arith)
 
 module _ (ws : List ℕ) (n : Node) (h : CoreFormed ws n) where
   -- what was accepted, for a node of the shape s

@@ -13,6 +13,7 @@ use blast_kernel::Shape;
 use lent::{Node, get};
 
 // Is i the number of an earlier node. Ruled out: the node itself; node 0 left out.
+// Kept: a test beside `get`, and no `Option` of the width: each check below reads as its definition does.
 pub fn earlier(ws: &[u64], i: u64) -> bool
     ensures { result ≡ widths.earlier ws.now i }
 {
@@ -30,7 +31,7 @@ pub fn earlier_of(ws: &[u64], w: u64, i: u64) -> bool
 fn sum_fits(x: u64, y: u64) -> bool
     ensures { result ≡ leb (x + y) input.largest }
 {
-    y <= u64::MAX - x
+    x.checked_add(y).is_some()
 }
 
 // One earlier bit-vector. Ruled out: a node of width 0; the node itself.
@@ -112,19 +113,15 @@ pub fn node_wf(ws: &[u64], nbits: usize, n: Node) -> bool
     match Shape::from(n.kind) {
         Shape::Var => has_width(n.a),
         Shape::Const => const_wf(nbits, n.a, n.b),
-        Shape::Binary => bin_wf(ws, n.a, n.b),
-        Shape::Rotation => bin_wf(ws, n.a, n.b),
+        Shape::Binary(_) | Shape::Rotation(_) | Shape::Comparison(_) => bin_wf(ws, n.a, n.b),
         Shape::Extraction => extract_wf(ws, n.a, n.b, n.c),
         Shape::Concat => concat_wf(ws, n.a, n.b),
-        Shape::Extension => extend_wf(ws, n.a, n.b),
+        Shape::Extension(_) => extend_wf(ws, n.a, n.b),
         Shape::Ite => ite_wf(ws, n.a, n.b, n.c),
-        Shape::Comparison => bin_wf(ws, n.a, n.b),
         Shape::Negation => earlier_of(ws, 1, n.a),
-        Shape::Connective => bool_bin_wf(ws, n.a, n.b),
-        Shape::Unary => un_wf(ws, n.a),
-        Shape::Select => false,
-        Shape::Call => false,
-        Shape::Unknown => false,
+        Shape::Connective(_) => bool_bin_wf(ws, n.a, n.b),
+        Shape::Unary(_) => un_wf(ws, n.a),
+        Shape::Select | Shape::Call | Shape::Unknown => false,
     }
 }
 
@@ -138,18 +135,12 @@ pub fn node_width(ws: &[u64], n: Node) -> u64
     match Shape::from(n.kind) {
         Shape::Var => n.a,
         Shape::Const => n.b,
-        Shape::Binary => get(ws, n.a),
-        Shape::Rotation => get(ws, n.a),
+        Shape::Binary(_) | Shape::Rotation(_) | Shape::Unary(_) => get(ws, n.a),
         Shape::Extraction => n.a - n.b + 1,
         Shape::Concat => get(ws, n.a) + get(ws, n.b),
-        Shape::Extension => get(ws, n.a) + n.b,
+        Shape::Extension(_) => get(ws, n.a) + n.b,
         Shape::Ite => get(ws, n.b),
-        Shape::Comparison => 1,
-        Shape::Negation => 1,
-        Shape::Connective => 1,
-        Shape::Unary => get(ws, n.a),
-        Shape::Select => 0,
-        Shape::Call => 0,
-        Shape::Unknown => 0,
+        Shape::Comparison(_) | Shape::Negation | Shape::Connective(_) => 1,
+        Shape::Select | Shape::Call | Shape::Unknown => 0,
     }
 }

@@ -25,6 +25,7 @@ fn put_bytes(xs: &[u8], p: Place, out: &mut [u8]) -> Place
 }
 
 // An input of numbers likewise.
+// Kept: beside `put_bytes`, since bytes are put as one piece and numbers one after the other; over a trait of elements each would have both.
 fn put_numbers(xs: &[u64], p: Place, out: &mut [u8]) -> Place
     ensures { page result out.new ≡ written (page p out.old) (input_bytes (numbers xs.now)) }
 {

@@ -3,7 +3,7 @@ use Rattle.std.proofs.Common.{◌≡◌, ℕ, ◌≤◌, ◌<◌, Bool, ◌&&◌
 use Rattle.std.proofs.Math.ListN.{get_or-map}
 use Rattle.lists.specs.Tests.{every-at, and_0, and-1}
 use Rattle.input_parts.specs.Parts.{rooms, room_of}
-use Rattle.layout_shape.specs.declared.Input as code
+use Rattle.input_parts.specs.declared.Input as code
 use Rattle.layout_shape.specs.Layout.{inputs, input_at}
 
 pub name-in : (table : List code.Input) (k : ℕ) (past : code.Input) → (get_or table k past).0.now ≡ get_or (map (λ i. i.0.now) table) k past.0.now

@@ -7,38 +7,14 @@ ghost use Rattle.std.specs.Prelude.{◌≡◌, ◌≤◌, ◌<◌};
 ghost use Rattle.layout_shape.specs.Layout as layout;
 ghost use Rattle.layout_shape.specs.Reading.{Shaped};
 
-use input_parts::{INPUTS, Part, Parts};
-use refusals::{MAX_ARENA, MAX_BITS, MAX_ENTRIES, MAX_NODE_BYTES, MAX_ROOTS, MAX_SIDE};
+use input_parts::{INPUTS, Part, Parts, TABLE};
+use refusals::MAX_BITS;
 
 // ---------------------------------------------------------------- the inputs
 
-// What is fixed of an input beside the size of an element: its name and the largest count.
-struct Input(&'static [u8], usize);
-
-static TABLE: [Input; INPUTS] = [
-    Input(b"nodes", MAX_NODE_BYTES),
-    Input(b"bits", MAX_BITS),
-    Input(b"side", MAX_SIDE),
-    Input(b"roots", MAX_ROOTS),
-    Input(b"names", MAX_ARENA),
-    Input(b"name_start", MAX_ENTRIES),
-    Input(b"name_len", MAX_ENTRIES),
-    Input(b"var_node", MAX_ENTRIES),
-    Input(b"var_width", MAX_ENTRIES),
-    Input(b"anames", MAX_ARENA),
-    Input(b"aname_start", MAX_ENTRIES),
-    Input(b"aname_len", MAX_ENTRIES),
-    Input(b"index_width", MAX_ENTRIES),
-    Input(b"value_width", MAX_ENTRIES),
-    Input(b"fnames", MAX_ARENA),
-    Input(b"fname_start", MAX_ENTRIES),
-    Input(b"fname_len", MAX_ENTRIES),
-    Input(b"func_width", MAX_ENTRIES),
-];
-
 // The name of input k. Ruled out: that of the input after it; a name with a letter wrong.
 pub fn name(k: usize) -> &'static [u8]
-    requires { k < 18 }
+    requires { k < INPUTS }
     ensures { result.now ≡ (layout.input_at k).name }
 {
     TABLE[k].0
@@ -46,8 +22,8 @@ pub fn name(k: usize) -> &'static [u8]
 
 // The largest count of input k. Ruled out: that of the input after it; an arena's for a column.
 pub fn limit(k: usize) -> u64
-    requires { k < 18 }
-    ensures { (result ≡ (layout.input_at k).limit) × (result ≤ 131072) }
+    requires { k < INPUTS }
+    ensures { (result ≡ (layout.input_at k).limit) × (result ≤ MAX_BITS) }
 {
     TABLE[k].1 as u64
 }

@@ -26,7 +26,7 @@ use Rattle.script_rebuild.specs.declared.ReadError.{ReadError}
 use Rattle.script_rebuild.specs.declared.ReadError.TheVariants as error
 use Rattle.script_reader.specs.Outputs.{sizes_from, read_back}
 use Rattle.std.specs.Prelude.{Result, Ok, Err}
-use Rattle.layout_writer.specs.declared.Unread.{Unread}
+use Rattle.layout_writer.specs.declared.Unwritten.{Unwritten}
 use Rattle.layout_writer.specs.Laws.{Within, within}
 use Rattle.layout_writer.specs.Outputs.{first_of, Lies, rooms, said_by}
 use Rattle.layout_writer.specs.Telling.{Script, no_script, over_limit, given, unless, rebuilt, said_of, written_to, Always, Answers}
@@ -273,7 +273,7 @@ module _ (b : List ℕ) (lent o : Problem) (room : lengths_of lent ≡ rooms) (q
   pub accepts-as : (z : Sizes) → q ≡ Ok z → ReadAs b z o
   accepts-as z e = read-given b lent o room z (subst (λ (x : Result Sizes ReadError). read_back x o ≡ read_script_answer b lent) e h)
 
-  pub refuses-as : (out : List ℕ) (c : ReadError) {r : Result ℕ Unread} → q ≡ Err c → r ≡ said_by c → Answers (rebuilt (reading_in b)) out r out
+  pub refuses-as : (out : List ℕ) (c : ReadError) {r : Result ℕ Unwritten} → q ≡ Err c → r ≡ said_by c → Answers (rebuilt (reading_in b)) out r out
   refuses-as out c e f =
-      subst (λ (x : Result ℕ Unread). Answers (rebuilt (reading_in b)) out x out) (sym f)
+      subst (λ (x : Result ℕ Unwritten). Answers (rebuilt (reading_in b)) out x out) (sym f)
       (read-refused b lent o room out c (subst (λ (x : Result Sizes ReadError). read_back x o ≡ read_script_answer b lent) e h))

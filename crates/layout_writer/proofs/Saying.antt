@@ -19,8 +19,8 @@ use Rattle.std.specs.Prelude.{Result, Ok, Err}
 use Rattle.problem_layout.specs.declared.Told.{Told}
 use Rattle.problem_layout.specs.Telling.{shown, Shown}
 use Rattle.script_rebuild.specs.declared.ReadError.TheVariants.{Room}
-use Rattle.layout_writer.specs.declared.Unread.{Unread}
-use Rattle.layout_writer.specs.declared.Unread.TheVariants.{Refused, TooLarge, TooDeep}
+use Rattle.layout_writer.specs.declared.Unwritten.{Unwritten}
+use Rattle.layout_writer.specs.declared.Unwritten.TheVariants.{Refused, TooLarge, TooDeep}
 use Rattle.layout_bytes.specs.Encoding.{bytes_of_layout}
 use Rattle.layout_writer.specs.Outputs.{first_of}
 use Rattle.script_depth.specs.Nesting.{too_deep}
@@ -58,7 +58,7 @@ module _ (p : Problem) (lent out : List ℕ) {q : Place} (small : length lent < 
           by_length (no f) = omega arith
 
 -- of other bytes that are known to be this problem's
-pub answers-as : {s t : Script} {lent out : List ℕ} {r : Result ℕ Unread} → s ≡ t → Answers t lent r out → Answers s lent r out
+pub answers-as : {s t : Script} {lent out : List ℕ} {r : Result ℕ Unwritten} → s ≡ t → Answers t lent r out → Answers s lent r out
 answers-as {lent = lent} {out} {r} e a = subst (λ (x : Script). Answers x lent r out) (sym e) a
 
 -- the problem that was read, written from where nothing was
@@ -83,13 +83,13 @@ pub says-too-deep : (b lent : List ℕ) → length b ≤ longest → too_deep b 
 unfolding script
 says-too-deep b lent l t = let e : script b ≡ nested = rw (le-leb (length b) longest l, t) refl in answers-as e (record { said = refl; output = refl; known = tt })
 
-pub says-read : (b : List ℕ) {lent out : List ℕ} {r : Result ℕ Unread} → length b ≤ longest → too_deep b ≡ false → Answers (rebuilt (reading_in b)) lent r out → Answers (script b) lent r out
+pub says-read : (b : List ℕ) {lent out : List ℕ} {r : Result ℕ Unwritten} → length b ≤ longest → too_deep b ≡ false → Answers (rebuilt (reading_in b)) lent r out → Answers (script b) lent r out
 unfolding script
 says-read b l t a = let e : script b ≡ rebuilt (reading_in b) = rw (le-leb (length b) longest l, t) refl in answers-as e a
 
 -- ---------------------------------------------------------------- the line, and both
 
-pub tells : {s lent out end : List ℕ} {said : Result ℕ Unread} {r : Told Unread} → Answers (script s) lent said out → r.said ≡ said → Shown line_of said out r.length end
+pub tells : {s lent out end : List ℕ} {said : Result ℕ Unwritten} {r : Told Unwritten} → Answers (script s) lent said out → r.said ≡ said → Shown line_of said out r.length end
     → Tells s lent r end
 tells a e b =
     record {

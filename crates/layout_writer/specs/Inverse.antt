@@ -25,7 +25,7 @@ use Rattle.problem_layout.specs.Telling.{Front, line_in}
 use Rattle.std.specs.Prelude.{Result, Ok}
 use Rattle.problem_layout.specs.declared.Told.{Told}
 use Rattle.problem_layout.specs.declared.Unprinted.{Unprinted}
-use Rattle.layout_writer.specs.declared.Unread.{Unread}
+use Rattle.layout_writer.specs.declared.Unwritten.{Unwritten}
 use Rattle.layout_bytes.specs.Encoding.{bytes_of_layout}
 use Rattle.layout_writer.specs.Laws.{layout-back}
 use Rattle.script_depth.specs.Nesting.{too_deep}
@@ -88,7 +88,7 @@ written-by over_limit lent n e = absurd (let z : ◌≡◌ {A = ℕ} 0 1 = cc in
 written-by (given p) lent n e = by-room (dec_le (length (bytes_of_layout p)) (length lent))
   where
     by-room : Dec (length (bytes_of_layout p) ≤ length lent) → (q : Problem) × (given p ≡ given q) × (length (bytes_of_layout q) ≤ length lent) × (n ≡ length (bytes_of_layout q))
-    by-room (yes l) = let f : ◌≡◌ {A = Result ℕ Unread} (Ok (length (bytes_of_layout p))) (Ok n) = rw (said_of, le-leb (length (bytes_of_layout p)) (length lent) l) at e in (p, refl, l, cc)
+    by-room (yes l) = let f : ◌≡◌ {A = Result ℕ Unwritten} (Ok (length (bytes_of_layout p))) (Ok n) = rw (said_of, le-leb (length (bytes_of_layout p)) (length lent) l) at e in (p, refl, l, cc)
     by-room (no l) =
         let f = rw (said_of, lt-leb (length (bytes_of_layout p)) (length lent) (omega arith)) at e in
         absurd (let z : ◌≡◌ {A = ℕ} 0 1 = cc in omega arith)
@@ -105,7 +105,7 @@ fits-front bs lent l =
 
 -- THE COMMANDS ARE EACH OTHER'S INVERSE: what `read_problem` shows of a script that it reads, `print_problem` shows as the script, where its
 -- buffer is long enough; that of the program is.
-pub piped : {b lent out lent₂ out₂ : List ℕ} {r : Told Unread} {r₂ : Told Unprinted} {n : ℕ} → Tells b lent r out → r.said ≡ Ok n
+pub piped : {b lent out lent₂ out₂ : List ℕ} {r : Told Unwritten} {r₂ : Told Unprinted} {n : ℕ} → Tells b lent r out → r.said ≡ Ok n
     → printing.Tells (take r.length out) lent₂ r₂ out₂ → length b ≤ length lent₂ → take r₂.length out₂ ≡ b
 piped {b} {lent} {out} {lent₂} {out₂} {r} {r₂} {n} t e t₂ l =
     let (p, g, fits, m) = written-by (script b) lent n (sym t.said ∙ e) in

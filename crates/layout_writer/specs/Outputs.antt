@@ -3,8 +3,8 @@ use Rattle.std.specs.Prelude.{ℕ, ◌≤◌, List, [], ◌∷◌, Result, Err, 
 use Rattle.echo_spec.specs.Input.{Problem}
 use Rattle.script_rebuild.specs.declared.Sizes.{Sizes}
 use Rattle.script_rebuild.specs.declared.ReadError.{ReadError}
-use Rattle.layout_writer.specs.declared.Unread.{Unread}
-use Rattle.layout_writer.specs.declared.Unread.TheVariants.{Refused}
+use Rattle.layout_writer.specs.declared.Unwritten.{Unwritten}
+use Rattle.layout_writer.specs.declared.Unwritten.TheVariants.{Refused}
 
 -- as many elements of each as are told
 abbrev pub first_of : Sizes → Problem → Problem
@@ -54,5 +54,5 @@ pub record Lies (z : Sizes) (o : Problem) : Type 0 where
 abbrev pub rooms : List ℕ
 rooms = 34816 ∷ 131072 ∷ 8192 ∷ 256 ∷ 16384 ∷ 512 ∷ 512 ∷ 512 ∷ 512 ∷ 16384 ∷ 512 ∷ 512 ∷ 512 ∷ 512 ∷ 16384 ∷ 512 ∷ 512 ∷ 512 ∷ []
 
-abbrev pub said_by : ReadError → Result ℕ Unread
+abbrev pub said_by : ReadError → Result ℕ Unwritten
 said_by e = Err (Refused e)

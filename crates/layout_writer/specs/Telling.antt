@@ -10,8 +10,8 @@ use Rattle.readback.specs.ReadAnswers.{limits_passed}
 use Rattle.problem_layout.specs.Telling.{line_in, shown, Known}
 use Rattle.problem_layout.specs.declared.Told.{Told}
 use Rattle.script_rebuild.specs.declared.ReadError.TheVariants.{NoScript, Limit, Room}
-use Rattle.layout_writer.specs.declared.Unread.{Unread}
-use Rattle.layout_writer.specs.declared.Unread.TheVariants.{Refused, TooLarge, TooDeep}
+use Rattle.layout_writer.specs.declared.Unwritten.{Unwritten}
+use Rattle.layout_writer.specs.declared.Unwritten.TheVariants.{Refused, TooLarge, TooDeep}
 use Rattle.layout_bytes.specs.Encoding.{bytes_of_layout}
 use Rattle.script_depth.specs.Nesting.{too_deep}
 use Rattle.layout_writer.specs.Lines.{no_script_line, limit_line, room_line, too_large_line, too_deep_line}
@@ -45,7 +45,7 @@ script b = unless (leb (length b) longest) too_large (unless (not (too_deep b)) 
 -- ---------------------------------------------------------------- what is said
 
 -- `lent` is the buffer before: the layout goes to its front, as far as it fits
-abbrev pub said_of : Script → List ℕ → Result ℕ Unread
+abbrev pub said_of : Script → List ℕ → Result ℕ Unwritten
 said_of too_large lent = Err TooLarge
 said_of nested lent = Err TooDeep
 said_of no_script lent = Err (Refused NoScript)
@@ -62,7 +62,7 @@ written_to (given p) lent = (line_in (bytes_of_layout p) lent).bytes
 -- ---------------------------------------------------------------- what is shown
 
 -- the line where there is no layout
-abbrev pub line_of : Unread → List ℕ
+abbrev pub line_of : Unwritten → List ℕ
 line_of (Refused NoScript) = no_script_line
 line_of (Refused Limit) = limit_line
 line_of (Refused Room) = room_line
@@ -70,19 +70,19 @@ line_of TooLarge = too_large_line
 line_of TooDeep = too_deep_line
 
 -- each has one
-abbrev pub Always : Unread → Type 0
+abbrev pub Always : Unwritten → Type 0
 Always u = Unit
 
 -- ---------------------------------------------------------------- the contracts
 
 -- THE COMMAND's: what it says, the bytes to be shown and the whole buffer are those of the definitions
-pub record Tells (input lent : List ℕ) (r : Told Unread) (out : List ℕ) : Type 0 where
+pub record Tells (input lent : List ℕ) (r : Told Unwritten) (out : List ℕ) : Type 0 where
   pub said : r.said ≡ said_of (script input) lent
   pub front : record { count = r.length; bytes = out } ≡ shown line_of (said_of (script input) lent) (written_to (script input) lent)
   pub inside : r.length ≤ length out
 
 -- before the line
-pub record Answers (s : Script) (lent : List ℕ) (r : Result ℕ Unread) (out : List ℕ) : Type 0 where
+pub record Answers (s : Script) (lent : List ℕ) (r : Result ℕ Unwritten) (out : List ℕ) : Type 0 where
   pub said : r ≡ said_of s lent
   pub output : out ≡ written_to s lent
   pub known : Known Always r (length out)

@@ -11,12 +11,12 @@ ghost use Rattle.layout_bytes.specs.Encoding.{bytes_of_layout};
 ghost use Rattle.script_rebuild.specs.Decided.{lengths_of};
 ghost use Rattle.layout_writer.specs.Outputs.{Lies, first_of, rooms};
 ghost use Rattle.layout_writer.specs.Telling.{rebuilt, script, line_of, Always, Answers, Tells};
-ghost use Rattle.layout_writer.specs.declared.Unread.TheVariants.{Refused};
+ghost use Rattle.layout_writer.specs.declared.Unwritten.TheVariants.{Refused};
 
 use echo_bytes::Place;
 use layout_bytes::{put_nodes, put_table};
 use lent::Problem;
-use problem_layout::{Line, Told, tell};
+use problem_layout::{LONGEST_SCRIPT, Line, Told, tell};
 use refusals::{MAX_ARENA, MAX_BITS, MAX_ENTRIES, MAX_NODE_BYTES, MAX_ROOTS, MAX_SIDE};
 use script_depth::too_deep;
 use script_reader::{Outputs, ReadError, Sizes, read_script};
@@ -83,8 +83,8 @@ fn first<'a>(outputs: &'a Outputs, z: &Sizes) -> Problem<'a>
 // ---------------------------------------------------------------- reading
 
 // Why there is no problem.
-#[derive(Clone, Copy)]
-pub enum Unread {
+#[derive(Clone, Copy, Debug, PartialEq, Eq)]
+pub enum Unwritten {
     // The bytes are no problem's script; or the problem is over a limit, or has a number that its record cannot hold; or it is longer than
     // the buffer.
     Refused(ReadError),
@@ -94,16 +94,16 @@ pub enum Unread {
     TooDeep,
 }
 
-impl From<ReadError> for Unread {
+impl From<ReadError> for Unwritten {
     ghost from_gives = { λ e u. u ≡ Refused e };
 
-    fn from(e: ReadError) -> Unread {
-        Unread::Refused(e)
+    fn from(e: ReadError) -> Unwritten {
+        Unwritten::Refused(e)
     }
 }
 
 // The script is read into outputs that have room for every problem within the limits, and written from these.
-fn read_into(script: &[u8], outputs: &mut Outputs, out: &mut [u8]) -> Result<usize, Unread>
+fn read_into(script: &[u8], outputs: &mut Outputs, out: &mut [u8]) -> Result<usize, Unwritten>
     requires { lengths_of (problem_in outputs.old) ≡ rooms }
     ensures { Answers (rebuilt (reading_in script.now)) out.old result out.new }
 {
@@ -111,12 +111,13 @@ fn read_into(script: &[u8], outputs: &mut Outputs, out: &mut [u8]) -> Result<usi
     let problem = first(outputs, &sizes);
     let n = put_problem(&problem, echo_bytes::start(), out).need;
     if n > out.len() {
-        return Err(Unread::Refused(ReadError::Room));
+        return Err(Unwritten::Refused(ReadError::Room));
     }
     Ok(n)
 }
 
-fn read_back(script: &[u8], out: &mut [u8]) -> Result<usize, Unread>
+// Kept: eighteen arrays, since the libraries have no heap.
+fn read_back(script: &[u8], out: &mut [u8]) -> Result<usize, Unwritten>
     ensures { Answers (rebuilt (reading_in script.now)) out.old result out.new }
 {
     let mut outputs = Outputs {
@@ -144,23 +145,21 @@ fn read_back(script: &[u8], out: &mut [u8]) -> Result<usize, Unread>
 
 // ---------------------------------------------------------------- what is not read
 
-// The longest script that is read.
-pub const LONGEST: usize = 2097152;
-
-fn answer(input: &[u8], out: &mut [u8]) -> Result<usize, Unread>
+fn answer(input: &[u8], out: &mut [u8]) -> Result<usize, Unwritten>
     ensures { Answers (script input.now) out.old result out.new }
 {
-    if input.len() > LONGEST {
-        return Err(Unread::TooLarge);
+    if input.len() > LONGEST_SCRIPT {
+        return Err(Unwritten::TooLarge);
     }
     if too_deep(input) {
-        return Err(Unread::TooDeep);
+        return Err(Unwritten::TooDeep);
     }
     read_back(input, out)
 }
 
 // ---------------------------------------------------------------- lines
 
+// Kept: whole texts, as the definitions have them, with the numbers and limits in them; a text in pieces would be put by three calls in each arm.
 fn refused_text(e: ReadError) -> &'static [u8]
     ensures { result.now ≡ line_of (Refused e) }
 {
@@ -175,21 +174,21 @@ fn refused_text(e: ReadError) -> &'static [u8]
     }
 }
 
-fn text_of(e: Unread) -> &'static [u8]
+fn text_of(e: Unwritten) -> &'static [u8]
     ensures { result.now ≡ line_of e }
 {
     match e {
-        Unread::Refused(e) => refused_text(e),
-        Unread::TooLarge => {
+        Unwritten::Refused(e) => refused_text(e),
+        Unwritten::TooLarge => {
             b"input: too large: the script has more bytes than its limit, 2097152\n"
         }
-        Unread::TooDeep => {
+        Unwritten::TooDeep => {
             b"input: too deep: the script has more brackets open at once than its limit, 6146\n"
         }
     }
 }
 
-impl Line for Unread {
+impl Line for Unwritten {
     ghost text = { line_of };
 
     ghost known = { Always };
@@ -200,9 +199,9 @@ impl Line for Unread {
 }
 
 // THE COMMAND. Any bytes may come in, and any buffer: the problem or the line goes to its front. A problem that does not fit is refused with
-// 10, and a line that does not fit is cut. Ruled out beside its edits: a count of bytes where one of numbers belongs; the columns of two
+// `Room`, and a line that does not fit is cut. Ruled out beside its edits: a count of bytes where one of numbers belongs; the columns of two
 // tables exchanged.
-pub fn read_problem(input: &[u8], out: &mut [u8]) -> Told<Unread>
+pub fn read_problem(input: &[u8], out: &mut [u8]) -> Told<Unwritten>
     ensures { Tells input.now out.old result out.new }
 {
     tell(answer(input, out), out)

@@ -1,8 +1,15 @@
 -- A loop that clears a lent slice, one place a turn, and what was cleared. Assumes nothing.
-use Rattle.std.specs.Prelude.{ℕ, zero, suc, ◌+◌, ◌<◌, ◌≡◌, refl, List, [], ◌∷◌, ◌++◌, length, get_or, drop, set, replicate}
+use Rattle.std.specs.Prelude.{ℕ, zero, suc, ◌+◌, ◌<◌, ◌≡◌, refl, List, [], ◌∷◌, ◌++◌, length, get_or, drop, set, replicate, Result, Ok, Err}
 use Rattle.std.proofs.Common.{ap, ◌∙◌, add-one, append-nil, arith}
 use Rattle.std.proofs.Math.Seq.{drop-length}
 use Rattle.echo_spec.specs.Answers.{zeroed}
+
+-- a lent slice behind an answer: as it is, or behind a refusal z at each place
+abbrev pub left : {T V E : Type 0} → T → Result V E → List T → List T
+left z (Ok v) out = out
+left z (Err e) out = replicate (length out) z
+
+-- ---------------------------------------------------------------- laws
 
 -- one place more has the value v, and the places after it are as they were
 pub fill_next : {X : Type 0} (v : X) (lent : List X) (i : ℕ) → i < length lent

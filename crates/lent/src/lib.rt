@@ -1,11 +1,12 @@
-// A problem as it is lent: its eighteen slices by name. Beside it what all readers of lent slices need: a number at a place, a record of
-// 17 bytes taken apart, a slice cleared.
+// A problem as it is lent: its eighteen slices by name. Beside it what all readers of lent slices need: what stands at a place, a
+// node's record taken apart, a slice cleared.
 // Under "Ruled out" stand wrong programs that a public function's contract refuses.
 #![tactic(auto)]
 
-ghost use Rattle.std.specs.Prelude.{◌≡◌, ◌+◌, ◌*◌, ◌≤◌, ◌<◌, length, get_or, replicate, None};
+ghost use Rattle.std.specs.Prelude.{◌≡◌, ◌+◌, ◌*◌, ◌^◌, ◌≤◌, ◌<◌, length, get_or, replicate, None};
 ghost use Rattle.echo_spec.specs.Input as input;
 ghost use Rattle.lent.specs.Records.{node_of};
+ghost use Rattle.lent.specs.Clearing.{left};
 
 use refusals::RECORD;
 
@@ -38,22 +39,26 @@ pub struct Problem<'a> {
 // ---------------------------------------------------------------- numbers
 
 // 32 bits from place i on, least significant byte first. Ruled out: the most significant byte first; the byte after place i as the lowest.
+#[tactic(auto, unfolding(echo_spec::specs::Input::word32))]
 pub fn word32(s: &[u8], i: usize) -> u64
     requires { i + 4 ≤ length s.now }
-    ensures { (result ≡ input.word32 s.now i) × (result < 4294967296) }
+    ensures { (result ≡ input.word32 s.now i) × (result < 2 ^ 32) }
 {
-    let lowest = u64::from(s[i]);
-    let second = u64::from(s[i + 1]);
-    let third = u64::from(s[i + 2]);
-    let highest = u64::from(s[i + 3]);
-    lowest + 256 * second + 65536 * third + 16777216 * highest
+    u64::from(u32::from_le_bytes([s[i], s[i + 1], s[i + 2], s[i + 3]]))
+}
+
+// What stands at place i, or `past` where that lies past the end. Ruled out: the last element past the end; the element after i.
+pub fn at<T: Copy>(xs: &[T], i: u64, past: T) -> T
+    ensures { result ≡ get_or xs.now i past }
+{
+    xs.get(i as usize).copied().unwrap_or(past)
 }
 
 // Entry i, or 0 past the end. Ruled out: the last entry where i lies past it; the entry after i.
 pub fn get(s: &[u64], i: u64) -> u64
     ensures { result ≡ get_or s.now i 0 }
 {
-    s.get(i as usize).copied().unwrap_or(0)
+    at(s, i, 0)
 }
 
 // ---------------------------------------------------------------- node records
@@ -68,7 +73,7 @@ pub struct Node {
     pub d: u64,
 }
 
-// The node past the last one.
+// The node past the last one. Kept: 255, a kind that is in no table, as the definition of that node has it.
 const NO_NODE: Node = Node {
     kind: 255,
     a: 0,
@@ -85,8 +90,9 @@ pub fn node_count(nodes: &[u8]) -> usize
 }
 
 // Record i. Ruled out: the highest byte of an operand first; the record before it.
+#[tactic(auto, unfolding(echo_spec::specs::Input::node_at))]
 pub fn node_at(nodes: &[u8], i: usize) -> Node
-    requires { 17 * i + 17 ≤ length nodes.now }
+    requires { RECORD * i + RECORD ≤ length nodes.now }
     ensures { node_of result ≡ input.node_at nodes.now i }
 {
     let at = RECORD * i;
@@ -143,7 +149,17 @@ impl Zero for Option<usize> {
 pub fn clear<T: Zero>(out: &mut [T])
     ensures { out.new ≡ replicate (length out.old) T.ZERO }
 {
+    // Kept: `fill` asks that a clone cannot fail and is the element itself, which a type parameter would need laws for.
     for x in out.iter_mut() {
         *x = T::ZERO;
+    }
+}
+
+// What was lent, behind an answer: a refusal clears it. Ruled out: what was written left behind a refusal; a result cleared.
+pub fn clear_on_refusal<T: Zero, V, E>(told: &Result<V, E>, out: &mut [T])
+    ensures { out.new ≡ left T.ZERO told.now out.old }
+{
+    if told.is_err() {
+        clear(out);
     }
 }

@@ -6,7 +6,7 @@ use lent::Problem;
 use std::io;
 use std::io::Write;
 
-// Kinds of a node.
+// Kinds of a node. Kept: numbers, as they stand among the bytes of the records here.
 const ADD: u8 = 2;
 
 const ROTL: u8 = 34;
@@ -73,6 +73,7 @@ const M2: Sum = Sum {
     name: b"x",
 };
 
+// Kept: the two numbers by a match; for `EchoAnswer` this program would stand on all that is answered for C.
 fn tell<W: Write>(writer: &mut W, label: u64, problem: &Problem, out: &mut [u8]) -> io::Result<()> {
     let (number, length) = match echo_ext(problem, out) {
         Ok(n) => (0, n),

@@ -4,32 +4,7 @@ use Rattle.std.proofs.Common.{zero-le, sym, ◌∙◌, subst, arith, eqb→eq, l
 use Rattle.std.proofs.Math.Dec.{nleb→lt}
 use Rattle.std.proofs.Math.ListN.{get_or-eq_default}
 use Rattle.lists.specs.Tests.{true→T, among, every_from, every-at, or-not}
-use Rattle.echo_spec.specs.Shapes.{Shape, binary, rotation, extension, comparison, connective, unary, unknown, shapes, shape_of}
-
--- the shapes that have operators by kind
-abbrev pub is_binary : Shape → Bool
-is_binary binary = true
-is_binary _ = false
-
-abbrev pub is_comparison : Shape → Bool
-is_comparison comparison = true
-is_comparison _ = false
-
-abbrev pub is_unary : Shape → Bool
-is_unary unary = true
-is_unary _ = false
-
-abbrev pub is_rotation : Shape → Bool
-is_rotation rotation = true
-is_rotation _ = false
-
-abbrev pub is_extension : Shape → Bool
-is_extension extension = true
-is_extension _ = false
-
-abbrev pub is_connective : Shape → Bool
-is_connective connective = true
-is_connective _ = false
+use Rattle.echo_spec.specs.Shapes.{Shape, unknown, shapes, shape_of}
 
 -- x is none of the keys, as the last arm of a match is told; the keys are those of the arms, the last first
 abbrev pub NoneIn : List ℕ → ℕ → Type 0

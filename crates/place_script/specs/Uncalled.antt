@@ -1,5 +1,5 @@
 -- The functions that no assertion calls, each called on zeros, one after the other.
-use Rattle.std.specs.Prelude.{ℕ, suc, ◌+◌, ◌≤◌, ◌<◌, ◌≡◌, refl, Bool, true, false, Option, Some, None, ⊤}
+use Rattle.std.specs.Prelude.{ℕ, suc, ◌+◌, ◌≤◌, ◌<◌, ◌≡◌, refl, Bool, true, false, Result, Ok, Err, ⊤}
 use Rattle.std.proofs.Math.Path.{ap}
 use Rattle.std.proofs.Common.{sym, ◌∙◌, subst, arith, add-one, drop-cons}
 use mathlib.Core.List.{List, [], ◌∷◌, map}
@@ -11,6 +11,7 @@ use Rattle.rebuilt.specs.Built.{no-function, function_at}
 use Rattle.rebuilt.specs.Constants.{with-constants-grows}
 use Rattle.heap_laws.specs.Heap.{within, Held, Stacked}
 use Rattle.heap_laws.specs.declared.Heap.{Heap}
+use Rattle.heap_laws.specs.declared.OverLimit.{OverLimit}
 use Rattle.heap_laws.specs.Within.{over-grows}
 use Rattle.script_calls.specs.Flags.{Flagged}
 use Rattle.place_script.specs.Zeros.{zeros_call, HeldTo}
@@ -73,7 +74,7 @@ pub uncalling-start : {s : List ℕ} {flags : List Bool} {heap : Heap} (D : Decl
 uncalling-start D {first} h k = record { now = first; same = refl; held = h; stacked = k }
 
 module _ {s : List ℕ} {flags : List Bool} {heap : Heap} {D : Declarations} {first : List Item} {k : ℕ} (u : Uncalling s flags heap D first k) where
-  pub uncalling-end : length D.functions ≤ k → HeldTo s heap (unflagged flags 0 D.functions first) (Some tt)
+  pub uncalling-end : length D.functions ≤ k → HeldTo s heap (unflagged flags 0 D.functions first) (Ok tt)
   unfolding unflagged
   uncalling-end l =
       let e : unflagged flags 0 D.functions first ≡ u.now = u.same ∙ ap (λ (fs : List Function). unflagged flags k fs u.now) (lib.ListN.drop_of_length-le D.functions l) in
@@ -101,13 +102,13 @@ module _ {s : List ℕ} {flags : List Bool} {heap : Heap} {D : Declarations} {fi
       call-is : zeros_call k width ws u.now ≡ call_on_zeros k here_function u.now
       call-is = (λ i. zeros_call k (sym q i) (sym p i) u.now) ∙ zeros-call k here_function u.now
 
-      pub function-zeros : (heap' : Heap) (b : Option ⊤) (v : ⊤) → b ≡ Some v → HeldTo s heap' (zeros_call k width ws u.now) b → Uncalling s flags heap' D first (k + 1)
+      pub function-zeros : (heap' : Heap) (b : Result ⊤ OverLimit) (v : ⊤) → b ≡ Ok v → HeldTo s heap' (zeros_call k width ws u.now) b → Uncalling s flags heap' D first (k + 1)
       function-zeros heap' b v e x =
           let (y, z) = subst (HeldTo s heap' (zeros_call k width ws u.now)) e x in
           record { now = call_on_zeros k here_function u.now; same = step-zeros; held = subst (λ (t : List Item). Held heap' t) call-is y; stacked = z }
 
-      pub function-over : (heap' : Heap) (b : Option ⊤) → b ≡ None → HeldTo s heap' (zeros_call k width ws u.now) b → within (unflagged flags 0 D.functions first) ≡ false
-      function-over heap' b e x =
+      pub function-over : (heap' : Heap) (b : Result ⊤ OverLimit) (v : OverLimit) → b ≡ Err v → HeldTo s heap' (zeros_call k width ws u.now) b → within (unflagged flags 0 D.functions first) ≡ false
+      function-over heap' b v e x =
           let y : within (zeros_call k width ws u.now) ≡ false = subst (HeldTo s heap' (zeros_call k width ws u.now)) e x in
           subst (λ (t : List Item). within t ≡ false) (sym step-zeros)
           (over-grows (call_on_zeros k here_function u.now) (unflagged flags (k + 1) (drop (k + 1) D.functions) (call_on_zeros k here_function u.now))

@@ -1,5 +1,5 @@
 -- The variables of a script as its first nodes.
-use Rattle.std.specs.Prelude.{ℕ, zero, suc, ◌+◌, ◌≤◌, ◌<◌, ◌≡◌, refl, List, [], ◌∷◌, ◌++◌, map, false, length, take, drop, get_or, Option, Some, None, ⊤}
+use Rattle.std.specs.Prelude.{ℕ, zero, suc, ◌+◌, ◌≤◌, ◌<◌, ◌≡◌, refl, List, [], ◌∷◌, ◌++◌, map, false, length, take, drop, get_or, Result, Ok, Err, ⊤}
 use Rattle.std.proofs.Common.{ap, sym, ◌∙◌, subst, arith, add-one, take-append-drop, take-suc}
 use Rattle.lists.specs.Places.{Grows}
 use Rattle.reading.specs.Trees.{Variable, Declarations}
@@ -7,14 +7,15 @@ use Rattle.readback.specs.Rebuild.{Item, a_variable, variable_items}
 use Rattle.rebuilt.specs.Built.{no-variable}
 use Rattle.heap_laws.specs.Heap.{within, Held, Stacked}
 use Rattle.heap_laws.specs.declared.Heap.{Heap}
+use Rattle.heap_laws.specs.declared.OverLimit.{OverLimit}
 use Rattle.heap_laws.specs.Within.{over-grows}
 use Rattle.heap_laws.specs.Stacks.{stacked-same}
 use Rattle.script_heap.specs.Told.{Told}
 
 -- the variables are nodes, or they are too many
-abbrev pub VariablesTo : List ℕ → Heap → Declarations → Option ⊤ → Type 0
-VariablesTo script heap D (Some _) = Held heap (variable_items D.variables) × Stacked script heap []
-VariablesTo script heap D None = within (variable_items D.variables) ≡ false
+abbrev pub VariablesTo : List ℕ → Heap → Declarations → Result ⊤ OverLimit → Type 0
+VariablesTo script heap D (Ok _) = Held heap (variable_items D.variables) × Stacked script heap []
+VariablesTo script heap D (Err _) = within (variable_items D.variables) ≡ false
 
 -- the first k of them
 pub record Declared (script : List ℕ) (heap : Heap) (vs : List Variable) (k : ℕ) : Type 0 where
@@ -37,17 +38,17 @@ first-ones vs n =
     (variable_items (drop n vs), ap (map f) (sym (take-append-drop n vs)) ∙ map-append f (take n vs) (drop n vs))
 
 module _ {script : List ℕ} {heap : Heap} {vs : List Variable} {k : ℕ} (d : Declared script heap vs k) (w : ℕ) (l : k < length vs) (e : (get_or vs k no-variable).width ≡ w) where
-  pub variable-next : (heap' : Heap) (r : Option ℕ) (m : ℕ) → r ≡ Some m
+  pub variable-next : (heap' : Heap) (r : Result ℕ OverLimit) (m : ℕ) → r ≡ Ok m
       → Told heap heap' heap.top (variable_items (take k vs) ++ (a_variable w ∷ [])) (length (variable_items (take k vs))) r → Declared script heap' vs (k + 1)
   variable-next heap' r m q h =
-      let (_, a, b, c) = subst (λ (x : Option ℕ). Told heap heap' heap.top (variable_items (take k vs) ++ (a_variable w ∷ [])) (length (variable_items (take k vs))) x) q h in
+      let (_, a, b, c) = subst (λ (x : Result ℕ OverLimit). Told heap heap' heap.top (variable_items (take k vs) ++ (a_variable w ∷ [])) (length (variable_items (take k vs))) x) q h in
       record { held = subst (λ (t : List Item). Held heap' t) (one-variable vs k w l e) a; stacked = stacked-same script d.stacked b c }
 
-  pub variable-over : (heap' : Heap) (r : Option ℕ) → r ≡ None
+  pub variable-over : (heap' : Heap) (r : Result ℕ OverLimit) (u : OverLimit) → r ≡ Err u
       → Told heap heap' heap.top (variable_items (take k vs) ++ (a_variable w ∷ [])) (length (variable_items (take k vs))) r → within (variable_items vs) ≡ false
-  variable-over heap' r q h =
+  variable-over heap' r u q h =
       let a : within (variable_items (take k vs) ++ (a_variable w ∷ [])) ≡ false =
-      subst (λ (x : Option ℕ). Told heap heap' heap.top (variable_items (take k vs) ++ (a_variable w ∷ [])) (length (variable_items (take k vs))) x) q h in
+      subst (λ (x : Result ℕ OverLimit). Told heap heap' heap.top (variable_items (take k vs) ++ (a_variable w ∷ [])) (length (variable_items (take k vs))) x) q h in
       over-grows (variable_items (take (k + 1) vs)) (variable_items vs) (first-ones vs (k + 1)) (subst (λ (t : List Item). within t ≡ false) (one-variable vs k w l e) a)
 
 -- before the first

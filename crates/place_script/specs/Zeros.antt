@@ -1,6 +1,6 @@
 -- A call on zeros, its arguments one after the other.
 use Prim.Native.Nat.{ℕ, ◌+◌, ◌≤◌, ◌<◌}
-use Rattle.std.specs.Prelude.{◌≡◌, refl, false, Option, Some, None, ⊤}
+use Rattle.std.specs.Prelude.{◌≡◌, refl, false, Option, Some, None, Result, Ok, Err, ⊤}
 use Rattle.std.proofs.Math.Path.{ap, sym, subst}
 use Rattle.std.proofs.Common.{◌∙◌, arith}
 use mathlib.Core.List.{List, [], ◌∷◌, ◌++◌, map, append-nil, append_assoc}
@@ -11,6 +11,7 @@ use Rattle.readback.specs.Rebuild.{Item, a_constant, a_call, with_constant, with
 use Rattle.rebuilt.specs.Constants.{Has, HasAll, with-constants-grows, with-constants-has, node-of-constant}
 use Rattle.heap_laws.specs.Heap.{within, stack_size, Held, Stacked}
 use Rattle.heap_laws.specs.declared.Heap.{Heap}
+use Rattle.heap_laws.specs.declared.OverLimit.{OverLimit}
 use Rattle.heap_laws.specs.Within.{joined_snoc, within-parts, over-grows}
 use Rattle.heap_laws.specs.Settling.{with-constants-append, node-grows, low_zeros}
 use Rattle.heap_laws.specs.Stacks.{stacked-same, stacked-cut}
@@ -23,14 +24,14 @@ unfoldable pub zeros_call : ℕ → ℕ → List ℕ → List Item → List Item
 zeros_call g width ws s = (ended (map zeros ws) (λ node. a_call g width (pendings node (map zeros ws))) s).items
 
 -- these nodes are held, or they are too many
-abbrev pub HeldTo : List ℕ → Heap → List Item → Option ⊤ → Type 0
-HeldTo s heap t (Some _) = Held heap t × Stacked s heap []
-HeldTo s heap t None = within t ≡ false
+abbrev pub HeldTo : List ℕ → Heap → List Item → Result ⊤ OverLimit → Type 0
+HeldTo s heap t (Ok _) = Held heap t × Stacked s heap []
+HeldTo s heap t (Err _) = within t ≡ false
 
 -- whether the node was added
-abbrev pub added : Option ℕ → Option ⊤
-added None = None
-added (Some m) = Some tt
+abbrev pub added : Result ℕ OverLimit → Result ⊤ OverLimit
+added (Err u) = Err u
+added (Ok m) = Ok tt
 
 abbrev Zeros : List ℕ → List (List ℕ)
 Zeros ws = map zeros ws
@@ -115,19 +116,19 @@ module _ {s : List ℕ} {heap : Heap} {ws : List ℕ} {first : List Item} {a : �
     pub argument-on : (w e : ℕ) → r ≡ Some (record { value = w; end = e }) → (a < e) × (e ≤ length s)
     argument-on w e q = let (_, _, x, y, _) = argument w e q in (x, y)
 
-    module _ (w e : ℕ) (q : r ≡ Some (record { value = w; end = e })) (heap₁ : Heap) (x : Option ℕ) (h : ConstantTold heap heap₁ (low_bits w 0) now x) where
+    module _ (w e : ℕ) (q : r ≡ Some (record { value = w; end = e })) (heap₁ : Heap) (x : Result ℕ OverLimit) (h : ConstantTold heap heap₁ (low_bits w 0) now x) where
       zero-told : Told heap heap₁ heap.top (with_constant (zeros w) now) (node_of (with_constant (zeros w) now) (pending (zeros w))) x
       zero-told = subst (λ (bs : List ℕ). ConstantTold heap heap₁ bs now x) (low_zeros w) h
 
-      pub zero-over : (g width : ℕ) → x ≡ None → within (zeros_call g width ws first) ≡ false
-      zero-over g width f =
+      pub zero-over : (g width : ℕ) (u : OverLimit) → x ≡ Err u → within (zeros_call g width ws first) ≡ false
+      zero-over g width u f =
           let (l, k, _, _, _) = argument w e q in
-          let b : within (with_constant (zeros w) now) ≡ false = subst (λ (y : Option ℕ). Told heap heap₁ heap.top (with_constant (zeros w) now) (node_of (with_constant (zeros w) now) (pending (zeros w))) y) f zero-told in
+          let b : within (with_constant (zeros w) now) ≡ false = subst (λ (y : Result ℕ OverLimit). Told heap heap₁ heap.top (with_constant (zeros w) now) (node_of (with_constant (zeros w) now) (pending (zeros w))) y) f zero-told in
           over-grows (with_constants (Zeros (z.done ++ (w ∷ []))) first) (zeros_call g width ws first) (whole-grows g width w l k) (subst (λ (t : List Item). within t ≡ false) (one_more w) b)
 
-      module _ (m : ℕ) (f : x ≡ Some m) where
+      module _ (m : ℕ) (f : x ≡ Ok m) where
         abbrev told_at : (m ≡ node_of (with_constant (zeros w) now) (pending (zeros w))) × Held heap₁ (with_constant (zeros w) now) × (heap₁.top ≡ heap.top) × (heap₁.stack ≡ heap.stack)
-        told_at = subst (λ (y : Option ℕ). Told heap heap₁ heap.top (with_constant (zeros w) now) (node_of (with_constant (zeros w) now) (pending (zeros w))) y) f zero-told
+        told_at = subst (λ (y : Result ℕ OverLimit). Told heap heap₁ heap.top (with_constant (zeros w) now) (node_of (with_constant (zeros w) now) (pending (zeros w))) y) f zero-told
 
         now₁ : List Item
         now₁ = with_constants (Zeros (z.done ++ (w ∷ []))) first
@@ -171,8 +172,8 @@ module _ {s : List ℕ} {heap : Heap} {ws : List ℕ} {first : List Item} {a : �
             ∙ map-here (pendings (node_of now₁) (Zeros z.done)) (node_of now₁ (pending (zeros w)) ∷ []) ∙ ap (λ (n : ℕ). map here (pendings (node_of now₁) (Zeros z.done)) ++ (here n ∷ [])) (sym m-is))
 
         module _ (heap₂ : Heap) (keeps : (t : List Item) → Held heap₁ t → Held heap₂ t)
-            (b : Option ⊤) (pushes : (t : List Item) (script : List ℕ) (refs : List Ref) → Held heap₁ t → Stacked script heap₁ refs → Pushed script heap₂ refs (here m) b) where
-          pub zero-next : (u : ⊤) → b ≡ Some u → Zeroing s heap₂ ws first e
+            (b : Result ⊤ OverLimit) (pushes : (t : List Item) (script : List ℕ) (refs : List Ref) → Held heap₁ t → Stacked script heap₁ refs → Pushed script heap₂ refs (here m) b) where
+          pub zero-next : (u : ⊤) → b ≡ Ok u → Zeroing s heap₂ ws first e
           unfolding now₁
           zero-next u y =
               let (l, k, _, _, n) = argument w e q in
@@ -182,17 +183,17 @@ module _ {s : List ℕ} {heap : Heap} {ws : List ℕ} {first : List Item} {a : �
                 split = split-next w l k;
                 held = keeps now₁ held₁;
                 stacked = subst (λ (rs : List Ref). Stacked s heap₂ rs) refs-next
-                    (subst (λ (c : Option ⊤). Pushed s heap₂ (map here (pendings (node_of now₁) (Zeros z.done))) (here m) c) y (pushes now₁ s (map here (pendings (node_of now₁) (Zeros z.done))) held₁ stacked₁));
+                    (subst (λ (c : Result ⊤ OverLimit). Pushed s heap₂ (map here (pendings (node_of now₁) (Zeros z.done))) (here m) c) y (pushes now₁ s (map here (pendings (node_of now₁) (Zeros z.done))) held₁ stacked₁));
                 sorts = n;
               }
 
           -- more arguments than side entries
-          pub zero-full : (g width : ℕ) → b ≡ None → within (zeros_call g width ws first) ≡ false
+          pub zero-full : (g width : ℕ) (u : OverLimit) → b ≡ Err u → within (zeros_call g width ws first) ≡ false
           unfolding zeros_call ended side_in
-          zero-full g width y =
+          zero-full g width u y =
               let (l, k, _, _, _) = argument w e q in
               let c : length (map here (pendings (node_of now₁) (Zeros z.done))) ≡ stack_size =
-              subst (λ (c : Option ⊤). Pushed s heap₂ (map here (pendings (node_of now₁) (Zeros z.done))) (here m) c) y (pushes now₁ s (map here (pendings (node_of now₁) (Zeros z.done))) held₁ stacked₁) in
+              subst (λ (c : Result ⊤ OverLimit). Pushed s heap₂ (map here (pendings (node_of now₁) (Zeros z.done))) (here m) c) y (pushes now₁ s (map here (pendings (node_of now₁) (Zeros z.done))) held₁ stacked₁) in
               let d : length z.done ≡ stack_size =
               sym (length-map (pendings (node_of now₁) (Zeros z.done)) here ∙ length-map (Zeros z.done) (λ bs. node_of now₁ (pending bs)) ∙ length-map z.done zeros) ∙ c in
               let f : length ws ≡ length z.done + length z.left = ap length z.split ∙ length-append z.done z.left in
@@ -215,10 +216,10 @@ module _ {s : List ℕ} {heap : Heap} {ws : List ℕ} {first : List Item} {a : �
       unfolding zero-nodes
       zero-stack = z.stacked
 
-      pub zeros-called : (g width : ℕ) (heap' : Heap) (x : Option ℕ) → Told heap heap' 0 (now ++ (a_call g width zero-nodes ∷ [])) (length now) x → HeldTo s heap' (zeros_call g width ws first) (added x)
+      pub zeros-called : (g width : ℕ) (heap' : Heap) (x : Result ℕ OverLimit) → Told heap heap' 0 (now ++ (a_call g width zero-nodes ∷ [])) (length now) x → HeldTo s heap' (zeros_call g width ws first) (added x)
       unfolding zero-nodes zeros_call ended
       zeros-called g width heap' x h = subst (λ (l : List ℕ). HeldTo s heap' (zeros_call g width l first) (added x)) (sym all_done) (by_answer x h)
         where
-          by_answer : (x : Option ℕ) → Told heap heap' 0 (now ++ (a_call g width zero-nodes ∷ [])) (length now) x → HeldTo s heap' (zeros_call g width z.done first) (added x)
-          by_answer None h = h
-          by_answer (Some m) (_, c, d, e) = (c, stacked-cut s z.stacked 0 d e (omega arith))
+          by_answer : (x : Result ℕ OverLimit) → Told heap heap' 0 (now ++ (a_call g width zero-nodes ∷ [])) (length now) x → HeldTo s heap' (zeros_call g width z.done first) (added x)
+          by_answer (Err u) h = h
+          by_answer (Ok m) (_, c, d, e) = (c, stacked-cut s z.stacked 0 d e (omega arith))

@@ -2,17 +2,19 @@
 // says why there is none.
 #![tactic(auto)]
 
+use problem_layout::{LONGEST_PROBLEM, LONGEST_SCRIPT, print_problem};
 use std::io;
 use std::io::{Read, Write};
 
-// One byte more than the longest problem within the limits, which has 18 counts and 327,680 bytes of elements. These bytes decide:
-// what follows them is left over, or stands behind the first fault (`layout-front` in problem_layout's specs/LayoutLaws.antt).
-const INPUT: usize = 327825;
+// One byte more than the longest problem within the limits. These bytes decide: what follows them is left over, or stands behind the first fault
+// (`layout-front` in layout_shape's specs/LayoutLaws.antt).
+const INPUT: usize = LONGEST_PROBLEM + 1;
 
-// The room for the script; a longer one is refused with 10.
-const ROOM: usize = 2097152;
+// The room for the script; a longer one is refused with `Room`.
+const ROOM: usize = LONGEST_SCRIPT;
 
 // Over buffers of any length: the check does not have to count the elements of the two arrays.
+// Kept: `read_problem` has the same few lines; one function for both would take the command as a closure, and a contract for it.
 fn run<R: Read, W: Write>(
     reader: &mut R,
     writer: &mut W,
@@ -20,7 +22,7 @@ fn run<R: Read, W: Write>(
     out: &mut [u8],
 ) -> io::Result<()> {
     let n = streams::read_full(reader, input)?;
-    let told = problem_layout::print_problem(&input[..n], out);
+    let told = print_problem(&input[..n], out);
     let m = told.length;
     writer.write_all(&out[..m])
 }

@@ -9,12 +9,26 @@ ghost use Rattle.problem_layout.specs.Telling.{Answers, InInput, Known, Shown, T
 ghost use Rattle.problem_layout.specs.declared.Unprinted.TheVariants.{Refused, Input};
 
 use echo_bytes::Place;
+use input_parts::INPUTS;
 use layout_shape::{ShapeFault, limit, name, read_shape};
-use refusals::EchoError;
+use refusals::{EchoError, MAX_ARENA, MAX_BITS, MAX_ENTRIES, MAX_NODE_BYTES, MAX_ROOTS, MAX_SIDE};
+
+// ---------------------------------------------------------------- how long they are
+
+// The longest problem within the limits, in bytes: a count for each input, and the elements of five inputs of bytes and thirteen of numbers.
+pub const LONGEST_PROBLEM: usize = 8 * INPUTS
+    + MAX_NODE_BYTES
+    + MAX_BITS
+    + 3 * MAX_ARENA
+    + 8 * (MAX_SIDE + MAX_ROOTS + 11 * MAX_ENTRIES);
+
+// The longest script that `print_problem` writes and `read_problem` reads.
+pub const LONGEST_SCRIPT: usize = 2097152;
 
 // ---------------------------------------------------------------- what is said
 
 // What is told on a line where nothing else is written: what its line is, and what has to be known of it for that.
+// Kept: bytes put at a place of a lent buffer, which is cut at its end; `Display` would write through a formatter, of whose buffer no clause here could speak.
 pub trait Line: Copy {
     ghost text: { Self → List ℕ };
 
@@ -39,6 +53,7 @@ pub fn tell<E: Line>(said: Result<usize, E>, out: &mut [u8]) -> Told<E>
     ensures said { result.said ≡ said }
     ensures shown { Shown E.text said out.old result.length out.new }
 {
+    // Kept: made again in each arm; one `Told` behind the match was tried: the check of borrows joins no branches of which one alone moves out of `said`.
     match said {
         Ok(n) => Told {
             said: Ok(n),
@@ -55,7 +70,7 @@ pub fn tell<E: Line>(said: Result<usize, E>, out: &mut [u8]) -> Told<E>
 }
 
 // Why there is no script: the printer refuses the problem, or the bytes are none.
-#[derive(Clone, Copy)]
+#[derive(Clone, Copy, Debug, PartialEq, Eq)]
 pub enum Unprinted {
     Refused(EchoError),
     Input(ShapeFault),
@@ -89,6 +104,7 @@ fn answer(input: &[u8], out: &mut [u8]) -> Result<usize, Unprinted>
 // ---------------------------------------------------------------- lines
 
 // The line of a refusal.
+// Kept: whole texts, as the definitions have them, with the numbers and limits in them; a text in pieces would be put by three calls in each arm.
 #[tactic(auto, unfolding(lists::specs::Bytes::bytes, crate::specs::Lines::refused_line))]
 fn refused_text(e: EchoError) -> &'static [u8]
     ensures { result.now ≡ refused_line e }
@@ -123,7 +139,7 @@ fn refused_text(e: EchoError) -> &'static [u8]
 
 // An input by its number, from 1, and its name.
 fn input_text(k: usize, p: Place, out: &mut [u8]) -> Place
-    requires { k < 18 }
+    requires { k < INPUTS }
     ensures { page result out.new ≡ written (page p out.old) (input_text k) }
 {
     p.word(out, b"input ")
@@ -133,7 +149,7 @@ fn input_text(k: usize, p: Place, out: &mut [u8]) -> Place
 }
 
 fn early_line(k: usize, p: Place, out: &mut [u8]) -> Place
-    requires { k < 18 }
+    requires { k < INPUTS }
     ensures { page result out.new ≡ written (page p out.old) (early_line k) }
 {
     let opened = p.word(out, b"input: ends early in ");
@@ -141,7 +157,7 @@ fn early_line(k: usize, p: Place, out: &mut [u8]) -> Place
 }
 
 fn too_large_line(k: usize, p: Place, out: &mut [u8]) -> Place
-    requires { k < 18 }
+    requires { k < INPUTS }
     ensures { page result out.new ≡ written (page p out.old) (too_large_line k) }
 {
     let opened = p.word(out, b"input: too large: ");
@@ -177,7 +193,7 @@ impl Line for Unprinted {
 }
 
 // THE COMMAND. Any bytes may come in, and any buffer: the script or the line goes to its front. A script that does not fit is refused
-// with 10, and a line that does not fit is cut. Ruled out beside its edits: a number's bytes in another order; a count of numbers taken
+// with `Room`, and a line that does not fit is cut. Ruled out beside its edits: a number's bytes in another order; a count of numbers taken
 // for one of bytes.
 pub fn print_problem(input: &[u8], out: &mut [u8]) -> Told<Unprinted>
     ensures { Tells input.now out.old result out.new }

@@ -11,7 +11,7 @@ use script_reader::{ReadError, Sizes};
 // Number 0: the script is read, and so many elements of each output are used, the columns of a table told once. Any other number: a refusal,
 // and all others are 0.
 #[repr(C)]
-#[derive(Clone, Copy, Debug, PartialEq, Eq)]
+#[derive(Clone, Copy, Debug, Default, PartialEq, Eq)]
 pub struct ReadAnswer {
     pub number: u64,
     pub nodes: u64,
@@ -26,7 +26,7 @@ pub struct ReadAnswer {
     pub functions: u64,
 }
 
-// The struct says what `read_script` answered, whatever the outputs became. Ruled out: 9 and 13 the other way about; a refusal with sizes; the bits told as the side entries.
+// The struct says what `read_script` answered, whatever the outputs became. Ruled out: the numbers of `Limit` and `NoScript` the other way about; a refusal with sizes; the bits told as the side entries.
 impl From<Result<Sizes, ReadError>> for ReadAnswer {
     ghost from_gives = { λ r a. (outputs : Problem) → read_numbers a outputs ≡ read_back r outputs };
 
@@ -47,16 +47,7 @@ impl From<Result<Sizes, ReadError>> for ReadAnswer {
             },
             Err(e) => ReadAnswer {
                 number: u64::from(e),
-                nodes: 0,
-                bits: 0,
-                side: 0,
-                roots: 0,
-                names: 0,
-                variables: 0,
-                anames: 0,
-                arrays: 0,
-                fnames: 0,
-                functions: 0,
+                ..ReadAnswer::default()
             },
         }
     }

@@ -2,16 +2,19 @@
 // there is none.
 #![tactic(auto)]
 
+use layout_writer::read_problem;
+use problem_layout::{LONGEST_PROBLEM, LONGEST_SCRIPT};
 use std::io;
 use std::io::{Read, Write};
 
 // One byte more than the longest script that is read, so that a longer one is told as such.
-const INPUT: usize = 2097153;
+const INPUT: usize = LONGEST_SCRIPT + 1;
 
-// The longest problem within the limits: 18 counts, and 327,680 bytes of elements.
-const ROOM: usize = 327824;
+// The room for the problem: none within the limits is longer.
+const ROOM: usize = LONGEST_PROBLEM;
 
 // Over buffers of any length: the check does not have to count the elements of the two arrays.
+// Kept: `print_problem` has the same few lines; one function for both would take the command as a closure, and a contract for it.
 fn run<R: Read, W: Write>(
     reader: &mut R,
     writer: &mut W,
@@ -19,7 +22,7 @@ fn run<R: Read, W: Write>(
     out: &mut [u8],
 ) -> io::Result<()> {
     let n = streams::read_full(reader, input)?;
-    let told = layout_writer::read_problem(&input[..n], out);
+    let told = read_problem(&input[..n], out);
     let m = told.length;
     writer.write_all(&out[..m])
 }

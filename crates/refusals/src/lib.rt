@@ -52,7 +52,7 @@ impl From<EchoError> for u64 {
 #[derive(Clone, Copy, Debug, PartialEq, Eq)]
 pub struct Unlisted(pub u64);
 
-// The refusal with a number. Ruled out: the one with the number before it; one refusal for two numbers; a listed number taken for none.
+// The refusal with a number. Kept, though no code here calls it: who is told a number decodes it by this, and `Decodes` is its law. Ruled out: the one with the number before it; one refusal for two numbers; a listed number taken for none.
 impl TryFrom<u64> for EchoError {
     type Error = Unlisted;
 
@@ -100,3 +100,6 @@ pub const MAX_ENTRIES: usize = 512;
 pub const MAX_ARENA: usize = 16384;
 
 pub const MAX_ARRAY_WIDTH: u64 = 65536;
+
+// The widest bit-vector that is rotated.
+pub const MAX_ROTATED: u64 = 65536;

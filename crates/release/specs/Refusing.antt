@@ -12,10 +12,12 @@ use Rattle.releases.specs.Release.{read_refusal}
 use Rattle.header_laws.specs.Body.{reading_of}
 use Rattle.heap_laws.specs.declared.Heap.{Heap}
 use Rattle.script_names.specs.declared.Table.{Table}
+use Rattle.script_place.specs.declared.Unread.{Unread}
 use Rattle.script_place.specs.declared.Unread.TheVariants.{NoScript, Limit}
 use Rattle.script_rebuild.specs.Limits.{passed}
 use Rattle.script_rebuild.specs.declared.Rebuilt.{Rebuilt}
 use Rattle.script_rebuild.specs.Rebuilt.{RebuiltTo}
+use Rattle.release.specs.Told.{reason_number, reason_of}
 
 module _ (s : List ℕ) (t : Table) (heap : Heap) (roots : List ℕ) where
   pub refused_none : RebuiltTo s t heap roots (Err NoScript) → 13 ≡ read_refusal (reading_in s)
@@ -28,6 +30,11 @@ module _ (s : List ℕ) (t : Table) (heap : Heap) (roots : List ℕ) where
 
   pub refused-whole : {x : Rebuilt} → RebuiltTo s t heap roots (Ok x) → 0 ≡ read_refusal (reading_in s)
   unfolding read_refusal
-  refused-whole w =
+  refused-whole (w, _) =
       let r : Reading = reading_of w.declarations w.trees in
       ap (λ (b : Bool). unless b 9) (sym (T→true (limits_passed (rebuild r)) (passed r w.passes))) ∙ ap read_refusal (sym w.reading)
+
+  -- a script that is not read, for the same reason
+  pub refused-as : (u : Unread) → RebuiltTo s t heap roots (Err u) → reason_number (reason_of u) ≡ read_refusal (reading_in s)
+  refused-as NoScript = refused_none
+  refused-as Limit = refused-limit

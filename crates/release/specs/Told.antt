@@ -2,6 +2,8 @@
 use Rattle.std.specs.Prelude.{⊤, Result, Ok, Err, ℕ, ◌<◌}
 use Rattle.std.proofs.Common.{arith}
 use Rattle.releases.specs.Release.{ReleaseAnswer, told}
+use Rattle.script_place.specs.declared.Unread.{Unread}
+use Rattle.script_place.specs.declared.Unread.TheVariants.{NoScript as NoneRebuilt, Limit as Over}
 use Rattle.release.specs.declared.Reason.{Reason}
 use Rattle.release.specs.declared.Reason.TheVariants.{Limit, NoScript, TwoMeanings}
 use Rattle.release.specs.declared.ReleaseError.{ReleaseError}
@@ -16,6 +18,11 @@ pub reason-number : (r : Reason) → 0 < reason_number r
 reason-number Limit = omega arith
 reason-number NoScript = omega arith
 reason-number TwoMeanings = omega arith
+
+-- the refusal of a script that is not read
+abbrev pub reason_of : Unread → Reason
+reason_of NoneRebuilt = NoScript
+reason_of Over = Limit
 
 -- what reading a script is refused with, or 0
 abbrev pub refused : Result ⊤ Reason → ℕ

@@ -8,16 +8,19 @@ ghost use Rattle.std.specs.Prelude.{◌≡◌, ◌≤◌, length};
 ghost use Rattle.script_lines.specs.Lines.{scripts_of};
 ghost use Rattle.readback.specs.ScriptReader.{reading_in};
 ghost use Rattle.releases.specs.Release.{read_refusal, «release_answer»};
-ghost use Rattle.release.specs.Told.{reason_number, refused, told_by};
+ghost use Rattle.release.specs.Told.{reason_number, reason_of, refused, told_by};
 ghost use Rattle.release.specs.Order.{ReadTo};
 
-use release_meanings::{earliest_clash, few_scripts};
+use heap_laws::Heap;
+use refusals::MAX_ROOTS;
+use release_meanings::{MOST_SCRIPTS, earliest_clash, few_scripts};
 use script_lines::next_script;
 use script_names::Table;
 use script_place::Unread;
-use script_rebuild::{no_nodes, rebuild_script};
+use script_rebuild::rebuild_script;
 
 // Why a release is refused, by the refusal's number.
+// Kept: a refusal of `ReadError` of script_rebuild has the same two numbers, but also `Room`, which no release has.
 #[derive(Clone, Copy, Debug, PartialEq, Eq)]
 pub enum Reason {
     // There are more than 64 scripts, or a script is read as a problem over a limit.
@@ -36,6 +39,18 @@ impl From<Reason> for u64 {
     }
 }
 
+// Ruled out: a script over a limit told as none; every script told as over a limit.
+impl From<Unread> for Reason {
+    ghost from_gives = { λ u r. r ≡ reason_of u };
+
+    fn from(u: Unread) -> Reason {
+        match u {
+            Unread::NoScript => Reason::NoScript,
+            Unread::Limit => Reason::Limit,
+        }
+    }
+}
+
 // A refusal, and the script that it is told of, from 0.
 #[derive(Clone, Copy, Debug, PartialEq, Eq)]
 pub struct ReleaseError {
@@ -48,20 +63,17 @@ fn read(s: &[u8]) -> Result<(), Reason>
     ensures { refused result ≡ read_refusal (reading_in s.now) }
 {
     let mut t = Table::new();
-    let mut heap = no_nodes();
-    let mut roots = [0u64; 256];
-    match rebuild_script(s, &mut t, &mut heap, &mut roots) {
-        Err(Unread::NoScript) => Err(Reason::NoScript),
-        Err(Unread::Limit) => Err(Reason::Limit),
-        Ok(_) => Ok(()),
-    }
+    let mut heap = Heap::new();
+    let mut roots = [0; MAX_ROOTS];
+    rebuild_script(s, &mut t, &mut heap, &mut roots)?;
+    Ok(())
 }
 
 // What a file is told from place `at` on, where the k scripts before it are read; what follows the last check-sat line is one more. It calls itself,
 // and has no loop: a compiler puts no large arrays into the frame of such a function, so that those of the reading and of the comparison are never on
 // the stack together.
 fn check_from(file: &[u8], at: usize, k: u64) -> Result<(), ReleaseError>
-    requires { ReadTo file.now at k × (length (scripts_of file.now).scripts ≤ 64) }
+    requires { ReadTo file.now at k × (length (scripts_of file.now).scripts ≤ MOST_SCRIPTS) }
     ensures { told_by result ≡ «release_answer» file.now }
 {
     let Some(n) = next_script(&file[at..]) else {
@@ -79,15 +91,16 @@ fn check_from(file: &[u8], at: usize, k: u64) -> Result<(), ReleaseError>
             }),
         };
     };
+    // Kept: a `match`; with `map_err` and `?` it was tried, and that the refusal is of this script stayed open.
     match read(&file[at..at + n]) {
         Err(reason) => Err(ReleaseError { reason, script: k }),
         Ok(()) => check_from(file, at + n, k + 1),
     }
 }
 
-// What a release is told: 9 of script 64 where it has more than 64 check-sat lines; the first 13 or 9 of reading and its script; 17 and
-// the earliest script that disagrees with one before it; or that each name has one meaning. It asks nothing of the file.
-// Ruled out: 17 told where a later script cannot be read; the script told with which the earliest disagrees; a script held beside the
+// What a release is told: `Limit` of script 64 where it has more than 64 check-sat lines; the first refusal of reading and its script;
+// `TwoMeanings` and the earliest script that disagrees with one before it; or that each name has one meaning. It asks nothing of the file.
+// Ruled out: `TwoMeanings` told where a later script cannot be read; the script told with which the earliest disagrees; a script held beside the
 // one before it only; bytes after the last check-sat line passed over.
 pub fn check_release(file: &[u8]) -> Result<(), ReleaseError>
     ensures { told_by result ≡ «release_answer» file.now }
@@ -95,7 +108,7 @@ pub fn check_release(file: &[u8]) -> Result<(), ReleaseError>
     if !few_scripts(file) {
         return Err(ReleaseError {
             reason: Reason::Limit,
-            script: 64,
+            script: MOST_SCRIPTS,
         });
     }
     check_from(file, 0, 0)

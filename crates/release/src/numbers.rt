@@ -1,6 +1,5 @@
 // What is told of a release in two numbers, as C takes it.
 ghost use Rattle.std.specs.Prelude.{◌≡◌};
-ghost use Rattle.releases.specs.Release.{«release_answer»};
 ghost use Rattle.release.specs.Told.{told_by};
 ghost use Rattle.release.specs.Numbers.{numbers_of};
 
@@ -8,7 +7,7 @@ use crate::ReleaseError;
 
 // Number 0: each name has one meaning, and script is 0. Any other number: a refusal, told of this script, from 0.
 #[repr(C)]
-#[derive(Clone, Copy)]
+#[derive(Clone, Copy, Debug, PartialEq, Eq)]
 pub struct ReleaseAnswer {
     pub number: u64,
     pub script: u64,
@@ -30,11 +29,4 @@ impl From<Result<(), ReleaseError>> for ReleaseAnswer {
             },
         }
     }
-}
-
-// Ruled out: the script of a refusal left out; a refusal told as an acceptance.
-pub fn release_numbers(file: &[u8]) -> ReleaseAnswer
-    ensures { numbers_of result ≡ «release_answer» file.now }
-{
-    ReleaseAnswer::from(crate::check_release(file))
 }

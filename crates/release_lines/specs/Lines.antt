@@ -7,7 +7,7 @@ use Rattle.reader_laws.specs.ScriptsRead.{AllOk}
 use Rattle.script_tokens.specs.Reached.{between}
 use Rattle.script_names.specs.Entries.{Named}
 use Rattle.releases.specs.Release.{Meaning, a_variable, an_array, a_function, Declared}
-use Rattle.release_lines.specs.declared.Line.{Line}
+use Rattle.script_decls.specs.declared.Line.{Line}
 
 -- what stands before the name's first bar
 unfoldable pub word_text : Meaning → List ℕ

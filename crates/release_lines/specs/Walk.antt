@@ -17,7 +17,7 @@ use Rattle.reader_laws.specs.TermsStrict.{impossible, took-both}
 use Rattle.script_tokens.specs.Reached.{between, Stretch, NameTo, ends_name}
 use Rattle.script_names.specs.Laws.{between-length}
 use Rattle.releases.specs.Release.{Meaning, a_variable, an_array, a_function, Declared}
-use Rattle.release_lines.specs.declared.Line.{Line}
+use Rattle.script_decls.specs.declared.Line.{Line}
 use Rattle.release_lines.specs.Lines.{word_text, meaning_text, line_text, ends_line, LineIs, DeclaredAt, NextLine}
 use Rattle.release_lines.specs.Texts.{meaning-ends, no-feed}
 

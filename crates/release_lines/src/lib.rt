@@ -7,15 +7,8 @@ ghost use Rattle.script_tokens.specs.Reached.{Stretch};
 ghost use Rattle.releases.specs.Release.{Declared};
 ghost use Rattle.release_lines.specs.Lines.{ends_line, DeclaredAt, NextLine};
 
+use script_decls::Line;
 use script_tokens::{Ending, bar_at, byte_at, name_end, stretch_end};
-
-// The line of a declaration: where its name begins, the place after its name's last bar, the place after the line.
-#[derive(Clone, Copy, Debug, PartialEq, Eq)]
-pub struct Line {
-    pub name: usize,
-    pub name_end: usize,
-    pub end: usize,
-}
 
 // The line feed after a line.
 pub struct LineFeed;

@@ -8,18 +8,21 @@ ghost use Rattle.releases.specs.ReleaseScripts.{AllRead};
 ghost use Rattle.release_meanings.specs.Told.{MeaningsTo};
 
 use release_lines::line_feed;
-use release_names::{Clash, Names};
+use release_names::Names;
 use script_lines::next_script;
+
+// The most scripts of a release.
+pub const MOST_SCRIPTS: u64 = 64;
 
 // Are there at most 64 check-sat lines? Ruled out: 64 told as too many; a line counted that stands inside another.
 pub fn few_scripts(file: &[u8]) -> bool
-    ensures { result ≡ leb (length (scripts_of file.now).scripts) 64 }
+    ensures { result ≡ leb (length (scripts_of file.now).scripts) MOST_SCRIPTS }
 {
     let mut at = 0;
     let mut k: u64 = 0;
     // Kept: each script tells where the next one starts.
     while let Some(n) = next_script(&file[at..]) {
-        if k >= 64 {
+        if k >= MOST_SCRIPTS {
             return false;
         }
         at += n;
@@ -29,22 +32,22 @@ pub fn few_scripts(file: &[u8]) -> bool
 }
 
 // The earliest script that disagrees with one before it, if there is one: the declarations of the scripts are entered in order, each held
-// beside those before it. Ruled out: the script told with which the
-// earliest disagrees; a script held beside the one before it only; a name whose widths differ passed over.
+// beside those before it. Ruled out: the script told with which the earliest disagrees; a script held beside the one before it only; a name whose
+// widths differ passed over.
 pub fn earliest_clash(file: &[u8]) -> Option<u64>
-    requires { (length (scripts_of file.now).scripts ≤ 64) × AllRead (scripts_of file.now).scripts }
+    requires { (length (scripts_of file.now).scripts ≤ MOST_SCRIPTS) × AllRead (scripts_of file.now).scripts }
     ensures { MeaningsTo file.now result }
 {
     let mut names = Names::new();
     let mut at = 0;
     let mut k: u64 = 0;
-    // Kept: each script tells where the next one starts.
+    // Kept: each script tells where the next one starts. An iterator over starts and lengths, for this loop and the one above, would be a type with a
+    // law of its own, longer than both.
     while let Some(n) = next_script(&file[at..]) {
         let q = line_feed(file, at) + 1;
-        match names.enter_script(file, q) {
-            Err(Clash) => return Some(k),
-            Ok(()) => {}
-        }
+        let Ok(()) = names.enter_script(file, q) else {
+            return Some(k);
+        };
         at += n;
         k += 1;
     }

@@ -9,10 +9,10 @@ use Rattle.reading.specs.Trees.{Name}
 use Rattle.reader_laws.specs.TermsRead.{read_name}
 use Rattle.script_tokens.specs.Reached.{between}
 use Rattle.script_names.specs.Entries.{name_here, Named}
-use Rattle.script_names.specs.Laws.{taken, name-same}
+use Rattle.script_names.specs.Laws.{taken, name-stands}
 use Rattle.releases.specs.Release.{Declared}
 use Rattle.release_lines.specs.Lines.{meaning_text, LineAt}
-use Rattle.release_names.specs.Marks.{mark_of, chain_of, tag_of}
+use Rattle.release_names.specs.Marks.{chain_of, tag_of}
 use Rattle.std.specs.Prelude.{Some, None}
 use Rattle.release_names.specs.Table.{entry, name_in, Table, Sought}
 
@@ -200,12 +200,12 @@ module _ (s p n h : List ℕ) (xs : List Declared) (m : Name) (t : Table s p n h
   walk_end c w l k b = w.past k (omega arith) b
 
 -- the comparison with a name and its bar tells whether an entry has the name
-pub name-there : (s : List ℕ) (a f q : ℕ) (x : Declared) → Named s a f → LineAt s q x → same (between s a f) (take (f - a) (drop q s)) ≡ same (between s a (f - 1)) x.name
+pub name-there : (s : List ℕ) (a f q : ℕ) (x : Declared) → Named s a f → LineAt s q x → same (between s a f) (take (length (between s a f)) (drop q s)) ≡ same (between s a (f - 1)) x.name
 name-there s a f q x k l =
     let y : List ℕ = x.name ++ (124 ∷ (meaning_text x.meaning ++ l.rest)) in
     let r = read_name x.name l.plain (meaning_text x.meaning ++ l.rest) in
     let n : name_here y ≡ x.name = (taken y x.name _ r).name in
-    name-same s a f q y k l.text (record { rest = meaning_text x.meaning ++ l.rest; read = rw n r }) ∙ ap (same (between s a (f - 1))) n
+    name-stands s a f q y k l.text (record { rest = meaning_text x.meaning ++ l.rest; read = rw n r }) ∙ ap (same (between s a (f - 1))) n
 
 -- ---------------------------------------------------------------- as the code has it
 
@@ -220,14 +220,14 @@ module _ (s p n h : List ℕ) (a f : ℕ) (named : Named s a f) (c : ℕ) (w : W
   pub walks-place : ((xs : List Declared) × Table s p n h xs) → get_or p (c - 1) 0 ≤ length s
   walks-place (xs, t) = (t.line (c - 1) (walk_inside s p n h xs (between s a (f - 1)) t c (w xs t) above)).inside
 
-  module _ (r : Bool) (told : r ≡ (eqb (get_or n (c - 1) 0 / 131072) (tag_of (between s a (f - 1))) && same (between s a f) (take (f - a) (drop (get_or p (c - 1) 0) s)))) (xs : List Declared) (t : Table s p n h xs) where
+  module _ (r : Bool) (told : r ≡ (eqb (get_or n (c - 1) 0 / 131072) (tag_of (between s a (f - 1))) && same (between s a f) (take (length (between s a f)) (drop (get_or p (c - 1) 0) s)))) (xs : List Declared) (t : Table s p n h xs) where
     inside : c - 1 < length xs
     inside = walk_inside s p n h xs (between s a (f - 1)) t c (w xs t) above
 
     told-name : same (between s a (f - 1)) (name_in xs (c - 1)) ≡ r
     told-name = by-tag (eqb (get_or n (c - 1) 0 / 131072) (tag_of (between s a (f - 1)))) refl told
       where
-        by-tag : (b : Bool) → eqb (get_or n (c - 1) 0 / 131072) (tag_of (between s a (f - 1))) ≡ b → r ≡ (b && same (between s a f) (take (f - a) (drop (get_or p (c - 1) 0) s)))
+        by-tag : (b : Bool) → eqb (get_or n (c - 1) 0 / 131072) (tag_of (between s a (f - 1))) ≡ b → r ≡ (b && same (between s a f) (take (length (between s a f)) (drop (get_or p (c - 1) 0) s)))
             → same (between s a (f - 1)) (name_in xs (c - 1)) ≡ r
         by-tag true e q = sym (name-there s a f (get_or p (c - 1) 0) (entry xs (c - 1)) named (t.line (c - 1) inside)) ∙ sym q
         by-tag false e q = other_tag (between s a (f - 1)) (name_in xs (c - 1)) (λ g. eqb-false _ _ e (t.tag (c - 1) inside ∙ g)) ∙ sym q
@@ -253,5 +253,5 @@ tags-apart own tag b f = rw (ne_eqb own tag f) refl
 pub tags-same : (own tag : ℕ) {r b : Bool} → own ≡ tag → r ≡ b → r ≡ (eqb own tag && b)
 tags-same own tag e q = rw (eq-eqb own tag e) q
 
-pub told_at : (n : List ℕ) (k link mark : ℕ) (m : Name) {r : Bool} (b : Bool) → r ≡ (eqb (link / 131072) (mark / 4096) && b) → link ≡ get_or n k 0 → mark ≡ mark_of m → r ≡ (eqb (get_or n k 0 / 131072) (tag_of m) && b)
-told_at n k link mark m b e q w = e ∙ (λ i. eqb (q i / 131072) (w i / 4096) && b)
+pub told_at : (n : List ℕ) (k link tag : ℕ) (m : Name) {r : Bool} (b : Bool) → r ≡ (eqb (link / 131072) tag && b) → link ≡ get_or n k 0 → tag ≡ tag_of m → r ≡ (eqb (get_or n k 0 / 131072) (tag_of m) && b)
+told_at n k _ tag m b e q w = e ∙ (λ i. eqb (q i / 131072) (w i) && b)

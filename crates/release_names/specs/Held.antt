@@ -10,7 +10,7 @@ use Rattle.lists.specs.Tests.{same, same→eq, same_refl, T→true, true→T}
 use Rattle.script_tokens.specs.Reached.{between}
 use Rattle.script_names.specs.Laws.{between-length}
 use Rattle.releases.specs.Release.{Declared}
-use Rattle.release_lines.specs.declared.Line.{Line}
+use Rattle.script_decls.specs.declared.Line.{Line}
 use Rattle.release_lines.specs.Lines.{meaning_text, LineAt, LineIs, DeclaredAt, NextLine}
 use Rattle.release_lines.specs.Texts.{meaning-known}
 use Rattle.std.specs.Prelude.{⊤, Option, Some, None, Result, Ok, Err}
@@ -18,7 +18,7 @@ use Rattle.std.specs.Result.{IsErr}
 use Rattle.std.proofs.lemmas.Bool.{false≢true}
 use Rattle.release_names.specs.declared.Clash.{Clash}
 use Rattle.release_names.specs.declared.Names.{Names}
-use Rattle.release_names.specs.Marks.{mark_of, mark-small}
+use Rattle.release_names.specs.Marks.{mark_of, chain_of, tag_of}
 use Rattle.release_names.specs.Table.{entry, name_in, In, Table, Sought, Holds, Differs, Disagrees, ScriptTo}
 use Rattle.release_names.specs.Chains.{table_more}
 
@@ -75,25 +75,25 @@ module _ (s : List ℕ) (a f e : ℕ) (x : Declared) (line : LineIs s a f e x) w
   full-here = (λ i. take (full-long i) ((line.line.text ∙ full-text x line.line.rest) i)) ∙ take-append_seam (full x) line.line.rest
 
   module _ (q : ℕ) (y : Declared) (there : LineAt s q y) (name : y.name ≡ x.name) where
-    pub line_same : same (between s a e) (take (e - a) (drop q s)) ≡ true → y.meaning ≡ x.meaning
+    pub line_same : same (between s a e) (take (length (between s a e)) (drop q s)) ≡ true → y.meaning ≡ x.meaning
     unfolding full
     line_same t =
-        let u : take (e - a) (drop q s) ≡ full x = sym (same→eq (between s a e) (take (e - a) (drop q s)) (true→T t)) ∙ full-here in
-        let r : List ℕ = drop (e - a) (drop q s) in
+        let u : take (length (between s a e)) (drop q s) ≡ full x = sym (same→eq (between s a e) (take (length (between s a e)) (drop q s)) (true→T t)) ∙ full-here in
+        let r : List ℕ = drop (length (between s a e)) (drop q s) in
         let v : y.name ++ (124 ∷ (meaning_text y.meaning ++ there.rest)) ≡ x.name ++ (124 ∷ (meaning_text x.meaning ++ r)) =
-        sym there.text ∙ sym (take-append-drop (e - a) (drop q s)) ∙ ap (λ (l : List ℕ). l ++ r) u ∙ sym (full-text x r) in
+        sym there.text ∙ sym (take-append-drop (length (between s a e)) (drop q s)) ∙ ap (λ (l : List ℕ). l ++ r) u ∙ sym (full-text x r) in
         let w : x.name ++ (124 ∷ (meaning_text y.meaning ++ there.rest)) ≡ x.name ++ (124 ∷ (meaning_text x.meaning ++ r)) =
         ap (λ (l : List ℕ). l ++ (124 ∷ (meaning_text y.meaning ++ there.rest))) (sym name) ∙ v in
         let z = sym (drop-append_seam x.name (124 ∷ (meaning_text y.meaning ++ there.rest))) ∙ ap (drop (length x.name)) w
         ∙ drop-append_seam x.name (124 ∷ (meaning_text x.meaning ++ r)) in
         meaning-known y.meaning x.meaning there.rest r (ap (drop 1) z)
 
-    pub line_other : same (between s a e) (take (e - a) (drop q s)) ≡ false → y.meaning ≡ x.meaning → ⊥
+    pub line_other : same (between s a e) (take (length (between s a e)) (drop q s)) ≡ false → y.meaning ≡ x.meaning → ⊥
     line_other t m =
         let w : y ≡ x = whole y x name m in
         let v : drop q s ≡ full x ++ there.rest = there.text ∙ full-text y there.rest ∙ ap (λ (d : Declared). full d ++ there.rest) w in
-        let u : take (e - a) (drop q s) ≡ full x = (λ i. take (full-long i) (v i)) ∙ take-append_seam (full x) there.rest in
-        let b : same (between s a e) (take (e - a) (drop q s)) ≡ true = T→true _ (rw (u, full-here) (same_refl (full x))) in
+        let u : take (length (between s a e)) (drop q s) ≡ full x = (λ i. take (length (full-here i)) (v i)) ∙ take-append_seam (full x) there.rest in
+        let b : same (between s a e) (take (length (between s a e)) (drop q s)) ≡ true = T→true _ (rw (u, full-here) (same_refl (full x))) in
         subst T (sym b ∙ t) tt
 
 -- ---------------------------------------------------------------- one declaration
@@ -125,7 +125,7 @@ module _ (s p n h : List ℕ) (count a f e : ℕ) (r : Option ℕ) (sought : (xs
     pub found_inside : (a ≤ e) × (e ≤ length s) × (q ≤ length s)
     found_inside = (omega (arith, line.named.low, line.low), line.high, there.inside)
 
-    pub found-same : same (between s a e) (take (e - a) (drop q s)) ≡ true → Holds s (seen ++ (x ∷ [])) p n h count
+    pub found-same : same (between s a e) (take (length (between s a e)) (drop q s)) ≡ true → Holds s (seen ++ (x ∷ [])) p n h count
     found-same t =
         let w : y ≡ x = whole y x name (line_same s a f e x line q y there name t) in
         record {
@@ -138,19 +138,16 @@ module _ (s p n h : List ℕ) (count a f e : ℕ) (r : Option ℕ) (sought : (xs
           one = hold.one;
         }
 
-    pub found-other : same (between s a e) (take (e - a) (drop q s)) ≡ false → Differs seen x
+    pub found-other : same (between s a e) (take (length (between s a e)) (drop q s)) ≡ false → Differs seen x
     found-other t = record { other = y; met = hold.own y held; name = name; apart = line_other s a f e x line q y there name t }
 
   -- what leads to the entry before it, with the tag, is a number of 32 bits
-  pub link-small : (m : ℕ) → m ≡ mark_of (between s a (f - 1)) → (m / 4096) * 131072 + get_or h (m % 4096) 0 < 4294967296
-  link-small m q =
-      let b = mark-small (between s a (f - 1)) in
-      let o = by_old (get_or h (m % 4096) 0) refl in
-      omega (arith, q, b, o)
+  pub link-small : (i t : ℕ) → i < 4096 → t < 32768 → t * 131072 + get_or h i 0 < 4294967296
+  link-small i t l m = let o = by_old (get_or h i 0) refl in omega (arith, m, o)
     where
-      by_old : (y : ℕ) → get_or h (m % 4096) 0 ≡ y → y ≤ 98304
+      by_old : (y : ℕ) → get_or h i 0 ≡ y → y ≤ 98304
       by_old zero e = omega arith
-      by_old (suc k) e = let r = hold.table.head-own (m % 4096) (omega arith) k e in omega (arith, r.0, hold.table.few)
+      by_old (suc k) e = let r = hold.table.head-own i l k e in omega (arith, r.0, hold.table.few)
 
   found_none : r ≡ None → count < 98304 → (m : ℕ) → m ≡ mark_of (between s a (f - 1))
       → Holds s (seen ++ (x ∷ [])) (set p count a) (set n count ((m / 4096) * 131072 + get_or h (m % 4096) 0)) (set h (m % 4096) (count + 1)) (count + 1)
@@ -175,10 +172,14 @@ module _ (s p n h : List ℕ) (count a f e : ℕ) (r : Option ℕ) (sought : (xs
           let w : between s a (f - 1) ≡ name_in es k = line.name ∙ sym e ∙ ap (λ (d : Declared). d.name) (sym o) in
           subst T (sym (ap (same (between s a (f - 1))) (sym w) ∙ T→true _ (same_refl (between s a (f - 1)))) ∙ t) tt
 
-  pub found-new : r ≡ None → count < 98304 → (m old : ℕ) → m ≡ mark_of (between s a (f - 1)) → old ≡ get_or h (m % 4096) 0
-      → Holds s (seen ++ (x ∷ [])) (set p count a) (set n count ((m / 4096) * 131072 + old)) (set h (m % 4096) (count + 1)) (count + 1)
-  found-new none l m old q e =
-      subst (λ (y : ℕ). Holds s (seen ++ (x ∷ [])) (set p count a) (set n count ((m / 4096) * 131072 + y)) (set h (m % 4096) (count + 1)) (count + 1)) (sym e) (found_none none l m q)
+  pub found-new : r ≡ None → count < 98304 → (i t old : ℕ) → i ≡ chain_of (between s a (f - 1)) → t ≡ tag_of (between s a (f - 1)) → old ≡ get_or h i 0
+      → Holds s (seen ++ (x ∷ [])) (set p count a) (set n count (t * 131072 + old)) (set h i (count + 1)) (count + 1)
+  found-new none l i t old q w e =
+      let m : ℕ = mark_of (between s a (f - 1)) in
+      subst (λ (y : ℕ). Holds s (seen ++ (x ∷ [])) (set p count a) (set n count (t * 131072 + y)) (set h i (count + 1)) (count + 1)) (sym e)
+      (subst (λ (y : ℕ). Holds s (seen ++ (x ∷ [])) (set p count a) (set n count (y * 131072 + get_or h i 0)) (set h i (count + 1)) (count + 1)) (sym w)
+      (subst (λ (y : ℕ). Holds s (seen ++ (x ∷ [])) (set p count a) (set n count ((m / 4096) * 131072 + get_or h y 0)) (set h y (count + 1)) (count + 1)) (sym q)
+      (found_none none l m refl)))
 
 -- ---------------------------------------------------------------- a script
 

@@ -1,25 +1,46 @@
 // A recorded list replayed: its records are read one after the other and judged, and the tally is written. A list that is damaged is told as
-// such. What is read and written no contract can say.
+// such. What is read of the file is in the contract of `next_packed`; what is written, in none.
 
 ghost use Rattle.std.specs.Prelude.{◌≡◌, ◌+◌, length, drop, Some, IfOk, IfSome, IsSome};
 ghost use Rattle.echo_spec.specs.Input.{word32};
+ghost use Rattle.echo_kernel.specs.Answered.{number, count};
 ghost use Rattle.replay.specs.Unpacking.{record_in};
 ghost use Rattle.replay.specs.Stepping.{lent_bytes};
 
 use crate::unpack;
 use lent::word32;
+use refusals::EchoError;
 use std::alloc::{AllocError, Global};
 use std::collections::BTreeMap;
 use std::io;
 use std::io::{Read, Write};
 use std::rt::Files;
-use streams::read_full;
+use streams::{read_full, write_line};
 
 // What was answered, or what is to be answered: the number, and what goes with it, a length, a count, or a place.
+// Kept: made field by field of the answers that one caller has, each in one place; a `From` for each would be longer.
 #[derive(Clone, Copy, Debug, PartialEq, Eq)]
 pub struct Answer {
     pub number: u64,
     pub count: u64,
+}
+
+// The answer of what writes so many bytes or refuses. Ruled out: the length of an acceptance left out; every refusal told as one.
+impl From<Result<usize, EchoError>> for Answer {
+    ghost from_gives = { λ r a. (a.number ≡ number r) × (a.count ≡ count r) };
+
+    fn from(r: Result<usize, EchoError>) -> Answer {
+        match r {
+            Ok(n) => Answer {
+                number: 0,
+                count: n as u64,
+            },
+            Err(e) => Answer {
+                number: u64::from(e),
+                count: 0,
+            },
+        }
+    }
 }
 
 // Why a record is not as recorded.
@@ -76,7 +97,7 @@ pub trait Replay {
     fn tell<W: Write>(&self, out: &mut W, i: u64, answer: Answer) -> io::Result<()> {
         let words = self.words();
         writeln!(out, "another answer to {} {i}", words.record)?;
-        writeln!(out, "  number {}", answer.number)?;
+        write_line(out, b"  number ", answer.number)?;
         writeln!(out, "  {} {}", words.count, answer.count)
     }
 
@@ -87,7 +108,7 @@ pub trait Replay {
         for n in words.refusals {
             writeln!(out, "refused with {}: {}", *n, tally.with(*n))?;
         }
-        writeln!(out, "differences {}", tally.differences)
+        write_line(out, b"differences ", tally.differences)
     }
 }
 
@@ -110,8 +131,8 @@ impl Tally {
 
     fn note(&mut self, number: u64) -> Result<(), AllocError> {
         self.records = self.records.wrapping_add(1);
-        let n = self.with(number);
-        self.numbers.insert(number, n.wrapping_add(1))?;
+        let n = self.numbers.entry(number)?.or_insert(0);
+        *n = n.wrapping_add(1);
         Ok(())
     }
 
@@ -139,7 +160,7 @@ pub fn next_packed<'a, R: Read>(
     ensures left { IfOk result (λ r. IsSome r → IfSome (R.remaining file.old) (λ s. R.remaining file.new ≡ Some (drop (4 + word32 s 0) s))) }
 {
     let mut head = [0u8; 4];
-    if read_full(file, &mut head)? < 4 {
+    if read_full(file, &mut head)? < head.len() {
         return Ok(None);
     }
     let n = word32(&head, 0) as usize;

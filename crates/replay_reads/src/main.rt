@@ -4,7 +4,7 @@
 
 ghost use Rattle.std.specs.Prelude.{◌<◌, ◌≤◌};
 
-use input_parts::{ENTRIES, INPUTS, ROOTS, SIDE};
+use input_parts::{Elements, INPUTS, Input, TABLE};
 use lent::word32;
 use read_answers::ReadAnswer;
 use replay::{
@@ -12,6 +12,7 @@ use replay::{
     rest_of, run,
 };
 use script_reader::Outputs;
+use std::alloc::{AllocError, Global};
 use std::io;
 use std::io::Read;
 
@@ -28,53 +29,22 @@ const NUMBER: usize = 19;
 
 const SIZES: usize = 20;
 
-// The room for an output: somewhat more than the limits.
-const NODES: usize = 34832;
+// Where in the header the size of an output stands, after the first of them: the columns of a table have one. The outputs are in the order of the
+// printer's inputs.
+static SIZE: [usize; INPUTS] = [0, 1, 2, 3, 4, 5, 5, 5, 5, 6, 7, 7, 7, 7, 8, 9, 9, 9];
 
-const BITS: usize = 131088;
-
-const NAMES: usize = 16400;
-
-// Where in the header the size of an output stands, after the first of them (the columns of a table have one), and the room for it. The
-// outputs are in the order of the printer's inputs.
-struct Output(usize, usize);
-
-static TABLE: [Output; INPUTS] = [
-    Output(0, NODES),
-    Output(1, BITS),
-    Output(2, SIDE),
-    Output(3, ROOTS),
-    Output(4, NAMES),
-    Output(5, ENTRIES),
-    Output(5, ENTRIES),
-    Output(5, ENTRIES),
-    Output(5, ENTRIES),
-    Output(6, NAMES),
-    Output(7, ENTRIES),
-    Output(7, ENTRIES),
-    Output(7, ENTRIES),
-    Output(7, ENTRIES),
-    Output(8, NAMES),
-    Output(9, ENTRIES),
-    Output(9, ENTRIES),
-    Output(9, ENTRIES),
-];
-
-// How many elements of output k are lent, and how many are the result's.
-fn lent_of(s: &[u8], k: usize) -> usize {
-    header::<NUMBERS>(s, LENT.saturating_add(k))
-}
-
+// How many elements of output k are the result's.
+// Kept: the bytes are one argument of each function here; a struct of the bytes alone would be no shorter.
 fn used_of(s: &[u8], k: usize) -> usize
-    requires { k < 18 }
+    requires { k < INPUTS }
     ensures { result ≤ 1000000 }
 {
-    header::<NUMBERS>(s, SIZES.saturating_add(TABLE[k].0))
+    header::<NUMBERS>(s, SIZES.saturating_add(SIZE[k]))
 }
 
 // Where the result of output k begins; after the last it is where the problem ends.
 fn start_of(s: &[u8], k: usize) -> usize
-    requires { k ≤ 18 }
+    requires { k ≤ INPUTS }
 {
     let mut at = HEADER.saturating_add(header::<NUMBERS>(s, 0));
     for i in 0..k {
@@ -89,7 +59,7 @@ fn script<'a>(s: &'a [u8]) -> &'a [u8] {
 
 // The result of output k.
 fn wanted<'a>(s: &'a [u8], k: usize) -> &'a [u8]
-    requires { k < 18 }
+    requires { k < INPUTS }
 {
     part(s, start_of(s, k), input_parts::span(k, used_of(s, k)))
 }
@@ -118,78 +88,73 @@ fn sizes_agree(s: &[u8], told: &ReadAnswer) -> bool {
         told.fnames,
         told.functions,
     ];
-    for (k, n) in sizes.iter().enumerate() {
-        if header::<NUMBERS>(s, SIZES.saturating_add(k)) as u64 != *n {
-            return false;
-        }
-    }
-    true
-}
-
-// The first n of the room, which are lent.
-fn first<T>(room: &mut [T], n: usize) -> &mut [T] {
-    let most = room.len();
-    let n = n.min(most);
-    &mut room[..n]
+    sizes.iter().enumerate().all(|(k, n)| header::<NUMBERS>(s, SIZES.saturating_add(k)) as u64
+        == *n)
 }
 
 // Output k, which was filled before: the result and then what was there, or zeros after a refusal.
 fn agrees<T: Element>(s: &[u8], k: usize, output: &[T], fill: T) -> bool
-    requires { k < 18 }
+    requires { k < INPUTS }
 {
     let rest = rest_of(header::<NUMBERS>(s, NUMBER) as u64, fill);
     agree(output, wanted(s, k), rest)
 }
 
-// Is there room for what is lent.
+// Is no more lent of an output than somewhat more than its limit.
 fn fits(s: &[u8]) -> bool {
-    for (k, output) in TABLE.iter().enumerate() {
-        if lent_of(s, k) > output.1 {
-            return false;
-        }
-    }
-    true
+    TABLE.iter().enumerate().all(|(k, Input(_, limit, elements))| {
+        let more = match elements {
+            Elements::Bytes => 16,
+            Elements::Numbers => 8,
+        };
+        header::<NUMBERS>(s, LENT.saturating_add(k)) <= limit.saturating_add(more)
+    })
+}
+
+// As many elements as are lent of output k.
+fn lend<T: Copy>(alloc: Global, s: &[u8], k: usize, fill: T) -> Result<Vec<T>, AllocError> {
+    vec![in alloc; fill; header::<NUMBERS>(s, LENT.saturating_add(k))]
 }
 
 // Reads the script, with as much of each output as is lent.
-fn judged(s: &[u8], fill: u8) -> Judged {
-    let mut nodes = [fill; NODES];
-    let mut bits = [fill; BITS];
-    let mut side = [FILL_NUMBER; SIDE];
-    let mut roots = [FILL_NUMBER; ROOTS];
-    let mut names = [fill; NAMES];
-    let mut name_start = [FILL_NUMBER; ENTRIES];
-    let mut name_len = [FILL_NUMBER; ENTRIES];
-    let mut var_node = [FILL_NUMBER; ENTRIES];
-    let mut var_width = [FILL_NUMBER; ENTRIES];
-    let mut anames = [fill; NAMES];
-    let mut aname_start = [FILL_NUMBER; ENTRIES];
-    let mut aname_len = [FILL_NUMBER; ENTRIES];
-    let mut index_width = [FILL_NUMBER; ENTRIES];
-    let mut value_width = [FILL_NUMBER; ENTRIES];
-    let mut fnames = [fill; NAMES];
-    let mut fname_start = [FILL_NUMBER; ENTRIES];
-    let mut fname_len = [FILL_NUMBER; ENTRIES];
-    let mut func_width = [FILL_NUMBER; ENTRIES];
+fn judged(alloc: Global, s: &[u8], fill: u8) -> io::Result<Judged> {
+    let mut nodes = lend(alloc, s, 0, fill)?;
+    let mut bits = lend(alloc, s, 1, fill)?;
+    let mut side = lend(alloc, s, 2, FILL_NUMBER)?;
+    let mut roots = lend(alloc, s, 3, FILL_NUMBER)?;
+    let mut names = lend(alloc, s, 4, fill)?;
+    let mut name_start = lend(alloc, s, 5, FILL_NUMBER)?;
+    let mut name_len = lend(alloc, s, 6, FILL_NUMBER)?;
+    let mut var_node = lend(alloc, s, 7, FILL_NUMBER)?;
+    let mut var_width = lend(alloc, s, 8, FILL_NUMBER)?;
+    let mut anames = lend(alloc, s, 9, fill)?;
+    let mut aname_start = lend(alloc, s, 10, FILL_NUMBER)?;
+    let mut aname_len = lend(alloc, s, 11, FILL_NUMBER)?;
+    let mut index_width = lend(alloc, s, 12, FILL_NUMBER)?;
+    let mut value_width = lend(alloc, s, 13, FILL_NUMBER)?;
+    let mut fnames = lend(alloc, s, 14, fill)?;
+    let mut fname_start = lend(alloc, s, 15, FILL_NUMBER)?;
+    let mut fname_len = lend(alloc, s, 16, FILL_NUMBER)?;
+    let mut func_width = lend(alloc, s, 17, FILL_NUMBER)?;
     let mut outputs = Outputs {
-        nodes: first(&mut nodes, lent_of(s, 0)),
-        bits: first(&mut bits, lent_of(s, 1)),
-        side: first(&mut side, lent_of(s, 2)),
-        roots: first(&mut roots, lent_of(s, 3)),
-        names: first(&mut names, lent_of(s, 4)),
-        name_start: first(&mut name_start, lent_of(s, 5)),
-        name_len: first(&mut name_len, lent_of(s, 6)),
-        var_node: first(&mut var_node, lent_of(s, 7)),
-        var_width: first(&mut var_width, lent_of(s, 8)),
-        anames: first(&mut anames, lent_of(s, 9)),
-        aname_start: first(&mut aname_start, lent_of(s, 10)),
-        aname_len: first(&mut aname_len, lent_of(s, 11)),
-        index_width: first(&mut index_width, lent_of(s, 12)),
-        value_width: first(&mut value_width, lent_of(s, 13)),
-        fnames: first(&mut fnames, lent_of(s, 14)),
-        fname_start: first(&mut fname_start, lent_of(s, 15)),
-        fname_len: first(&mut fname_len, lent_of(s, 16)),
-        func_width: first(&mut func_width, lent_of(s, 17)),
+        nodes: &mut nodes,
+        bits: &mut bits,
+        side: &mut side,
+        roots: &mut roots,
+        names: &mut names,
+        name_start: &mut name_start,
+        name_len: &mut name_len,
+        var_node: &mut var_node,
+        var_width: &mut var_width,
+        anames: &mut anames,
+        aname_start: &mut aname_start,
+        aname_len: &mut aname_len,
+        index_width: &mut index_width,
+        value_width: &mut value_width,
+        fnames: &mut fnames,
+        fname_start: &mut fname_start,
+        fname_len: &mut fname_len,
+        func_width: &mut func_width,
     };
     let told = ReadAnswer::from(script_reader::read_script(script(s), &mut outputs));
     let agreed = sizes_agree(s, &told)
@@ -220,23 +185,30 @@ fn judged(s: &[u8], fill: u8) -> Judged {
         number: header::<NUMBERS>(s, NUMBER) as u64,
         count: answer.count,
     };
-    compared(answer, recorded, agreed)
+    Ok(compared(answer, recorded, agreed))
 }
 
 // An unpacked problem, of which all has to be there.
-fn opened(s: &[u8]) -> Judged {
+fn opened(alloc: Global, s: &[u8]) -> io::Result<Judged> {
     if start_of(s, INPUTS) != s.len() || !fits(s) {
-        return Err(Fault::Damaged);
+        return Ok(Err(Fault::Damaged));
     }
-    judged(s, FILL)?;
-    judged(s, OTHER)
+    match judged(alloc, s, FILL)? {
+        Ok(_) => judged(alloc, s, OTHER),
+        Err(fault) => Ok(Err(fault)),
+    }
 }
 
 // ---------------------------------------------------------------- the list
 
+// Kept: numbers, as the list has them and the tally writes them.
 static REFUSALS: [u64; 3] = [9, 10, 13];
 
-struct Reads;
+// The outputs are lent from this allocator.
+#[derive(Clone, Copy)]
+struct Reads {
+    alloc: Global,
+}
 
 impl Replay for Reads {
     const PACKED: usize = 40960;
@@ -261,11 +233,14 @@ impl Replay for Reads {
         packed: &mut [u8],
         plain: &mut [u8],
     ) -> io::Result<Judged> {
-        let record = next_packed(file, packed, plain)?;
-        Ok(record.ok_or(Fault::Damaged).and_then(opened))
+        match next_packed(file, packed, plain)? {
+            Some(s) => opened(self.alloc, s),
+            None => Ok(Err(Fault::Damaged)),
+        }
     }
 }
 
 fn main(rt: HostRuntime) -> io::Result<()> {
-    run(&rt, rt.alloc(), &Reads)
+    let alloc = rt.alloc();
+    run(&rt, alloc, &Reads { alloc })
 }

@@ -4,7 +4,6 @@
 
 use lent::word32;
 use replay::{Answer, Fault, Judged, Replay, Words, agree, compared, next_packed, rest_of, run};
-use short_records::numbers::RecordAnswer;
 use std::io;
 use std::io::Read;
 
@@ -20,27 +19,39 @@ const HEADER: usize = 20;
 // The list lends no more than this.
 const LENT: usize = 36864;
 
-fn convert(way: u64, bytes: &[u8], out: &mut [u8]) -> Answer {
-    let converted = if way == 0 {
-        short_records::shorten(bytes, out)
-    } else {
-        short_records::lengthen(bytes, out)
-    };
-    let told = RecordAnswer::from(converted);
-    Answer {
-        number: told.number,
-        count: told.length,
+// Which way records are converted: in the list 0, or any other number.
+#[derive(Clone, Copy, Debug, PartialEq, Eq)]
+enum Way {
+    Shorten,
+    Lengthen,
+}
+
+impl From<u64> for Way {
+    fn from(n: u64) -> Way {
+        match n {
+            0 => Way::Shorten,
+            _ => Way::Lengthen,
+        }
     }
+}
+
+fn convert(way: Way, bytes: &[u8], out: &mut [u8]) -> Answer {
+    Answer::from(match way {
+        Way::Shorten => short_records::shorten(bytes, out),
+        Way::Lengthen => short_records::lengthen(bytes, out),
+    })
 }
 
 // An unpacked problem: behind the header stand the bytes to convert, and then the result. The answer beside the recorded one, and every
 // byte that was lent: the result and then what was there before, or zeros.
 fn judged(s: &[u8], fill: u8) -> Judged {
+    // Kept: an array, whose size the list makes known: filled anew for each record, without asking for memory.
     let mut out = [fill; LENT];
     if s.len() < HEADER {
         return Err(Fault::Damaged);
     }
     let (header, bytes) = s.split_at(HEADER);
+    let way = Way::from(word32(header, 0));
     let n = word32(header, 4) as usize;
     let m = word32(header, 8) as usize;
     let recorded = Answer {
@@ -55,11 +66,12 @@ fn judged(s: &[u8], fill: u8) -> Judged {
         return Err(Fault::Damaged);
     }
     let lent = &mut out[..m];
-    let answer = convert(word32(header, 0), given, lent);
+    let answer = convert(way, given, lent);
     let rest = rest_of(recorded.number, fill);
     compared(answer, recorded, agree(lent, wanted, rest))
 }
 
+// Kept: numbers, as the list has them and the tally writes them.
 static REFUSALS: [u64; 4] = [8, 9, 10, 16];
 
 struct Records;

@@ -3,7 +3,8 @@
 #![tactic(auto)]
 
 use lent::word32;
-use release::ReleaseError;
+use release::check_release;
+use release::numbers::ReleaseAnswer;
 use replay::{Answer, Fault, Judged, Replay, Words, compared, next_packed, run};
 use std::io;
 use std::io::Read;
@@ -11,21 +12,7 @@ use std::io::Read;
 // The header: the length of the file, and the number and the script that are to be answered.
 const HEADER: usize = 12;
 
-// Nothing is named where the file is accepted; the list has 0 there.
-fn answer_of(r: Result<(), ReleaseError>) -> Answer {
-    match r {
-        Ok(()) => Answer {
-            number: 0,
-            count: 0,
-        },
-        Err(e) => Answer {
-            number: u64::from(e.reason),
-            count: e.script,
-        },
-    }
-}
-
-// An unpacked problem, of which all has to be there. Nothing is lent.
+// An unpacked problem, of which all has to be there. Nothing is lent. Where the file is accepted, the script is 0, there as here.
 fn judged(s: &[u8]) -> Judged {
     if s.len() < HEADER {
         return Err(Fault::Damaged);
@@ -38,9 +25,15 @@ fn judged(s: &[u8]) -> Judged {
         number: word32(header, 4),
         count: word32(header, 8),
     };
-    compared(answer_of(release::check_release(file)), recorded, true)
+    let told = ReleaseAnswer::from(check_release(file));
+    let answer = Answer {
+        number: told.number,
+        count: told.script,
+    };
+    compared(answer, recorded, true)
 }
 
+// Kept: numbers, as the list has them and the tally writes them.
 static REFUSALS: [u64; 3] = [9, 13, 17];
 
 struct Releases;

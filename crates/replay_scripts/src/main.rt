@@ -7,7 +7,7 @@ use replay::{Answer, Fault, Judged, Replay, Tally, Words, run};
 use script_lines::next_script;
 use std::io;
 use std::io::{Read, Write};
-use streams::read_full;
+use streams::{read_full, write_line};
 
 // The script, from 0, that was answered otherwise.
 fn other(script: usize) -> Judged {
@@ -21,9 +21,9 @@ fn other(script: usize) -> Judged {
 fn judged(file: &[u8], lengths: &[u8]) -> Judged {
     let count = lengths.len() / 4;
     let mut left = file;
-    for k in 0..count {
+    for (k, length) in lengths.chunks_exact(4).enumerate() {
         match next_script(left) {
-            Some(m) if m as u64 == word32(lengths, 4 * k) && m <= left.len() => left = &left[m..],
+            Some(n) if n as u64 == word32(length, 0) && n <= left.len() => left = &left[n..],
             _ => return other(k),
         }
     }
@@ -83,19 +83,19 @@ impl Replay for Scripts {
     }
 
     fn tell<W: Write>(&self, out: &mut W, i: u64, answer: Answer) -> io::Result<()> {
-        writeln!(out, "another answer in file {i}")?;
-        writeln!(out, "  at script {}", answer.count)
+        write_line(out, b"another answer in file ", i)?;
+        write_line(out, b"  at script ", answer.count)
     }
 
     // The number of a file is how many scripts it has, or 0 where another was answered.
     fn report<W: Write>(&self, out: &mut W, tally: &Tally) -> io::Result<()> {
-        let mut scripts = 0u64;
-        for (n, files) in &tally.numbers {
-            scripts = scripts.wrapping_add(n.wrapping_mul(*files));
-        }
-        writeln!(out, "files {}", tally.records)?;
-        writeln!(out, "scripts {scripts}")?;
-        writeln!(out, "differences {}", tally.differences)
+        let scripts = tally.numbers.iter().fold(
+            0u64,
+            |sum, (n, files)| sum.wrapping_add(n.wrapping_mul(*files)),
+        );
+        write_line(out, b"files ", tally.records)?;
+        write_line(out, b"scripts ", scripts)?;
+        write_line(out, b"differences ", tally.differences)
     }
 }
 

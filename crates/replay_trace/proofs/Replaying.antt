@@ -8,6 +8,8 @@ use borrow.Author.Tests.{ltb-true, ltb-false, le-leb, lt-leb}
 use lib.Count.{ones}
 use lib.Dec.{T, ltb, leb, leb→le}
 use lib.ListN.{length, get_or, take, drop, length-append, length-drop, get_or-append}
+use Rattle.std.specs.Prelude.{replicate}
+use Rattle.lent.specs.Clearing.{left}
 use lib.Seq.{ext_get_or, get_or-append-add, get_or-drop}
 use Rattle.lists.specs.Tests.{every, and_0, and-1}
 use Rattle.lists.specs.Build.{tabulate, length-tabulate, get_or-tabulate}
@@ -131,6 +133,12 @@ module _ (p : Problem) (values masks counts : List ℕ) {masks' counts' : List �
         counts = at_front (tabulate (r i) (λ j. count (holding_in p values j))) counts;
       })
       ∙ ap (λ (y : ℕ). trace_answer y p values masks counts) (sym e)
+
+-- a refusal clears both outputs
+pub settled : (p : Problem) (values masks counts masks' counts' : List ℕ) (r : Result ℕ TraceError) → Ran p values masks counts r masks' counts'
+    → length masks' ≡ length masks → length counts' ≡ length counts → answered r (left 0 r masks') (left 0 r counts') ≡ replay_trace_answer p values masks counts
+settled p values masks counts masks' counts' (Ok n) h a b = accepts p values masks counts h
+settled p values masks counts masks' counts' (Err e) h a b = refuses p values masks counts e h (ap (λ (n : ℕ). replicate n 0) a) (ap (λ (n : ℕ). replicate n 0) b)
 
 pub ran-refused : (p : Problem) (values masks counts masks' counts' : List ℕ) {r : Result ℕ TraceError} {e : TraceError} → r ≡ Err e
     → trace_refusal p values (length masks) (length counts) ≡ trace_number e → Ran p values masks counts r masks' counts'

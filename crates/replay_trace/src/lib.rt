@@ -9,9 +9,9 @@ ghost use Rattle.traces.specs.Trace.{replay_trace_answer};
 ghost use Rattle.replay_trace.specs.Errors.{trace_number, Refused};
 ghost use Rattle.replay_trace.specs.Traced.{answered, told, Ran, first_refusal, later_refusal, Widths, Traceable, Written};
 
-use lent::{Problem, clear};
+use lent::{Problem, clear_on_refusal};
 use refusals::{EchoError, MAX_NODES};
-use sliver_kernel::{ArrayWidths, Pass};
+use sliver_kernel::Pass;
 use trace_tables::Terms;
 use trace_terms::Evaluation;
 
@@ -65,7 +65,7 @@ fn printing(problem: &Problem) -> Result<(), EchoError>
     Ok(())
 }
 
-// 14, 15 and 10, of a problem that has passed those and whose nodes have these widths; n rows.
+// `Wide`, `Values` and want of room, of a problem that has passed those and whose nodes have these widths; n rows.
 fn tracing(
     terms: &Terms,
     values: &[u64],
@@ -122,15 +122,7 @@ fn replay(
 {
     printing(problem)?;
     let mut ws = [0u64; MAX_NODES];
-    let pass = Pass {
-        nbits: problem.bits.len(),
-        arrays: ArrayWidths {
-            index: problem.index_width,
-            value: problem.value_width,
-        },
-        side: problem.side,
-    };
-    let count = pass.widths(problem.nodes, &mut ws);
+    let count = Pass::of(problem).widths(problem.nodes, &mut ws);
     let terms = Terms {
         problem: *problem,
         widths: &ws[..count],
@@ -152,12 +144,8 @@ pub fn replay_trace(
 ) -> Result<usize, TraceError>
     ensures { answered result masks.new counts.new ≡ replay_trace_answer (problem_at problem.now) values.now masks.old counts.old }
 {
-    match replay(problem, values, masks, counts) {
-        Ok(n) => Ok(n),
-        Err(e) => {
-            clear(masks);
-            clear(counts);
-            Err(e)
-        }
-    }
+    let told = replay(problem, values, masks, counts);
+    clear_on_refusal(&told, masks);
+    clear_on_refusal(&told, counts);
+    told
 }

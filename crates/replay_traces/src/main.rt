@@ -31,6 +31,7 @@ const NUMBER: usize = 21;
 const ROWS: usize = 22;
 
 // An unpacked problem: its bytes, and every number in them.
+// Kept: the functions below take the bytes alone, since they tell where the numbers stand before there is a `Traced`.
 #[derive(Clone, Copy)]
 struct Traced<'a> {
     bytes: &'a [u8],
@@ -89,11 +90,7 @@ impl<'a> Traced<'a> {
 
 // How many bytes or numbers the inputs have from one to another, the last left out.
 fn between(s: &[u8], from: usize, to: usize) -> usize {
-    let mut n = 0usize;
-    for k in from..to {
-        n = n.saturating_add(header::<NUMBERS>(s, k));
-    }
-    n
+    (from..to).fold(0usize, |n, k| n.saturating_add(header::<NUMBERS>(s, k)))
 }
 
 // Where input k begins, of bytes; behind the last of these stand the numbers.
@@ -144,6 +141,7 @@ fn replayed(p: &Traced, masks: &mut [u64], counts: &mut [u64]) -> Judged {
 
 // An unpacked problem, of which all has to be there, and room for what is lent.
 fn judged(s: &[u8]) -> Judged {
+    // Kept: arrays, whose sizes the list makes known: filled anew for each problem, without asking for memory.
     let mut numbers = [0u64; ALL];
     let mut masks = [FILL; OUTPUT];
     let mut counts = [FILL; OUTPUT];
@@ -166,6 +164,7 @@ fn judged(s: &[u8]) -> Judged {
 
 // ---------------------------------------------------------------- the list
 
+// Kept: numbers, as the list has them and the tally writes them.
 static REFUSALS: [u64; 13] = [1, 2, 3, 4, 5, 6, 7, 8, 9, 10, 12, 14, 15];
 
 struct Traces;

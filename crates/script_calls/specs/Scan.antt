@@ -26,7 +26,6 @@ use Rattle.script_entries.specs.Entries.{first_of, arrays_of, Known, Numbers, En
 use Rattle.script_names.specs.declared.Table.{Table}
 use Rattle.script_header.specs.declared.Header.{Header}
 use Rattle.script_entries.specs.declared.Entry.{Entry}
-use Rattle.script_entries.specs.declared.Widths.{Widths}
 use Rattle.script_entries.specs.declared.Signature.{Signature}
 use Rattle.script_entries.specs.declared.Entry.TheVariants.{Variable as VariableEntry, Array as ArrayEntry, Function as FunctionEntry}
 use Rattle.script_entries.specs.Finding.{function-name, function-numbers}
@@ -177,11 +176,12 @@ module _ (s : List ℕ) (D : Declarations) (n : Name) (l : List Bool) where
     pub marks-past : {g : ℕ} {u : Signature} → r ≡ FunctionEntry g u → length l ≤ g → l ≡ marked (function_number D n) l
     marks-past {g} {u} q m = sym (set_out l g true m) ∙ marks-function q
 
-    pub marks-array : {k : ℕ} {u : Widths} → r ≡ ArrayEntry k u → l ≡ marked (function_number D n) l
-    marks-array {k} {u} q = let x : EntryIs s D n (Some (ArrayEntry k u)) = told q in ap (λ (o : Option ℕ). marked o l) (sym x.numbers.function)
-
-    pub marks-variable : {k w : ℕ} → r ≡ VariableEntry k w → l ≡ marked (function_number D n) l
-    marks-variable {k} {w} q = let x : EntryIs s D n (Some (VariableEntry k w)) = told q in ap (λ (o : Option ℕ). marked o l) (sym x.numbers.function)
+-- an entry that is no function's
+pub marks-other : (s : List ℕ) (D : Declarations) (n : Name) (l : List Bool) (r : Entry) → EntryIs s D n (Some r) → ((g : ℕ) (u : Signature) → r ≡ FunctionEntry g u → ⊥)
+    → l ≡ marked (function_number D n) l
+marks-other s D n l (VariableEntry k w) x f = ap (λ (o : Option ℕ). marked o l) (sym x.numbers.function)
+marks-other s D n l (ArrayEntry k u) x f = ap (λ (o : Option ℕ). marked o l) (sym x.numbers.function)
+marks-other s D n l (FunctionEntry g u) x f = absurd (f g u refl)
 
 -- ---------------------------------------------------------------- the assertions
 

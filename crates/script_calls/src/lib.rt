@@ -18,8 +18,8 @@ use script_entries::{Entry, Script};
 use script_header::Header;
 use script_tokens::name_end;
 
-// How many functions have a flag.
-pub const FLAGS: usize = 512;
+// How many functions have a flag: as many as a script may have.
+pub const FLAGS: usize = refusals::MAX_ENTRIES;
 
 // The name from place a on, up to and with its bar before place f: where it is a function's, that function is flagged.
 fn flag_name(script: &Script, a: usize, f: usize, flags: &mut [bool; FLAGS])
@@ -27,32 +27,27 @@ fn flag_name(script: &Script, a: usize, f: usize, flags: &mut [bool; FLAGS])
     ensures { (D : Declarations) → Declares script.now D
         → flags.new ≡ marked (function_number D (between script.now.text.now a (f - 1))) flags.old }
 {
-    let Some(entry) = script.entry_of(a, f) else {
+    let Some(Entry::Function(g, _)) = script.entry_of(a, f) else {
         return;
     };
-    match entry {
-        Entry::Function(g, _) => {
-            if g < FLAGS {
-                flags[g] = true;
-            }
-        }
-        Entry::Array(_, _) => {}
-        Entry::Variable(_, _) => {}
+    if g < FLAGS {
+        flags[g] = true;
     }
 }
 
 // How many functions have a flag, of those that the header tells.
 fn flag_count(h: &Header) -> usize
-    ensures { (result ≤ 512) × ((D : Declarations) (s : List ℕ) (t : Table) → Known s t h.now D → (g : ℕ) → g < 512 → g < length D.functions → g < result) }
+    ensures { (result ≤ FLAGS) × ((D : Declarations) (s : List ℕ) (t : Table) → Known s t h.now D → (g : ℕ) → g < FLAGS → g < length D.functions → g < result) }
 {
     h.names.saturating_sub(h.arrays).min(FLAGS)
 }
 
 // The first of n functions from number `from` on that has no flag, or n.
 fn unflagged_from(flags: &[bool; FLAGS], from: usize, n: usize) -> usize
-    requires { (from ≤ n) × (n ≤ 512) }
+    requires { (from ≤ n) × (n ≤ FLAGS) }
     ensures { (result ≤ n) × ((g : ℕ) → g < result → from ≤ g → get_or flags.now g false ≡ true) }
 {
+    // Kept: `position` in `flags[from..n]` was tried. It leaves two goals about places of that part, where this loop leaves none.
     for g in from..n {
         if !flags[g] {
             return g;

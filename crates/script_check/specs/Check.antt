@@ -10,7 +10,6 @@ use Rattle.script_header.specs.declared.Header.{Header}
 use Rattle.script_header.specs.Header.{header_in}
 use Rattle.script_entries.specs.Entries.{Known}
 use Rattle.header_laws.specs.Body.{reading_of, body_in, AssertionsAt}
-use Rattle.script_check.specs.declared.Check.{Check}
 
 -- The script has a header up to place e; its declarations are known.
 pub record Topped (s : List ℕ) (t : Table) (h : Header) (e : ℕ) : Type 0 where
@@ -31,10 +30,6 @@ pub record Checked (s : List ℕ) (t : Table) (h : Header) (a n : ℕ) : Type 0 
   pub known : Known s t h declarations
   pub assertions : AssertionsAt s declarations a trees
   pub roots : n ≡ length trees
-
-abbrev pub CheckTo : List ℕ → Table → Maybe Check → Type 0
-CheckTo s t None = reading_in s ≡ none
-CheckTo s t (Some c) = Checked s t c.header c.header.end c.roots
 
 -- the same of the bytes after the header, under the declarations D
 pub record BodyAt (s : List ℕ) (D : Declarations) (from a n : ℕ) : Type 0 where

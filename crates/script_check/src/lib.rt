@@ -9,7 +9,7 @@ ghost use Rattle.reading.specs.Trees.{Declarations};
 ghost use Rattle.readback.specs.ScriptReader.{read_assertion};
 ghost use Rattle.script_names.specs.Entries.{Empty};
 ghost use Rattle.script_entries.specs.Entries.{Declares};
-ghost use Rattle.script_check.specs.Check.{TopTo, CheckTo, BodyTo, EndsTo};
+ghost use Rattle.script_check.specs.Check.{TopTo, BodyTo, EndsTo};
 ghost use Rattle.script_check.specs.Steps.{Going};
 
 use script_entries::{Script, measure_lines};
@@ -18,23 +18,13 @@ use script_names::Table;
 use script_terms::sort_at;
 use script_tokens::literal;
 
-// The header of a script that has a reading, and how many assertions it has; they begin where the header ends.
-#[derive(Clone, Copy, Debug, PartialEq, Eq)]
-pub struct Check {
-    pub header: Header,
-    pub roots: usize,
-}
-
 // The last line and nothing after it, where no assertion follows. Ruled out: one that takes the first word of the line for the line; one that
 // leaves bytes after it.
 pub fn last_line(s: &[u8], p: usize) -> bool
     requires { p ≤ length s.now }
     ensures { (D : Declarations) (from n : ℕ) → from ≤ length s.now → Going s.now D from p n → read_assertion D (drop p s.now) ≡ none → EndsTo s.now D from n result }
 {
-    let Some(z) = literal(s, p, b"(check-sat)\n") else {
-        return false;
-    };
-    z == s.len()
+    literal(s, p, b"(check-sat)\n") == Some(s.len())
 }
 
 // How many assertions stand from place `from` on, each a Bool, with the last line after them. Ruled out: one that takes an assertion that is no
@@ -45,6 +35,7 @@ pub fn assertions(script: &Script, from: usize) -> Option<usize>
 {
     let mut p = from;
     let mut n: usize = 0;
+    // Kept: each assertion tells where the next begins. The loop of `place_script` places the terms that this one only sorts.
     while let Some(a) = literal(script.text, p, b"(assert ") {
         let term = sort_at(script, a)?;
         if term.sort != 0 {
@@ -54,11 +45,7 @@ pub fn assertions(script: &Script, from: usize) -> Option<usize>
         n += 1;
         p = z;
     }
-    if last_line(script.text, p) {
-        Some(n)
-    } else {
-        None
-    }
+    last_line(script.text, p).then_some(n)
 }
 
 // The header: its names are in the table, measured; or that there is none. Ruled out: numbers that leave a table out; a place before the
@@ -70,20 +57,4 @@ pub fn check_header(s: &[u8], t: &mut Table) -> Option<Header>
     let header = read_header(s, t, 0)?;
     measure_lines(s, t, &header);
     Some(header)
-}
-
-// Whether the bytes are a problem's script. Ruled out: one that takes a script with an assertion that is no Bool; one that leaves bytes
-// after the last line; one that counts one assertion too few.
-pub fn check_script(s: &[u8], t: &mut Table) -> Option<Check>
-    requires { Empty t.old }
-    ensures { CheckTo s.now t.new result }
-{
-    let header = check_header(s, t)?;
-    let script = Script {
-        text: s,
-        table: t,
-        header,
-    };
-    let roots = assertions(&script, header.end)?;
-    Some(Check { header, roots })
 }

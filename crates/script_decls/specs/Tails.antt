@@ -17,7 +17,6 @@ use Rattle.readback.specs.Reader.{Took, took, and_then, expect, read_numeral}
 use Rattle.readback.specs.ScriptReader.{read_sort, separator}
 use Rattle.reader_laws.specs.TermsStrict.{impossible, and-then, took-both, expected, numeral-strict}
 use Rattle.script_tokens.specs.Stretches.{bytes-at}
-use Rattle.script_tokens.specs.Reached.{Reached}
 use Rattle.script_names.specs.Entries.{after_bar}
 use Rattle.script_decls.specs.Lines.{sort_in, sorts_in, variable_tail, array_tail_of, function_tail, TailTo}
 use Rattle.script_decls.specs.Sorts.{no_bar, pass-word, pass-sort}
@@ -92,11 +91,6 @@ module _ (s : List ℕ) (f : ℕ) where
       let p : Past s f z = past-both (past_word (bytes " ") s [] f a tt l₁ l₂ h) (past-both (past-sort largest s w a e l₂ l₃ g) (past_word (bytes ")\n") s [] e z tt l₃ l₄ k)) in
       record { low = p.low; high = l₄; tail = p.tail; value = λ n. record { name = n; width = w }; read = λ n. rw (h, g, k); name = λ n. refl }
 
-  pub variable-last : (a w e : ℕ) (r : Maybe ℕ) → f ≤ length s → (a ≤ length s) × (expect (bytes " ") (drop f s) ≡ took [] (drop a s)) → (e ≤ length s) × (sort_in largest (drop a s) ≡ took w (drop e s))
-      → Reached s (expect (bytes ")\n") (drop e s)) r → TailTo 0 s f r
-  variable-last a w e None l h g k = variable-3 a w e h.1 g.1 k
-  variable-last a w e (Some z) l h g k = variable-whole a w e z l h.0 g.0 k.0 h.1 g.1 k.1
-
 -- ---------------------------------------------------------------- arrays
 
 module _ (s : List ℕ) (f : ℕ) where
@@ -130,10 +124,6 @@ module _ (s : List ℕ) (f : ℕ) where
               let p : Past s f z = past-both (past_word (bytes " (Array ") s [] f a tt l₁ l₂ h) (past-both (past-sort 65536 s i a b l₂ l₃ g)
               (past-both (past_word (bytes " ") s [] b c tt l₃ l₄ k) (past-both (past-sort 65536 s v c d l₄ l₅ m) (past_word (bytes "))\n") s [] d z tt l₅ l₆ q)))) in
               record { low = p.low; high = l₆; tail = p.tail; value = λ n. record { name = n; index = i; value = v }; read = λ n. rw (h, g, k, m, q); name = λ n. refl }
-
-          pub array-last : (r : Maybe ℕ) → f ≤ length s → a ≤ length s → b ≤ length s → c ≤ length s → d ≤ length s → Reached s (expect (bytes "))\n") (drop d s)) r → TailTo 1 s f r
-          array-last None l₁ l₂ l₃ l₄ l₅ q = array-5 q
-          array-last (Some z) l₁ l₂ l₃ l₄ l₅ q = array_whole z l₁ l₂ l₃ l₄ l₅ q.0 q.1
 
 -- ---------------------------------------------------------------- sorts of arguments
 
@@ -303,7 +293,3 @@ module _ (s : List ℕ) (f : ℕ) where
               let p : Past s f z = past-both (past_word (bytes " (") s [] f a tt l₁ l₂ h) (past-both g.past
               (past-both (past_word (bytes " ") s [] b c tt g.high l₄ k) (past-both (past-sort largest s w c d l₄ l₅ m) (past_word (bytes ")\n") s [] d z tt l₅ l₆ q)))) in
               record { low = p.low; high = l₆; tail = p.tail; value = λ n. record { name = n; arguments = g.value; width = w }; read = λ n. rw (h, g.read (suc (length (drop a s))) (omega arith), k, m, q); name = λ n. refl }
-
-          pub function-last : (r : Maybe ℕ) → f ≤ length s → a ≤ length s → c ≤ length s → d ≤ length s → Reached s (expect (bytes ")\n") (drop d s)) r → TailTo 2 s f r
-          function-last None l₁ l₂ l₄ l₅ q = function-5 q
-          function-last (Some z) l₁ l₂ l₄ l₅ q = function-whole z l₁ l₂ l₄ l₅ q.0 q.1

@@ -9,13 +9,16 @@ ghost use Rattle.readback.specs.Reader.{expect};
 ghost use Rattle.script_tokens.specs.Reached.{Reached, Numbered, between};
 ghost use Rattle.script_names.specs.Entries.{entry_from, Named, Tabled};
 ghost use Rattle.script_decls.specs.Tails.{SortsTo};
-ghost use Rattle.script_decls.specs.Lines.{sort_in, stage_number, word_of, TailTo, LineTo, StageTo, Ready, names_to};
+ghost use Rattle.script_decls.specs.Lines.{sort_in, stage_number, word_of, LineTo, StageTo, Ready, names_to};
+ghost use Rattle.script_decls.specs.Told.{TailTold};
 
 use echo_names::{bytes_ok, first_ok, is_reserved};
-use script_names::{Declared, Table, enter, find_line};
+use refusals::MAX_ARRAY_WIDTH;
+use script_names::{Declared, Measure, Table, enter, find_line};
 use script_tokens::{Number, literal, name_end, numeral};
 
 // The lines of one kind stand together: those of variables, then those of arrays, then those of functions.
+// Kept: contracts number the kinds, as their definitions in specs/ do, and a line's type there depends on the number (`LineType`).
 #[derive(Clone, Copy, Debug, PartialEq, Eq)]
 pub enum Stage {
     Variables,
@@ -28,6 +31,13 @@ pub enum Stage {
 pub struct Line {
     pub name: usize,
     pub name_end: usize,
+    pub end: usize,
+}
+
+// What stands after the name of a line: the numbers of what the line declares, and the place after the line.
+#[derive(Clone, Copy, Debug, PartialEq, Eq)]
+pub struct Rest {
+    pub measure: Measure,
     pub end: usize,
 }
 
@@ -47,10 +57,7 @@ pub fn sort_in(s: &[u8], at: usize, limit: u64) -> Option<Number>
 {
     let a = literal(s, at, b"(_ BitVec ")?;
     let width = numeral(s, a)?;
-    if width.value == 0 {
-        return None;
-    }
-    if width.value > limit {
+    if width.value == 0 || width.value > limit {
         return None;
     }
     let end = literal(s, width.end, b")")?;
@@ -80,9 +87,8 @@ fn more_sorts(s: &[u8], at: usize) -> Option<usize>
     None
 }
 
-// Sorts with blanks between them, up to and with the closing bracket. Ruled out: a blank before the first; an end after the last sort and
-// before the bracket.
-pub fn sorts_end(s: &[u8], at: usize) -> Option<usize>
+// Sorts with blanks between them, up to and with the closing bracket.
+fn sorts_end(s: &[u8], at: usize) -> Option<usize>
     requires { at ≤ length s.now }
     ensures { SortsTo true s.now at result }
 {
@@ -99,40 +105,62 @@ pub fn sorts_end(s: &[u8], at: usize) -> Option<usize>
 // ---------------------------------------------------------------- lines
 
 // The rest of a variable's line after its name.
-fn variable_tail(s: &[u8], at: usize) -> Option<usize>
+fn variable_tail(s: &[u8], at: usize) -> Option<Rest>
     requires { at ≤ length s.now }
-    ensures { TailTo 0 s.now at result }
+    ensures { TailTold 0 s.now at result }
 {
     let a = literal(s, at, b" ")?;
     let width = sort_in(s, a, u64::MAX)?;
-    literal(s, width.end, b")\n")
+    let end = literal(s, width.end, b")\n")?;
+    Some(Rest {
+        measure: Measure {
+            first: width.value,
+            second: 0,
+        },
+        end,
+    })
 }
 
 // The rest of an array's line after its name.
-fn array_tail(s: &[u8], at: usize) -> Option<usize>
+fn array_tail(s: &[u8], at: usize) -> Option<Rest>
     requires { at ≤ length s.now }
-    ensures { TailTo 1 s.now at result }
+    ensures { TailTold 1 s.now at result }
 {
     let a = literal(s, at, b" (Array ")?;
-    let index = sort_in(s, a, 65536)?;
+    let index = sort_in(s, a, MAX_ARRAY_WIDTH)?;
     let b = literal(s, index.end, b" ")?;
-    let value = sort_in(s, b, 65536)?;
-    literal(s, value.end, b"))\n")
+    let value = sort_in(s, b, MAX_ARRAY_WIDTH)?;
+    let end = literal(s, value.end, b"))\n")?;
+    Some(Rest {
+        measure: Measure {
+            first: index.value,
+            second: value.value,
+        },
+        end,
+    })
 }
 
 // The rest of a function's line after its name.
-fn function_tail(s: &[u8], at: usize) -> Option<usize>
+fn function_tail(s: &[u8], at: usize) -> Option<Rest>
     requires { at ≤ length s.now }
-    ensures { TailTo 2 s.now at result }
+    ensures { TailTold 2 s.now at result }
 {
     let a = literal(s, at, b" (")?;
     let b = sorts_end(s, a)?;
     let d = literal(s, b, b" ")?;
     let width = sort_in(s, d, u64::MAX)?;
-    literal(s, width.end, b")\n")
+    let end = literal(s, width.end, b")\n")?;
+    Some(Rest {
+        measure: Measure {
+            first: a as u64,
+            second: width.value,
+        },
+        end,
+    })
 }
 
 // What a line of a stage begins with.
+// Kept: a trait for the three stages would be three types with two functions each, and `script_entries` has the stage of a line as a value.
 #[tactic(auto, unfolding(lists::specs::Bytes::bytes))]
 fn head(stage: Stage, s: &[u8], at: usize) -> Option<usize>
     requires { at ≤ length s.now }
@@ -144,10 +172,11 @@ fn head(stage: Stage, s: &[u8], at: usize) -> Option<usize>
     }
 }
 
-// The rest of a line of a stage after its name.
-fn tail(stage: Stage, s: &[u8], at: usize) -> Option<usize>
+// The rest of a line of a stage after its name: of a variable its width, of an array its two widths, of a function where the sorts of its
+// arguments begin, and its width. Ruled out: the two widths of an array exchanged; the place after the sorts for the one where they begin.
+pub fn tail(stage: Stage, s: &[u8], at: usize) -> Option<Rest>
     requires { at ≤ length s.now }
-    ensures { TailTo (stage_number stage) s.now at result }
+    ensures { TailTold (stage_number stage) s.now at result }
 {
     match stage {
         Stage::Variables => variable_tail(s, at),
@@ -156,19 +185,18 @@ fn tail(stage: Stage, s: &[u8], at: usize) -> Option<usize>
     }
 }
 
-// A line of a stage: a variable's, an array's or a function's. Ruled out: a variable whose width is 0; an array with an index of more
-// than 65,536 bits; a line without its line feed.
-pub fn read_line(stage: Stage, s: &[u8], at: usize) -> Option<Line>
+// A line of a stage: a variable's, an array's or a function's.
+fn read_line(stage: Stage, s: &[u8], at: usize) -> Option<Line>
     requires { at ≤ length s.now }
     ensures { LineTo (stage_number stage) s.now at result }
 {
     let name = head(stage, s, at)?;
     let name_end = name_end(s, name)?;
-    let end = tail(stage, s, name_end)?;
+    let rest = tail(stage, s, name_end)?;
     Some(Line {
         name,
         name_end,
-        end,
+        end: rest.end,
     })
 }
 
@@ -181,13 +209,7 @@ fn declare(s: &[u8], t: &mut Table, lines: Declared, a: usize, f: usize) -> bool
         × (result ≡ true → Tabled s.now lines.first t.new (lines.count + 1)) }
 {
     let name = &s[a..f - 1];
-    if !bytes_ok(name) {
-        return false;
-    }
-    if !first_ok(name) {
-        return false;
-    }
-    if is_reserved(name) {
+    if !bytes_ok(name) || !first_ok(name) || is_reserved(name) {
         return false;
     }
     match find_line(s, t, lines, a, f) {

@@ -10,7 +10,7 @@ ghost use Rattle.script_depth.specs.Nesting.{deepest, turns, opens, too_deep};
 const DEEPEST: usize = 6146;
 
 // What is known behind a byte: does a name go on, and how many brackets are open.
-#[derive(Clone, Copy)]
+#[derive(Clone, Copy, Default)]
 struct Nest {
     named: bool,
     depth: usize,
@@ -46,10 +46,7 @@ impl Nest {
 pub fn too_deep(s: &[u8]) -> bool
     ensures { result ≡ too_deep s.now }
 {
-    let mut nest = Nest {
-        named: false,
-        depth: 0,
-    };
+    let mut nest = Nest::default();
     for b in s {
         if nest.depth > DEEPEST {
             return true;

@@ -1,6 +1,5 @@
 -- A term that ends: the constants among its operands have their nodes, its own node comes after them, and its operands wait no more.
-use Rattle.std.specs.Prelude.{ℕ, zero, suc, ◌+◌, ◌≤◌, ◌<◌, ◌≡◌, refl, false, take, drop, get_or, Some, None, ⊤}
-use Rattle.std.specs.Prelude as code
+use Rattle.std.specs.Prelude.{ℕ, zero, suc, ◌+◌, ◌≤◌, ◌<◌, ◌≡◌, refl, false, take, drop, get_or, Result, Ok, Err}
 use Rattle.std.proofs.Common.{ap, sym, ◌∙◌, arith, take_at, drop_at}
 use Rattle.std.proofs.Math.Path.{subst}
 use mathlib.Core.List.{List, [], ◌∷◌, ◌++◌, map}
@@ -18,15 +17,16 @@ use Rattle.heap_laws.specs.Within.{over-grows}
 use Rattle.heap_laws.specs.Settling.{with-constants-append, node-grows}
 use Rattle.heap_laws.specs.Stacks.{stacked-same, stacked-cut}
 use Rattle.heap_laws.specs.declared.Heap.{Heap}
+use Rattle.heap_laws.specs.declared.OverLimit.{OverLimit}
 use Rattle.script_heap.specs.Told.{Told, AllTold}
 use Rattle.script_ends.specs.Parts.{Made}
 
 -- ---------------------------------------------------------------- what an end answers
 
 -- The nodes would be over a limit; or the term has its node, and the operands refs still wait.
-abbrev pub EndedAs : List ℕ → Heap → List Ref → Put → code.Option ℕ → Type 0
-EndedAs script heap' refs p None = within p.items ≡ false
-EndedAs script heap' refs p (Some m) = (p.ref ≡ here m) × Held heap' p.items × Stacked script heap' refs
+abbrev pub EndedAs : List ℕ → Heap → List Ref → Put → Result ℕ OverLimit → Type 0
+EndedAs script heap' refs p (Err _) = within p.items ≡ false
+EndedAs script heap' refs p (Ok m) = (p.ref ≡ here m) × Held heap' p.items × Stacked script heap' refs
 
 -- the nodes s are held, the operands rs of a term wait behind others, whose number is base
 pub record Ending (script : List ℕ) (heap : Heap) (base : ℕ) (s : List Item) (refs rs : List Ref) : Type 0 where
@@ -58,7 +58,7 @@ module _ {script : List ℕ} {heap : Heap} {base : ℕ} {s : List Item} {refs rs
   keep : take base (refs ++ rs) ≡ refs
   keep = take_at refs rs base e.below
 
-  pub all-ended : (heap' : Heap) → AllTold script heap' base s (refs ++ rs) (Some tt)
+  pub all-ended : (heap' : Heap) → AllTold script heap' base s (refs ++ rs) (Ok tt)
       → Held heap' then × Stacked script heap' (refs ++ map here (nodes_of then rs))
   all-ended heap' (h, k) =
       let a : with_constants (pending_in (drop base (refs ++ rs))) s ≡ then = ap (λ (l : List Ref). with_constants (pending_in l) s) cut in
@@ -66,13 +66,8 @@ module _ {script : List ℕ} {heap : Heap} {base : ℕ} {s : List Item} {refs rs
       (λ i. keep i ++ settled (a i) (cut i)) ∙ ap (λ (l : List Ref). refs ++ l) (settled_here then rs) in
       (subst (λ (t : List Item). Held heap' t) a h, subst (λ (l : List Ref). Stacked script heap' l) b k)
 
-  pub all-over : (heap' : Heap) → AllTold script heap' base s (refs ++ rs) None → within then ≡ false
-  all-over heap' h = subst (λ (l : List Ref). within (with_constants (pending_in l) s) ≡ false) cut h
-
-  -- by what was answered
-  pub settle-done : (heap' : Heap) (r : code.Option ⊤) (u : ⊤) → r ≡ Some u → AllTold script heap' base s (refs ++ rs) r
-      → Held heap' then × Stacked script heap' (refs ++ map here (nodes_of then rs))
-  settle-done heap' r u q h = all-ended heap' (subst (λ (x : code.Option ⊤). AllTold script heap' base s (refs ++ rs) x) q h)
+  pub all-over : (heap' : Heap) (u : OverLimit) → AllTold script heap' base s (refs ++ rs) (Err u) → within then ≡ false
+  all-over heap' u h = subst (λ (l : List Ref). within (with_constants (pending_in l) s) ≡ false) cut h
 
   -- ---------------------------------------------------------------- the term's own node
 
@@ -81,14 +76,14 @@ module _ {script : List ℕ} {heap : Heap} {base : ℕ} {s : List Item} {refs rs
     unfolding ended
     ended-over h = over-grows then (then ++ (term (node_of then) ∷ [])) (grows-snoc then (term (node_of then))) h
 
-    pub settle-fails : (heap' : Heap) (r : code.Option ⊤) → r ≡ None → AllTold script heap' base s (refs ++ rs) r → within (ended (pending_in rs) term s).items ≡ false
-    settle-fails heap' r q h = ended-over (all-over heap' (subst (λ (x : code.Option ⊤). AllTold script heap' base s (refs ++ rs) x) q h))
+    pub settle-fails : (heap' : Heap) (u : OverLimit) → AllTold script heap' base s (refs ++ rs) (Err u) → within (ended (pending_in rs) term s).items ≡ false
+    settle-fails heap' u h = ended-over (all-over heap' u h)
 
-    pub ended-told : (heap₁ heap' : Heap) (r : code.Option ℕ) → Stacked script heap₁ (refs ++ map here (nodes_of then rs))
+    pub ended-told : (heap₁ heap' : Heap) (r : Result ℕ OverLimit) → Stacked script heap₁ (refs ++ map here (nodes_of then rs))
         → Told heap₁ heap' base (then ++ (term (node_of then) ∷ [])) (length then) r → EndedAs script heap' refs (ended (pending_in rs) term s) r
     unfolding ended
-    ended-told heap₁ heap' None k h = h
-    ended-told heap₁ heap' (Some m) k (a, b, c, d) =
+    ended-told heap₁ heap' (Err _) k h = h
+    ended-told heap₁ heap' (Ok m) k (a, b, c, d) =
         let l : List Ref = map here (nodes_of then rs) in
         let z : base ≤ length (refs ++ l) = omega (arith, length-append refs l, e.below) in
         (ap here (sym a), b, subst (λ (x : List Ref). Stacked script heap' x) (take_at refs l base e.below) (stacked-cut script k base c d z))
@@ -171,14 +166,6 @@ unfolding ended
 ended-append cs ds term s =
     let e : with_constants ds (with_constants cs s) ≡ with_constants (cs ++ ds) s = sym (with-constants-append cs ds s) in
     λ i. record { items = e i ++ (term (node_of (e i)) ∷ []); ref = here (length (e i)) }
-
--- by what an addition answered
-pub told_over : (heap heap' : Heap) (n : ℕ) (t : List Item) (k : ℕ) (r : code.Option ℕ) → r ≡ None → Told heap heap' n t k r → within t ≡ false
-told_over heap heap' n t k r e h = subst (λ (x : code.Option ℕ). Told heap heap' n t k x) e h
-
-pub told_at : (heap heap' : Heap) (n : ℕ) (t : List Item) (k : ℕ) (r : code.Option ℕ) (m : ℕ) → r ≡ Some m → Told heap heap' n t k r
-    → (m ≡ k) × Held heap' t × (heap'.top ≡ n) × (heap'.stack ≡ heap.stack)
-told_at heap heap' n t k r m e h = subst (λ (x : code.Option ℕ). Told heap heap' n t k x) e h
 
 -- ---------------------------------------------------------------- the amount of a rotation
 

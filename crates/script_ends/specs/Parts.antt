@@ -1,7 +1,8 @@
 -- What is known of the operands of a term that is being placed, and the record of an operator over its operands.
-use Rattle.std.specs.Prelude.{ℕ, ◌+◌, ◌-◌, ◌≤◌, ◌<◌, ◌≡◌, ◌&&◌, leb, length, get_or}
+use Rattle.std.specs.Prelude.{ℕ, ◌+◌, ◌-◌, ◌≤◌, ◌<◌, ◌≡◌, ◌&&◌, leb, length, drop, get_or, Some, None, unwrap_or}
+use Rattle.std.specs.Prelude as maybe
 use Rattle.std.proofs.Math.Path.{refl, ap, sym, subst}
-use Rattle.std.proofs.Common.{◌∙◌, ◌⊎◌, inl, inr, arith, length-append}
+use Rattle.std.proofs.Common.{◌∙◌, ◌⊎◌, inl, inr, arith}
 use mathlib.Core.List.{List, [], ◌∷◌, ◌++◌, map}
 use Rattle.std.proofs.Math.Option.{Option, some}
 use Rattle.std.proofs.Math.Dec.{T, ltb, leb→le, ltb→lt}
@@ -12,11 +13,15 @@ use Rattle.echo_spec.specs.Input.{Node}
 use Rattle.echo_spec.specs.TreeSorts.{TreeSort, bits, proper, width_of, rule_of, rule_for}
 use Rattle.echo_spec.specs.TreeSortLaws.{Met}
 use Rattle.blast_kernel.specs.Kinds.{shape_in}
+use Rattle.blast_kernel.specs.declared.Binary as binaries
+use Rattle.blast_kernel.specs.declared.Extension as extensions
+use Rattle.blast_kernel.specs.declared.Rotation as rotations
+use Rattle.blast_kernel.specs.declared.Unary as unaries
 use Rattle.blast_kernel.specs.declared.Shape as code
 use Rattle.blast_kernel.specs.declared.Shape.TheVariants as codes
 use Rattle.readback.specs.Rebuild.{fields, node_with}
 use Rattle.rebuilt.specs.Known.{have-eq}
-use Rattle.place_laws.specs.Widths.{result_width, first_width, second_width, few-operands, first-is, first-stays, second_is, second-stays}
+use Rattle.place_laws.specs.Widths.{result_width, first_width, second_width, few-operands}
 use Rattle.script_ends.specs.declared.Seen.{Seen}
 
 -- the shape of kind k, from that of the code
@@ -24,71 +29,64 @@ pub shape-at : (k : ℕ) {s r : code.Shape} → shape_in s ≡ shape_of k → s 
 shape-at k q e = sym q ∙ ap shape_in e
 
 -- only a rotation is one
-pub no-rotation : (k : ℕ) (s : code.Shape) → shape_in s ≡ shape_of k → (s ≡ codes.Rotation → ⊥) → shape_of k ≡ rotation → ⊥
+pub no-rotation : (k : ℕ) (s : code.Shape) → shape_in s ≡ shape_of k → ((o : rotations.Rotation) → s ≡ codes.Rotation o → ⊥) → shape_of k ≡ rotation → ⊥
 no-rotation k s q f e = apart s f (q ∙ e)
   where
-    apart : (r : code.Shape) → (r ≡ codes.Rotation → ⊥) → shape_in r ≡ rotation → ⊥
+    apart : (r : code.Shape) → ((o : rotations.Rotation) → r ≡ codes.Rotation o → ⊥) → shape_in r ≡ rotation → ⊥
     apart codes.Var g h = cc
     apart codes.Const g h = cc
-    apart codes.Binary g h = cc
-    apart codes.Rotation g h = g refl
+    apart (codes.Binary o) g h = cc
+    apart (codes.Rotation o) g h = g o refl
     apart codes.Extraction g h = cc
     apart codes.Concat g h = cc
-    apart codes.Extension g h = cc
+    apart (codes.Extension o) g h = cc
     apart codes.Ite g h = cc
-    apart codes.Comparison g h = cc
+    apart (codes.Comparison o) g h = cc
     apart codes.Negation g h = cc
-    apart codes.Connective g h = cc
-    apart codes.Unary g h = cc
+    apart (codes.Connective o) g h = cc
+    apart (codes.Unary o) g h = cc
     apart codes.Select g h = cc
     apart codes.Call g h = cc
     apart codes.Unknown g h = cc
 
 -- ---------------------------------------------------------------- widths
 
--- how many operands there were, and the widths of the first two
+-- the width of the first of some operands
+abbrev pub width_seen : List (Option TreeSort) → maybe.Option ℕ
+width_seen [] = None
+width_seen (o ∷ os) = Some (width_of o)
+
+-- the widths of the first two operands, as far as there were so many
 pub record SeenOf (v : Seen) (os : List (Option TreeSort)) : Type 0 where
-  pub count : v.count ≡ length os
-  pub first : v.first ≡ first_width os
-  pub second : v.second ≡ second_width os
+  pub first : v.first ≡ width_seen os
+  pub second : v.second ≡ width_seen (drop 1 os)
+
+pub seen-first-width : (os : List (Option TreeSort)) → unwrap_or (width_seen os) 0 ≡ first_width os
+seen-first-width [] = refl
+seen-first-width (o ∷ os) = refl
+
+pub seen-second-width : (os : List (Option TreeSort)) → unwrap_or (width_seen (drop 1 os)) 0 ≡ second_width os
+seen-second-width [] = refl
+seen-second-width (o ∷ []) = refl
+seen-second-width (o ∷ q ∷ os) = refl
 
 -- one operand more
 abbrev pub OneMore : Seen → ℕ → Seen → Type 0
 OneMore v w r = (os : List (Option TreeSort)) (o : Option TreeSort) → SeenOf v os → w ≡ width_of o → SeenOf r (os ++ (o ∷ []))
 
-snoc-count : (os : List (Option TreeSort)) (o : Option TreeSort) → length (os ++ (o ∷ [])) ≡ length os + 1
-snoc-count os o = length-append os (o ∷ [])
+pub seen_first : (v : Seen) (w : ℕ) → v.first ≡ None → OneMore v w (record { first = Some w; second = v.second })
+seen_first v w z [] o h e = record { first = ap Some e; second = h.second }
+seen_first v w z (x ∷ os) o h e = absurd (let f : ◌≡◌ {A = maybe.Option ℕ} None (Some (width_of x)) = sym z ∙ h.first in cc)
 
-pub seen_first : (v : Seen) (w : ℕ) → v.count ≡ 0 → OneMore v w (record { count = 1; first = w; second = v.second })
-seen_first v w z os o h e =
-    let l : length os ≡ 0 = sym h.count ∙ z in
-    record {
-      count = (let a = snoc-count os o in omega arith);
-      first = e ∙ sym (first-is os o l);
-      second = h.second ∙ sym (second-stays os o (λ m. omega arith));
-    }
+pub seen-second : (v : Seen) (w : ℕ) → (v.first ≡ None → ⊥) → v.second ≡ None → OneMore v w (record { first = v.first; second = Some w })
+seen-second v w y z [] o h e = absurd (y h.first)
+seen-second v w y z (x ∷ []) o h e = record { first = h.first; second = ap Some e }
+seen-second v w y z (x ∷ q ∷ os) o h e = absurd (let f : ◌≡◌ {A = maybe.Option ℕ} None (Some (width_of q)) = sym z ∙ h.second in cc)
 
-pub seen-second : (v : Seen) (w : ℕ) → v.count ≡ 1 → OneMore v w (record { count = 2; first = v.first; second = w })
-seen-second v w z os o h e =
-    let l : length os ≡ 1 = sym h.count ∙ z in
-    record {
-      count = (let a = snoc-count os o in omega arith);
-      first = h.first ∙ sym (first-stays os o (omega arith));
-      second = e ∙ sym (second_is os o l);
-    }
-
-pub seen_more : (v : Seen) (w : ℕ) → (v.count ≡ 0 → ⊥) → (v.count ≡ 1 → ⊥) → OneMore v w (record { count = v.count + 1; first = v.first; second = v.second })
-seen_more v w p q os o h e =
-    let c : v.count ≡ length os = h.count in
-    record {
-      count = (let a = snoc-count os o in omega arith);
-      first = h.first ∙ sym (first-stays os o (by_length os o (λ z. p (c ∙ z))));
-      second = h.second ∙ sym (second-stays os o (λ m. q (c ∙ m)));
-    }
-  where
-    by_length : (os : List (Option TreeSort)) (o : Option TreeSort) → (length os ≡ 0 → ⊥) → 0 < length os
-    by_length [] o f = absurd (f refl)
-    by_length (x ∷ os) o f = omega arith
+pub seen_more : (v : Seen) (w : ℕ) → (v.first ≡ None → ⊥) → (v.second ≡ None → ⊥) → OneMore v w v
+seen_more v w y z [] o h e = absurd (y h.first)
+seen_more v w y z (x ∷ []) o h e = absurd (z h.second)
+seen_more v w y z (x ∷ q ∷ os) o h e = record { first = h.first; second = h.second }
 
 -- ---------------------------------------------------------------- the width of an operator
 
@@ -126,32 +124,32 @@ module _ (k i j m n : ℕ) where
   unary-width e = width-at unary e
 
   -- a vector of the first operand's width
-  pub same-width : (s : code.Shape) → shape_in s ≡ shape_of k → (s ≡ codes.Binary) ⊎ ((s ≡ codes.Rotation) ⊎ (s ≡ codes.Unary)) → m ≡ result_width (shape_of k) i j m n
-  same-width s q (inl e) = binary-width (sym q ∙ ap shape_in e)
-  same-width s q (inr (inl e)) = rotation-width (sym q ∙ ap shape_in e)
-  same-width s q (inr (inr e)) = unary-width (sym q ∙ ap shape_in e)
+  pub same-width : (s : code.Shape) → shape_in s ≡ shape_of k → ((o : binaries.Binary) × (s ≡ codes.Binary o)) ⊎ (((o : rotations.Rotation) × (s ≡ codes.Rotation o)) ⊎ ((o : unaries.Unary) × (s ≡ codes.Unary o))) → m ≡ result_width (shape_of k) i j m n
+  same-width s q (inl (o, e)) = binary-width (sym q ∙ ap shape_in e)
+  same-width s q (inr (inl (o, e))) = rotation-width (sym q ∙ ap shape_in e)
+  same-width s q (inr (inr (o, e))) = unary-width (sym q ∙ ap shape_in e)
 
   -- every other shape gives a Bool, or nothing
-  bool-width : (s : code.Shape) → (s ≡ codes.Binary → ⊥) → (s ≡ codes.Rotation → ⊥) → (s ≡ codes.Extraction → ⊥) → (s ≡ codes.Concat → ⊥) → (s ≡ codes.Extension → ⊥) → (s ≡ codes.Ite → ⊥) → (s ≡ codes.Unary → ⊥)
+  bool-width : (s : code.Shape) → ((o : binaries.Binary) → s ≡ codes.Binary o → ⊥) → ((o : rotations.Rotation) → s ≡ codes.Rotation o → ⊥) → (s ≡ codes.Extraction → ⊥) → (s ≡ codes.Concat → ⊥) → ((o : extensions.Extension) → s ≡ codes.Extension o → ⊥) → (s ≡ codes.Ite → ⊥) → ((o : unaries.Unary) → s ≡ codes.Unary o → ⊥)
       → result_width (shape_in s) i j m n ≡ 0
   unfolding rule_of
   bool-width codes.Var a b c d e f g = refl
   bool-width codes.Const a b c d e f g = refl
-  bool-width codes.Binary a b c d e f g = absurd (a refl)
-  bool-width codes.Rotation a b c d e f g = absurd (b refl)
+  bool-width (codes.Binary o) a b c d e f g = absurd (a o refl)
+  bool-width (codes.Rotation o) a b c d e f g = absurd (b o refl)
   bool-width codes.Extraction a b c d e f g = absurd (c refl)
   bool-width codes.Concat a b c d e f g = absurd (d refl)
-  bool-width codes.Extension a b c d e f g = absurd (e refl)
+  bool-width (codes.Extension o) a b c d e f g = absurd (e o refl)
   bool-width codes.Ite a b c d e f g = absurd (f refl)
-  bool-width codes.Comparison a b c d e f g = refl
+  bool-width (codes.Comparison o) a b c d e f g = refl
   bool-width codes.Negation a b c d e f g = refl
-  bool-width codes.Connective a b c d e f g = refl
-  bool-width codes.Unary a b c d e f g = absurd (g refl)
+  bool-width (codes.Connective o) a b c d e f g = refl
+  bool-width (codes.Unary o) a b c d e f g = absurd (g o refl)
   bool-width codes.Select a b c d e f g = refl
   bool-width codes.Call a b c d e f g = refl
   bool-width codes.Unknown a b c d e f g = refl
 
-  pub other_width : (s : code.Shape) → shape_in s ≡ shape_of k → (s ≡ codes.Binary → ⊥) → (s ≡ codes.Rotation → ⊥) → (s ≡ codes.Extraction → ⊥) → (s ≡ codes.Concat → ⊥) → (s ≡ codes.Extension → ⊥) → (s ≡ codes.Ite → ⊥) → (s ≡ codes.Unary → ⊥)
+  pub other_width : (s : code.Shape) → shape_in s ≡ shape_of k → ((o : binaries.Binary) → s ≡ codes.Binary o → ⊥) → ((o : rotations.Rotation) → s ≡ codes.Rotation o → ⊥) → (s ≡ codes.Extraction → ⊥) → (s ≡ codes.Concat → ⊥) → ((o : extensions.Extension) → s ≡ codes.Extension o → ⊥) → (s ≡ codes.Ite → ⊥) → ((o : unaries.Unary) → s ≡ codes.Unary o → ⊥)
       → 0 ≡ result_width (shape_of k) i j m n
   other_width s q a b c d e f g = sym (bool-width s a b c d e f g) ∙ ap (λ (h : Shape). result_width h i j m n) q
 
@@ -205,20 +203,20 @@ no-fourth (x ∷ y ∷ z ∷ []) e = refl
 no-fourth (x ∷ y ∷ z ∷ w ∷ xs) e = absurd (omega arith)
 
 -- no other shape has anything but its operands in its record
-plain-fields : (s : code.Shape) (ks xs ms : List ℕ) → (s ≡ codes.Rotation → ⊥) → (s ≡ codes.Extraction → ⊥) → (s ≡ codes.Extension → ⊥) → fields (shape_in s) ks xs ms ≡ xs
+plain-fields : (s : code.Shape) (ks xs ms : List ℕ) → ((o : rotations.Rotation) → s ≡ codes.Rotation o → ⊥) → (s ≡ codes.Extraction → ⊥) → ((o : extensions.Extension) → s ≡ codes.Extension o → ⊥) → fields (shape_in s) ks xs ms ≡ xs
 unfolding fields
 plain-fields codes.Var ks xs ms p q r = refl
 plain-fields codes.Const ks xs ms p q r = refl
-plain-fields codes.Binary ks xs ms p q r = refl
-plain-fields codes.Rotation ks xs ms p q r = absurd (p refl)
+plain-fields (codes.Binary o) ks xs ms p q r = refl
+plain-fields (codes.Rotation o) ks xs ms p q r = absurd (p o refl)
 plain-fields codes.Extraction ks xs ms p q r = absurd (q refl)
 plain-fields codes.Concat ks xs ms p q r = refl
-plain-fields codes.Extension ks xs ms p q r = absurd (r refl)
+plain-fields (codes.Extension o) ks xs ms p q r = absurd (r o refl)
 plain-fields codes.Ite ks xs ms p q r = refl
-plain-fields codes.Comparison ks xs ms p q r = refl
+plain-fields (codes.Comparison o) ks xs ms p q r = refl
 plain-fields codes.Negation ks xs ms p q r = refl
-plain-fields codes.Connective ks xs ms p q r = refl
-plain-fields codes.Unary ks xs ms p q r = refl
+plain-fields (codes.Connective o) ks xs ms p q r = refl
+plain-fields (codes.Unary o) ks xs ms p q r = refl
 plain-fields codes.Select ks xs ms p q r = refl
 plain-fields codes.Call ks xs ms p q r = refl
 plain-fields codes.Unknown ks xs ms p q r = refl
@@ -259,7 +257,7 @@ module _ (k i j x y z amount : ℕ) (ks xs ms : List ℕ) (m : Made k i j x y z 
       let b : ks ≡ i ∷ [] = sym (numerals-are extension e) ∙ ap (λ (w : ℕ). w ∷ []) (sym m.first-numeral) in
       at-shape extension (node k x i 0) e (λ t. node_with k (a t ++ b t))
 
-  pub plain-record : (s : code.Shape) → shape_in s ≡ shape_of k → (s ≡ codes.Rotation → ⊥) → (s ≡ codes.Extraction → ⊥) → (s ≡ codes.Extension → ⊥) → Record (node k x y z)
+  pub plain-record : (s : code.Shape) → shape_in s ≡ shape_of k → ((o : rotations.Rotation) → s ≡ codes.Rotation o → ⊥) → (s ≡ codes.Extraction → ⊥) → ((o : extensions.Extension) → s ≡ codes.Extension o → ⊥) → Record (node k x y z)
   plain-record s e p q r =
       let l : length xs ≤ 3 = subst (λ (n : ℕ). n ≤ 3) (sym (counted (shape_of k) refl)) (few-operands (shape_of k) (get_or ks 0 0) (get_or ks 1 0) (first_width m.operands) (second_width m.operands)) in
       at-shape (shape_in s) (node k x y z) (sym e) (ap (node_with k) (plain-fields s ks xs ms p q r)

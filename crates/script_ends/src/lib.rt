@@ -13,39 +13,34 @@ ghost use Rattle.script_ends.specs.Parts.{OneMore, Made};
 ghost use Rattle.script_ends.specs.Ends.{EndedAs, Ending, Ends, OperatorOver, OperatorEnds, operator_item};
 
 use blast_kernel::Shape;
-use heap_laws::Heap;
+use heap_laws::{Heap, OverLimit};
 use lent::Node;
 use script_heap::{add_call, add_operator, add_select, operand, settle_all, settle_number};
 
-// How many operands there were, and the widths of the first two; a Bool has width 0.
+// The widths of the first two operands, as far as there were so many; a Bool has width 0.
 #[derive(Clone, Copy, Debug, PartialEq, Eq, Default)]
 pub struct Seen {
-    pub count: u64,
-    pub first: u64,
-    pub second: u64,
+    pub first: Option<u64>,
+    pub second: Option<u64>,
 }
 
 impl Seen {
-    // One operand more, of this width. Ruled out: the third operand's width in place of the second's; a count that stays.
+    // One operand more, of this width. Ruled out: the third operand's width in place of the second's; a first operand that is not kept.
     pub fn one_more(self, w: u64) -> Seen
-        requires { self.count < 65536 }
         ensures { OneMore self w result }
     {
-        match self.count {
-            0 => Seen {
-                count: 1,
-                first: w,
+        if self.first.is_none() {
+            Seen {
+                first: Some(w),
                 ..self
-            },
-            1 => Seen {
-                count: 2,
-                second: w,
+            }
+        } else if self.second.is_none() {
+            Seen {
+                second: Some(w),
                 ..self
-            },
-            n => Seen {
-                count: n + 1,
-                ..self
-            },
+            }
+        } else {
+            self
         }
     }
 }
@@ -65,22 +60,23 @@ pub fn result_width(o: Operator, m: u64, n: u64) -> u64
     ensures { result ≡ result_width (shape_of o.kind) o.first o.second m n }
 {
     match Shape::from(o.kind) {
-        Shape::Binary | Shape::Rotation | Shape::Unary => m,
+        Shape::Binary(_) | Shape::Rotation(_) | Shape::Unary(_) => m,
         Shape::Extraction => o.first - o.second + 1,
         Shape::Concat => m + n,
-        Shape::Extension => m + o.first,
+        Shape::Extension(_) => m + o.first,
         Shape::Ite => n,
         _ => 0,
     }
 }
 
+// Kept: a record's numbers in full, as the format has them for each shape, and no default of `Node` for those that are 0.
 // The record of an operator: its operands' nodes x, y and z, of which those past its last are 0, and the node of its amount.
 fn operator_record(o: Operator, x: u64, y: u64, z: u64, amount: u64) -> Node
     ensures { (result.kind ≡ o.kind) × ((ks xs ms : List ℕ) → Made o.kind o.first o.second x y z amount ks xs ms → node_with o.kind (fields (shape_of o.kind) ks xs ms) ≡ node_of result) }
 {
     let kind = o.kind;
     match Shape::from(kind) {
-        Shape::Rotation => Node {
+        Shape::Rotation(_) => Node {
             kind,
             a: x,
             b: amount,
@@ -94,7 +90,7 @@ fn operator_record(o: Operator, x: u64, y: u64, z: u64, amount: u64) -> Node
             c: x,
             d: 0,
         },
-        Shape::Extension => Node {
+        Shape::Extension(_) => Node {
             kind,
             a: x,
             b: o.first,
@@ -118,15 +114,20 @@ fn operand_or_zero(heap: &Heap, i: usize) -> u64
     requires { heap.now.top ≤ stack_size }
     ensures { (script : List ℕ) (refs : List Ref) (ys : List ℕ) (k : ℕ) → Stacked script heap.now (refs ++ map here ys) → i ≡ length refs + k → result ≡ get_or ys k 0 }
 {
-    if (i as u64) < heap.top {
-        operand(heap, i)
-    } else {
-        0
-    }
+    if i < heap.top { operand(heap, i) } else { 0 }
 }
 
+// Kept: script, heap and the place of the first operand as parameters. A struct of them would hold the heap to be changed, and be made anew for
+// each term that ends, for one call.
+
 // The end of an operator whose amount, if it has one, has its node.
-fn end_over(script: &[u8], heap: &mut Heap, base: usize, o: Operator, amount: u64) -> Option<u64>
+fn end_over(
+    script: &[u8],
+    heap: &mut Heap,
+    base: usize,
+    o: Operator,
+    amount: u64,
+) -> Result<u64, OverLimit>
     requires { Ends script.now heap.old base }
     ensures { (s : List Item) (refs rs : List Ref) (ks : List ℕ) (ms : List (List ℕ)) → Ending script.now heap.old base s refs rs
         → OperatorOver o.kind o.first o.second amount s ks ms (length rs)
@@ -142,14 +143,20 @@ fn end_over(script: &[u8], heap: &mut Heap, base: usize, o: Operator, amount: u6
 
 // The end of an operator whose operands wait from place `base` on; w is the first operand's width.
 // Ruled out: an amount as wide as its numeral needs; the constants among the operands before the amount.
-pub fn end_operator(script: &[u8], heap: &mut Heap, base: usize, o: Operator, w: u64) -> Option<u64>
+pub fn end_operator(
+    script: &[u8],
+    heap: &mut Heap,
+    base: usize,
+    o: Operator,
+    w: u64,
+) -> Result<u64, OverLimit>
     requires { Ends script.now heap.old base }
     ensures { (s : List Item) (refs rs : List Ref) (ks : List ℕ) (ms : List (List ℕ)) → Ending script.now heap.old base s refs rs
         → OperatorEnds o.kind o.first o.second w ks ms (length rs)
         → EndedAs script.now heap.new refs (ended (ms ++ pending_in rs) (operator_item o.kind ks rs ms) s) result }
 {
     match Shape::from(o.kind) {
-        Shape::Rotation => {
+        Shape::Rotation(_) => {
             let m = settle_number(heap, o.first, w)?;
             end_over(script, heap, base, o, m)
         }
@@ -159,7 +166,13 @@ pub fn end_operator(script: &[u8], heap: &mut Heap, base: usize, o: Operator, w:
 
 // The end of a call of function g, whose arguments wait from place `base` on.
 // Ruled out: the node before those of the constants among its arguments; another function's number.
-pub fn end_call(script: &[u8], heap: &mut Heap, base: usize, g: u64, width: u64) -> Option<u64>
+pub fn end_call(
+    script: &[u8],
+    heap: &mut Heap,
+    base: usize,
+    g: u64,
+    width: u64,
+) -> Result<u64, OverLimit>
     requires { Ends script.now heap.old base }
     ensures { (s : List Item) (refs rs : List Ref) → Ending script.now heap.old base s refs rs
         → EndedAs script.now heap.new refs (ended (pending_in rs) (λ node. a_call g width (map node rs)) s) result }
@@ -176,7 +189,7 @@ pub fn end_select(
     base: usize,
     stores: usize,
     array: u64,
-) -> Option<u64>
+) -> Result<u64, OverLimit>
     requires ends { Ends script.now heap.old base }
     requires stores { base + (2 * stores + 1) ≡ heap.old.top }
     ensures { (s : List Item) (refs rs : List Ref) → Ending script.now heap.old base s refs rs → length rs ≡ 2 * stores + 1

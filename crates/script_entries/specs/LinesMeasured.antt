@@ -1,18 +1,14 @@
 -- The table gets what the lines declare, a line at a time.
-use Rattle.std.specs.Prelude.{ℕ, ◌+◌, ◌-◌, ◌≤◌, ◌<◌, ◌≡◌, List, set}
-use Rattle.std.proofs.Common.{sym, ◌∙◌, subst, arith, length-set, get_or-set_same, get_or-set_other}
+use Rattle.std.specs.Prelude.{ℕ, ◌+◌, ◌-◌, ◌≤◌, ◌<◌, ◌≡◌, List}
+use Rattle.std.proofs.Common.{sym, subst, arith}
 use Rattle.reading.specs.Trees.{Declarations}
 use Rattle.rebuilt.specs.Built.{variable_at, array_at, function_at}
 use Rattle.script_header.specs.declared.Header.{Header}
 use Rattle.script_names.specs.declared.Table.{Table}
 use Rattle.script_names.specs.declared.Measure.{Measure}
-use Rattle.script_names.specs.Entries.{no_measure, measure_of}
-use Rattle.script_names.specs.Laws.{all_more, tabled-kept}
+use Rattle.script_names.specs.Entries.{measure_of}
+use Rattle.script_names.specs.Laws.{all_more, noted, tabled-kept, measure-own, measure-other}
 use Rattle.script_entries.specs.Entries.{variables_of, arrays_of, names_of, ArgumentsAt, Measured, KnownTo, Known}
-
--- the numbers of line k written
-abbrev pub noted : Table → ℕ → Measure → Table
-noted t k x = record t { measures = set t.measures k x }
 
 measured-as : {s : List ℕ} {h : Header} {D : Declarations} {k : ℕ} {x u : Measure} → x ≡ u → Measured s h D k u.first u.second → Measured s h D k x.first x.second
 measured-as {s} {h} {D} {k} p m = subst (λ (i : Measure). Measured s h D k i.first i.second) (sym p) m
@@ -28,11 +24,11 @@ known_more {k} {s} {t} {h} {D} x κ l m = record {
   arrays = κ.arrays;
   functions = κ.functions;
   names = κ.names;
-  tabled = tabled-kept (set t.measures k x) (length-set t.measures k x ∙ κ.tabled.long.measures) κ.tabled;
+  tabled = tabled-kept t k x (omega (arith, κ.tabled.long.lines)) κ.tabled;
   declarable = κ.declarable;
   measured = λ few. all_more (λ j. Measured s h D j (measure_of (noted t k x) j).first (measure_of (noted t k x) j).second) k
-      (λ j p. measured-as (get_or-set_other t.measures k j x no_measure (λ e. omega arith)) (κ.measured few j p))
-      (measured-as (get_or-set_same t.measures k x no_measure (omega (arith, κ.tabled.long.measures))) m);
+      (λ j p. measured-as (measure-other t k x (omega (arith, κ.tabled.long.lines)) j (λ e. omega arith)) (κ.measured few j p))
+      (measured-as (measure-own t k x (omega (arith, κ.tabled.long.lines))) m);
 }
 
 -- every line

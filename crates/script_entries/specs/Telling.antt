@@ -1,23 +1,28 @@
 -- What is read at a line's place is told of the entry that the line declares.
 use Rattle.std.specs.Prelude.{ℕ, suc, ◌+◌, ◌-◌, ◌≤◌, ◌<◌, ◌≡◌, List, [], ◌∷◌, ◌++◌, true, length, drop}
-use Rattle.std.specs.Prelude.{Option as Maybe, Some, None, unwrap_or}
+use Rattle.std.specs.Prelude.{Some, None}
 use Rattle.std.proofs.Common.{ap, sym, ◌∙◌, subst, append_assoc, arith, length-append, length-drop, drop-drop}
 use Rattle.std.proofs.Math.Option.{none, some}
 use Rattle.std.proofs.Math.Seq.{drop-append_seam}
 use Rattle.lists.specs.Tests.{same, same→eq, true→T}
 use Rattle.reading.specs.Trees.{Name, Variable, Array, Function, Declarations}
-use Rattle.readback.specs.Reader.{took, name_read}
+use Rattle.readback.specs.Reader.{took}
 use Rattle.rebuilt.specs.Built.{variable_at, array_at, function_at}
 use Rattle.script_header.specs.declared.Header.{Header}
 use Rattle.script_names.specs.declared.Table.{Table}
-use Rattle.script_tokens.specs.Reached.{between, NameTo}
+use Rattle.script_tokens.specs.Reached.{between}
 use Rattle.script_names.specs.Entries.{after_bar, entry_from, name_here, name_at, Named, Tabled, Sought}
-use Rattle.script_names.specs.Laws.{after-place, taken, between-length}
-use Rattle.script_decls.specs.Lines.{variable_tail, array_tail_of, function_tail}
+use Rattle.script_names.specs.Laws.{taken, between-length}
+use Rattle.script_names.specs.declared.Measure.{Measure}
+use Rattle.script_decls.specs.declared.Stage.{Stage}
+use Rattle.script_decls.specs.declared.Stage.TheVariants.{Variables, Arrays, Functions}
+use Rattle.script_decls.specs.Lines.{LineType, stage_number, tail_of, variable_tail, array_tail_of, function_tail}
+use Rattle.script_decls.specs.Told.{Tells}
 use Rattle.script_entries.specs.declared.Entry.{Entry}
 use Rattle.script_entries.specs.declared.Entry.TheVariants.{Variable as VariableEntry, Array as ArrayEntry, Function as FunctionEntry}
-use Rattle.script_entries.specs.Entries.{first_of, variables_of, arrays_of, names_of, Measured, KnownTo, ArgumentsAt, Numbers, EntryIs, EntryOf}
+use Rattle.script_entries.specs.Entries.{first_of, variables_of, arrays_of, names_of, Measured, KnownTo, Within, ArgumentsAt, Numbers, EntryIs, EntryOf}
 use Rattle.script_entries.specs.Lined.{DeclaredLines, declared-lines}
+use Rattle.script_entries.specs.Widths.{arguments-at}
 use Rattle.script_entries.specs.Finding.{no-numbers, variable-numbers, array-numbers, function-numbers}
 
 -- ---------------------------------------------------------------- the place after a name
@@ -37,9 +42,6 @@ module _ {s : List ℕ} {first : ℕ} {t : Table} {c : ℕ} (x : Tabled s first 
         let v = length-drop p s in omega (arith, v, d, l, m),
         sym (drop-drop (f - a) p s) ∙ ap (drop (f - a)) w ∙ ap (λ (i : ℕ). drop i ((name_here b ++ (124 ∷ [])) ++ r)) (sym l) ∙ drop-append_seam (name_here b ++ (124 ∷ [])) r ∙ sym t.after,
       )
-
-  pub line_after : (r : Maybe ℕ) → NameTo s p (name_read (drop p s)) r → (unwrap_or r (length s) ≤ length s) × (drop (unwrap_or r (length s)) s ≡ after_bar (entry_from k (drop first s)))
-  line_after r h = let y = after-place s p r h in (y.0, y.1 ∙ ap after_bar here)
 
 -- ---------------------------------------------------------------- the entry of a line
 
@@ -70,14 +72,14 @@ module _ {m : ℕ} {s : List ℕ} {t : Table} {h : Header} {D : Declarations} (�
         f (function_at D i).name (function_at D i) z (ap (function_tail (function_at D i).name) (here ∙ ap (λ (j : ℕ). after (j + i)) y) ∙ q)
 
   module _ (k e : ℕ) (here : drop e s ≡ after k) where
-    pub variable-measured : k < variables_of h → {w y : ℕ} → ((n : Name) (v : Variable) (z : List ℕ) → variable_tail n (drop e s) ≡ took v z → v.width ≡ w) → Measured s h D k w y
+    variable-measured : k < variables_of h → {w y : ℕ} → ((n : Name) (v : Variable) (z : List ℕ) → variable_tail n (drop e s) ≡ took v z → v.width ≡ w) → Measured s h D k w y
     variable-measured l f = record {
       variable = λ m. variable-told k e l here f;
       array = λ o m. absurd (omega arith);
       function = λ o. absurd (omega (arith, κ.arrays));
     }
 
-    pub array-measured : variables_of h ≤ k → k < arrays_of h → {x v : ℕ} → ((n : Name) (a : Array) (z : List ℕ) → array_tail_of n (drop e s) ≡ took a z → (a.index ≡ x) × (a.value ≡ v))
+    array-measured : variables_of h ≤ k → k < arrays_of h → {x v : ℕ} → ((n : Name) (a : Array) (z : List ℕ) → array_tail_of n (drop e s) ≡ took a z → (a.index ≡ x) × (a.value ≡ v))
         → Measured s h D k x v
     array-measured o l f =
         let y : k ≡ variables_of h + (k - variables_of h) = omega arith in
@@ -87,7 +89,7 @@ module _ {m : ℕ} {s : List ℕ} {t : Table} {h : Header} {D : Declarations} (�
           function = λ p. absurd (omega arith);
         }
 
-    pub function-measured : arrays_of h ≤ k → k < names_of h → {p w : ℕ} → ((n : Name) (g : Function) (z : List ℕ) → function_tail n (drop e s) ≡ took g z → ArgumentsAt s p g.arguments × (g.width ≡ w))
+    function-measured : arrays_of h ≤ k → k < names_of h → {p w : ℕ} → ((n : Name) (g : Function) (z : List ℕ) → function_tail n (drop e s) ≡ took g z → ArgumentsAt s p g.arguments × (g.width ≡ w))
         → Measured s h D k p w
     function-measured o l f =
         let y : k ≡ arrays_of h + (k - arrays_of h) = omega arith in
@@ -96,6 +98,13 @@ module _ {m : ℕ} {s : List ℕ} {t : Table} {h : Header} {D : Declarations} (�
           array = λ p m. absurd (omega arith);
           function = λ p. function-told (k - arrays_of h) e (omega arith) (here ∙ ap after y) f;
         }
+
+    -- by the line's stage
+    pub stage-measured : (S : Stage) → Within h k S → k < names_of h → {x : Measure}
+        → ((n : Name) (v : LineType (stage_number S)) (z : List ℕ) → tail_of (stage_number S) n (drop e s) ≡ took v z → Tells (stage_number S) s x v) → Measured s h D k x.first x.second
+    stage-measured Variables l i f = variable-measured l f
+    stage-measured Arrays l i f = array-measured l.0 l.1 f
+    stage-measured Functions l i f = function-measured l i (λ n g z r. (let w = f n g z r in (arguments-at w.0, w.1)))
 
   -- ---------------------------------------------------------------- the entry of a name
 

@@ -1,4 +1,4 @@
--- Laws of the rest of a line after its name, a step at a time: what is read of it belongs to the entry.
+-- Laws of the sorts of arguments, a step at a time: what is read of them belongs to the entry.
 use Rattle.std.specs.Prelude.{ℕ, suc, ◌+◌, ◌≤◌, ◌<◌, ◌≡◌, Bool, true, false, eqb, length, get_or}
 use Rattle.std.specs.Prelude.{Option as Maybe, Some, None}
 use Rattle.std.proofs.Math.Path.{refl, ap, sym, subst}
@@ -8,7 +8,6 @@ use Rattle.std.proofs.Math.Option.{Option, none}
 use Rattle.std.proofs.Math.ListN.{drop, drop_of_length-le}
 use Rattle.lists.specs.Bytes.{bytes}
 use Rattle.lists.specs.Tests.{no→false}
-use Rattle.reading.specs.Trees.{Name, Variable, Array, Function}
 use Rattle.echo_spec.specs.Input.{largest}
 use Rattle.readback.specs.Reader.{Took, took, and_then, expect}
 use Rattle.readback.specs.ScriptReader.{read_sort, separator}
@@ -16,52 +15,20 @@ use Rattle.reader_laws.specs.TermsStrict.{impossible, and-then, took-both}
 use Rattle.script_tokens.specs.Reached.{Numbered}
 use Rattle.script_tokens.specs.Stretches.{bytes-at}
 use Rattle.script_tokens.specs.declared.Number.{Number}
-use Rattle.script_decls.specs.Lines.{LineType, sort_in, sorts_in, variable_tail, array_tail_of, function_tail, tail_of, TailTo}
-use Rattle.script_decls.specs.Tails.{SortsAt, sort-less}
+use Rattle.script_decls.specs.Lines.{sort_in, sorts_in}
+use Rattle.script_decls.specs.Tails.{sort-less}
+use Rattle.script_decls.specs.Told.{SortsFrom}
 use Rattle.script_entries.specs.Entries.{ArgumentsAt, NextArgument}
 
--- a line that is there is not refused
-pub no-tail : (k : ℕ) (s : List ℕ) (f : ℕ) {P : Type 0} → TailTo k s f None → (n : Name) (x : LineType k) (z : List ℕ) → tail_of k n (drop f s) ≡ took x z → P
-no-tail k s f h n x z e = absurd (impossible (sym (h n) ∙ e))
-
--- ---------------------------------------------------------------- widths
-
-pub variable-width : (s : List ℕ) (f a w e : ℕ) → expect (bytes " ") (drop f s) ≡ took [] (drop a s) → sort_in largest (drop a s) ≡ took w (drop e s)
-    → (n : Name) (v : Variable) (z : List ℕ) → variable_tail n (drop f s) ≡ took v z → v.width ≡ w
-unfolding variable_tail and_then
-variable-width s f a w e h g n v z q =
-    let r : and_then (expect (bytes ")\n") (drop e s)) (λ _ z. took (record { name = n; width = w }) z) ≡ took v z = rw (h, g) at q in
-    let (u, x, e₁, g₁) = and-then (expect (bytes ")\n") (drop e s)) (λ _ z. took (record { name = n; width = w }) z) v z r in
-    ap (λ (y : Variable). y.width) (sym (took-both {A = Variable} (record { name = n; width = w }) v x z g₁).0)
-
-pub array-widths : (s : List ℕ) (f a i b d v e : ℕ) → expect (bytes " (Array ") (drop f s) ≡ took [] (drop a s) → sort_in 65536 (drop a s) ≡ took i (drop b s)
-    → expect (bytes " ") (drop b s) ≡ took [] (drop d s) → sort_in 65536 (drop d s) ≡ took v (drop e s)
-    → (n : Name) (x : Array) (z : List ℕ) → array_tail_of n (drop f s) ≡ took x z → (x.index ≡ i) × (x.value ≡ v)
-unfolding array_tail_of and_then
-array-widths s f a i b d v e h₁ h₂ h₃ h₄ n x z q =
-    let r : and_then (expect (bytes "))\n") (drop e s)) (λ _ z. took (record { name = n; index = i; value = v }) z) ≡ took x z = rw (h₁, h₂, h₃, h₄) at q in
-    let (u, y, e₁, g₁) = and-then (expect (bytes "))\n") (drop e s)) (λ _ z. took (record { name = n; index = i; value = v }) z) x z r in
-    let m = (took-both {A = Array} (record { name = n; index = i; value = v }) x y z g₁).0 in
-    (ap (λ (y : Array). y.index) (sym m), ap (λ (y : Array). y.value) (sym m))
-
-pub function-signature : (s : List ℕ) (f a b d w e : ℕ) → a ≤ length s → expect (bytes " (") (drop f s) ≡ took [] (drop a s) → SortsAt true s a b
-    → expect (bytes " ") (drop b s) ≡ took [] (drop d s) → sort_in largest (drop d s) ≡ took w (drop e s)
-    → (n : Name) (g : Function) (z : List ℕ) → function_tail n (drop f s) ≡ took g z → ArgumentsAt s a g.arguments × (g.width ≡ w)
-unfolding function_tail and_then
-function-signature s f a b d w e l h₁ h₂ h₃ h₄ n g z q =
-    let k = h₂.read (suc (length (drop a s))) (omega arith) in
-    let r : and_then (expect (bytes ")\n") (drop e s)) (λ _ z. took (record { name = n; arguments = h₂.value; width = w }) z) ≡ took g z = rw (h₁, k, h₃, h₄) at q in
-    let (u, y, e₁, g₁) = and-then (expect (bytes ")\n") (drop e s)) (λ _ z. took (record { name = n; arguments = h₂.value; width = w }) z) g z r in
-    let m = (took-both {A = Function} (record { name = n; arguments = h₂.value; width = w }) g y z g₁).0 in (
-      record {
-        begin = l;
-        first = true;
-        end = b;
-        inside = h₂.high;
-        read = λ i p. h₂.read i (let x = length-drop a s in omega arith) ∙ ap (λ (ws : List ℕ). took ws (drop b s)) (ap (λ (y : Function). y.arguments) m);
-      },
-      ap (λ (y : Function). y.width) (sym m),
-    )
+-- sorts that are read from their beginning on
+pub arguments-at : {s : List ℕ} {p : ℕ} {ws : List ℕ} → SortsFrom s p ws → ArgumentsAt s p ws
+arguments-at {s} {p} {ws} h = record {
+  begin = h.low;
+  first = true;
+  end = h.end;
+  inside = h.sorts.high;
+  read = λ f l. h.sorts.read f (let x = length-drop p s in omega arith) ∙ ap (λ (us : List ℕ). took us (drop h.end s)) h.widths;
+}
 
 -- ---------------------------------------------------------------- one argument
 

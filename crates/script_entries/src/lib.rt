@@ -4,18 +4,19 @@
 
 ghost use Rattle.std.specs.Prelude.{◌≡◌, List, ℕ, ◌+◌, ◌-◌, ◌≤◌, ◌<◌, length, drop};
 ghost use Rattle.script_names.specs.declared.Table.{Table};
-ghost use Rattle.reading.specs.Trees.{Name, Variable, Array, Function, Declarations};
+ghost use Rattle.reading.specs.Trees.{Name, Declarations};
 ghost use Rattle.readback.specs.Reader.{took};
 ghost use Rattle.rebuilt.specs.Built.{variable_at, array_at, function_at};
 ghost use Rattle.script_tokens.specs.Reached.{between};
 ghost use Rattle.script_names.specs.Entries.{after_bar, entry_from, Named, Tabled};
-ghost use Rattle.script_decls.specs.Lines.{variable_tail, array_tail_of, function_tail};
-ghost use Rattle.script_entries.specs.Entries.{first_of, variables_of, arrays_of, names_of, Measured, KnownTo, Entered, Known, Declares, ArgumentsAt, NextArgument, EntryIs, EntryOf};
+ghost use Rattle.script_decls.specs.Lines.{LineType, stage_number, tail_of};
+ghost use Rattle.script_decls.specs.Told.{Tells};
+ghost use Rattle.script_entries.specs.Entries.{first_of, variables_of, arrays_of, names_of, Measured, KnownTo, Entered, Known, Within, Declares, ArgumentsAt, NextArgument, EntryIs, EntryOf};
 
-use script_decls::{sort_in, sorts_end};
+use script_decls::{Stage, sort_in, tail};
 use script_header::Header;
-use script_names::{Declared, LINES, Measure, Table, find_line};
-use script_tokens::{Number, literal, name_end};
+use script_names::{Declared, LINES, Measure, Table, UNREAD, after_bar, find_line};
+use script_tokens::Number;
 
 // The widths of an array.
 #[derive(Clone, Copy, Debug, PartialEq, Eq)]
@@ -40,86 +41,13 @@ pub enum Entry {
 }
 
 // A script whose header was read: its bytes, the table of its names with what each line declares, and the header's numbers.
-// Kept: that it declares something stands in the contracts and is no ghost field, whose type may not hold what is declared.
+// Kept: that it declares something stands in the contracts. A ghost field has to be truncated, and was tried: `find_line` asks for the table's
+// facts, which a truncated one does not give back.
 #[derive(Clone, Copy)]
 pub struct Script<'a> {
     pub text: &'a [u8],
     pub table: &'a Table,
     pub header: Header,
-}
-
-// ---------------------------------------------------------------- the rest of a line after its name
-
-// The width of a variable, after its name.
-fn variable_width(s: &[u8], f: usize) -> u64
-    requires { f ≤ length s.now }
-    ensures { (n : Name) (v : Variable) (z : List ℕ) → variable_tail n (drop f s.now) ≡ took v z → v.width ≡ result }
-{
-    let Some(a) = literal(s, f, b" ") else {
-        return 0;
-    };
-    let Some(width) = sort_in(s, a, u64::MAX) else {
-        return 0;
-    };
-    width.value
-}
-
-// The widths of an array, after its name.
-fn array_widths(s: &[u8], f: usize) -> Widths
-    requires { f ≤ length s.now }
-    ensures { (n : Name) (x : Array) (z : List ℕ) → array_tail_of n (drop f s.now) ≡ took x z → (x.index ≡ result.index) × (x.value ≡ result.value) }
-{
-    let Some(a) = literal(s, f, b" (Array ") else {
-        return Widths { index: 0, value: 0 };
-    };
-    let Some(index) = sort_in(s, a, 65536) else {
-        return Widths { index: 0, value: 0 };
-    };
-    let Some(d) = literal(s, index.end, b" ") else {
-        return Widths { index: 0, value: 0 };
-    };
-    let Some(value) = sort_in(s, d, 65536) else {
-        return Widths { index: 0, value: 0 };
-    };
-    Widths {
-        index: index.value,
-        value: value.value,
-    }
-}
-
-// The arguments and the width of a function, after its name.
-fn function_signature(s: &[u8], f: usize) -> Signature
-    requires { f ≤ length s.now }
-    ensures { (n : Name) (g : Function) (z : List ℕ) → function_tail n (drop f s.now) ≡ took g z → ArgumentsAt s.now result.arguments g.arguments × (g.width ≡ result.width) }
-{
-    let Some(a) = literal(s, f, b" (") else {
-        return Signature {
-            arguments: 0,
-            width: 0,
-        };
-    };
-    let Some(b) = sorts_end(s, a) else {
-        return Signature {
-            arguments: 0,
-            width: 0,
-        };
-    };
-    let Some(d) = literal(s, b, b" ") else {
-        return Signature {
-            arguments: 0,
-            width: 0,
-        };
-    };
-    let Some(width) = sort_in(s, d, u64::MAX) else {
-        return Signature {
-            arguments: 0,
-            width: 0,
-        };
-    };
-    Signature {
-        arguments: a,
-        width: width.value,
-    }
 }
 
 // The width of the next argument and the place after its sort, or that there is none. Ruled out: the width of the argument after it; a
@@ -128,10 +56,7 @@ pub fn next_argument(s: &[u8], p: usize) -> Option<Number>
     requires { p ≤ length s.now }
     ensures { (ws : List ℕ) → ArgumentsAt s.now p ws → NextArgument s.now p ws result }
 {
-    if p >= s.len() {
-        return None;
-    }
-    if s[p] == b')' {
+    if p >= s.len() || s[p] == b')' {
         return None;
     }
     if s[p] == b' ' {
@@ -144,11 +69,35 @@ pub fn next_argument(s: &[u8], p: usize) -> Option<Number>
 
 // The place after the name of line k, which the table has.
 fn after_name(s: &[u8], t: &Table, k: usize) -> usize
-    requires { (first : ℕ) × (c : ℕ) × Tabled s.now first t.now c × (k < c) × (c ≤ 1536) }
+    requires { (first : ℕ) × (c : ℕ) × Tabled s.now first t.now c × (k < c) × (c ≤ LINES) }
     ensures { (result ≤ length s.now)
-        × ((first c : ℕ) → Tabled s.now first t.now c → k < c → c ≤ 1536 → drop result s.now ≡ after_bar (entry_from k (drop first s.now))) }
+        × ((first c : ℕ) → Tabled s.now first t.now c → k < c → c ≤ LINES → drop result s.now ≡ after_bar (entry_from k (drop first s.now))) }
 {
-    name_end(s, t.lines[k].place).unwrap_or(s.len())
+    after_bar(s, t.lines[k].place)
+}
+
+// The stage that line k is of.
+fn stage_of(h: &Header, k: usize) -> Stage
+    ensures { Within h.now k result }
+{
+    if k < h.variables {
+        return Stage::Variables;
+    }
+    if k < h.arrays {
+        return Stage::Arrays;
+    }
+    Stage::Functions
+}
+
+// What a line of a stage tells, whose name ends before place e.
+fn told(stage: Stage, s: &[u8], e: usize) -> Measure
+    requires { e ≤ length s.now }
+    ensures { (n : Name) (x : LineType (stage_number stage)) (z : List ℕ) → tail_of (stage_number stage) n (drop e s.now) ≡ took x z → Tells (stage_number stage) s.now result x }
+{
+    match tail(stage, s, e) {
+        Some(rest) => rest.measure,
+        None => UNREAD,
+    }
 }
 
 // What line k declares, whose name ends before place e.
@@ -157,24 +106,7 @@ fn measure_after(s: &[u8], h: &Header, k: usize, e: usize) -> Measure
     ensures { (m : ℕ) (t : Table) (D : Declarations) → KnownTo m s.now t h.now D → k < names_of h.now
         → drop e s.now ≡ after_bar (entry_from k (drop (first_of h.now) s.now)) → Measured s.now h.now D k result.first result.second }
 {
-    if k < h.variables {
-        return Measure {
-            first: variable_width(s, e),
-            second: 0,
-        };
-    }
-    if k < h.arrays {
-        let x = array_widths(s, e);
-        return Measure {
-            first: x.index,
-            second: x.value,
-        };
-    }
-    let g = function_signature(s, e);
-    Measure {
-        first: g.arguments as u64,
-        second: g.width,
-    }
+    told(stage_of(h, k), s, e)
 }
 
 // The table gets what each line declares, so that a use of a name need not read its line again; of more lines than the table holds it gets
@@ -189,7 +121,7 @@ pub fn measure_lines(s: &[u8], t: &mut Table, h: &Header)
     for k in 0..h.names {
         let e = after_name(s, t, k);
         let x = measure_after(s, h, k, e);
-        t.measures[k] = x;
+        t.lines[k].measure = x;
     }
 }
 
@@ -199,42 +131,40 @@ pub fn measure_lines(s: &[u8], t: &mut Table, h: &Header)
 fn entry_by(h: &Header, k: usize, x: Measure) -> Entry
     ensures { (s : List ℕ) (D : Declarations) → Measured s h.now D k x.first x.second → EntryOf s h.now D k result }
 {
-    if k < h.variables {
-        return Entry::Variable(k, x.first);
-    }
-    if k < h.arrays {
-        return Entry::Array(
+    match stage_of(h, k) {
+        Stage::Variables => Entry::Variable(k, x.first),
+        Stage::Arrays => Entry::Array(
             k - h.variables,
             Widths {
                 index: x.first,
                 value: x.second,
             },
-        );
+        ),
+        Stage::Functions => Entry::Function(
+            k - h.arrays,
+            Signature {
+                arguments: x.first as usize,
+                width: x.second,
+            },
+        ),
     }
-    Entry::Function(
-        k - h.arrays,
-        Signature {
-            arguments: x.first as usize,
-            width: x.second,
-        },
-    )
 }
 
 impl<'a> Script<'a> {
     // The width of variable k, of a script with at most 1,536 names. Ruled out: that of the variable after it; that of variable 0.
     pub fn variable_at(&self, k: usize) -> u64
-        requires { ((D : Declarations) × Declares self.now D) × (names_of self.now.header ≤ 1536) × (k < variables_of self.now.header) }
+        requires { ((D : Declarations) × Declares self.now D) × (names_of self.now.header ≤ LINES) × (k < variables_of self.now.header) }
         ensures { (D : Declarations) → Declares self.now D → (variable_at D k).width ≡ result }
     {
-        self.table.measures[k].first
+        self.table.lines[k].measure.first
     }
 
     // The widths of array k. Ruled out: the two exchanged; those of the variable with the same number.
     pub fn array_at(&self, k: usize) -> Widths
-        requires { ((D : Declarations) × Declares self.now D) × (names_of self.now.header ≤ 1536) × (variables_of self.now.header + k < arrays_of self.now.header) }
+        requires { ((D : Declarations) × Declares self.now D) × (names_of self.now.header ≤ LINES) × (variables_of self.now.header + k < arrays_of self.now.header) }
         ensures { (D : Declarations) → Declares self.now D → ((array_at D k).index ≡ result.index) × ((array_at D k).value ≡ result.value) }
     {
-        let x = self.table.measures[self.header.variables + k];
+        let x = self.table.lines[self.header.variables + k].measure;
         Widths {
             index: x.first,
             value: x.second,
@@ -243,11 +173,11 @@ impl<'a> Script<'a> {
 
     // The arguments and the width of function g. Ruled out: the width of the last argument; the place of the sort of the result.
     pub fn function_at(&self, g: usize) -> Signature
-        requires { ((D : Declarations) × Declares self.now D) × (names_of self.now.header ≤ 1536) × (arrays_of self.now.header + g < names_of self.now.header) }
+        requires { ((D : Declarations) × Declares self.now D) × (names_of self.now.header ≤ LINES) × (arrays_of self.now.header + g < names_of self.now.header) }
         ensures { (D : Declarations) → Declares self.now D
             → ArgumentsAt self.now.text.now result.arguments (function_at D g).arguments × ((function_at D g).width ≡ result.width) }
     {
-        let x = self.table.measures[self.header.arrays + g];
+        let x = self.table.lines[self.header.arrays + g].measure;
         Signature {
             arguments: x.first as usize,
             width: x.second,
@@ -270,6 +200,6 @@ impl<'a> Script<'a> {
             let x = measure_after(self.text, &self.header, k, found.place + (f - a));
             return Some(entry_by(&self.header, k, x));
         }
-        Some(entry_by(&self.header, k, self.table.measures[k]))
+        Some(entry_by(&self.header, k, self.table.lines[k].measure))
     }
 }

@@ -1,5 +1,5 @@
 -- The names of lines, written one after the other; and the lines of a known table.
-use Prim.Native.Nat.{ℕ, zero, suc, ◌+◌, ◌-◌, ◌≤◌, ◌<◌, min}
+use Prim.Native.Nat.{ℕ, zero, suc, ◌+◌, ◌-◌, ◌≤◌, ◌<◌}
 use Rattle.std.specs.Prelude.{◌≡◌, Bool, length, drop, set}
 use Rattle.std.proofs.Math.Path.{refl, ap}
 use Rattle.std.proofs.Common.{sym, ◌∙◌, subst, ext_get_or}
@@ -24,7 +24,6 @@ use Rattle.script_tokens.specs.Reached.{between, Stretch, ends_name}
 use Rattle.script_names.specs.Entries.{name_here, name_at, place_of}
 use Rattle.script_names.specs.declared.Table.{Table}
 use Rattle.script_header.specs.declared.Header.{Header}
-use Rattle.script_names.specs.Laws.{between-length}
 use Rattle.script_entries.specs.Entries.{first_of, variables_of, arrays_of, names_of, Known}
 use Rattle.script_entries.specs.Finding.{variable-name, array-name, function-name}
 use Rattle.script_fill.specs.Filling.{line_name, line_names, Lines, Few, NamesFit, NamesFilled, VariablesFit, ArraysFit, FunctionsFit}
@@ -72,14 +71,10 @@ module _ (s : List ℕ) (t : Table) (from : ℕ) where
   pub arena-grows : (c e : ℕ) → c ≤ e → length (arena (names c)) ≤ length (arena (names e))
   arena-grows c e l = let z : c + (e - c) ≡ e = omega arith in subst (λ (k : ℕ). length (arena (names c)) ≤ length (arena (names k))) z (arena-on c (e - c))
 
-  -- the bytes up to the bar are the name
-  module _ (p e : ℕ) (st : Stretch ends_name s p e) where
-    pub stretch-name : name_here (drop p s) ≡ between s p e
-    unfolding name_here
-    stretch-name = ap (λ (x : Took (List ℕ)). x.value) st.read
-
-    pub stretch-long : length (name_here (drop p s)) ≡ e - p
-    stretch-long = ap length stretch-name ∙ between-length s p e st.low st.high
+-- the bytes of a line up to the bar are its name
+pub name-between : {s : List ℕ} (t : Table) (k : ℕ) {p e : ℕ} → p ≡ place_of t k → Stretch ends_name s p e → between s p e ≡ line_name s t k
+unfolding name_here
+name-between {s} t k here st = sym (ap (λ (i : ℕ). name_here (drop i s)) (sym here) ∙ ap (λ (x : Took (List ℕ)). x.value) st.read)
 
 -- ---------------------------------------------------------------- measuring them
 
@@ -93,21 +88,20 @@ unfolding line_names arena
 summed-none s t from = record { size = refl; few = omega arith }
 
 module _ {s : List ℕ} {t : Table} {from i n : ℕ} (x : Summed s t from i n) where
-  module _ {p q : ℕ} (here : p ≡ place_of t (from + i)) (st : Stretch ends_name s p q) where
-    size-next : length (arena (line_names s t from (i + 1))) ≡ n + (q - p)
-    size-next =
-        let y = arena-next s t from i in
-        let z : length (line_name s t (from + i)) ≡ q - p = ap (λ (k : ℕ). length (name_here (drop k s))) (sym here) ∙ stretch-long s t from p q st in
-        omega (arith, x.size)
+  module _ {part : List ℕ} (is : part ≡ line_name s t (from + i)) where
+    size-next : length (arena (line_names s t from (i + 1))) ≡ n + length part
+    size-next = let y = arena-next s t from i in omega (arith, x.size, ap length is)
 
-    pub summed_more : n + (q - p) ≤ 16384 → Summed s t from (i + 1) (n + (q - p))
+    pub summed_more : n + length part ≤ 16384 → Summed s t from (i + 1) (n + length part)
     summed_more l = record { size = sym size-next; few = l }
 
-    pub summed-over : {count : ℕ} → i < count → 16384 - n < q - p → 16385 ≡ min (length (arena (line_names s t from count))) 16385
-    summed-over {count} l o = let y = arena-grows s t from (i + 1) count (omega arith) in let z = size-next in omega (arith, x.few)
+    pub summed-over : {count : ℕ} → i < count → 16384 - n < length part → length (arena (line_names s t from count)) ≤ 16384 → ⊥
+    summed-over {count} l o m = let y = arena-grows s t from (i + 1) count (omega arith) in let z = size-next in omega (arith, x.few)
 
-  pub summed_all : {count : ℕ} → i ≡ count → n ≡ min (length (arena (line_names s t from count))) 16385
-  summed_all {count} q = let y : length (arena (line_names s t from i)) ≡ length (arena (line_names s t from count)) = ap (λ (k : ℕ). length (arena (line_names s t from k))) q in omega (arith, x.size, x.few)
+  pub summed_all : {count : ℕ} → i ≡ count → (length (arena (line_names s t from count)) ≤ 16384) × (n ≡ length (arena (line_names s t from count)))
+  summed_all {count} q =
+      let y : length (arena (line_names s t from i)) ≡ length (arena (line_names s t from count)) = ap (λ (k : ℕ). length (arena (line_names s t from k))) q in
+      (omega (arith, x.size, x.few), omega (arith, x.size))
 
 -- ---------------------------------------------------------------- writing them
 
@@ -151,26 +145,20 @@ module _ {s : List ℕ} {t : Table} {from count i at : ℕ} {a₀ b₀ c₀ a b 
         let u = front_long (map length (line_names s t from i)) c₀ (omega (arith, f.lengths)) in
         omega (arith, ap length w.lengths, f.lengths)
 
-    module _ {p e : ℕ} (here : p ≡ place_of t (from + i)) (st : Stretch ends_name s p e) where
-      name-is : line_name s t (from + i) ≡ between s p e
-      name-is = ap (λ (k : ℕ). name_here (drop k s)) (sym here) ∙ stretch-name s t from p e st
+    module _ {part : List ℕ} (is : part ≡ line_name s t (from + i)) where
+      name-long : length (line_name s t (from + i)) ≡ length part
+      name-long = ap length (sym is)
 
-      between-long : length (between s p e) ≡ e - p
-      between-long = between-length s p e st.low st.high
-
-      name-long : length (line_name s t (from + i)) ≡ e - p
-      name-long = ap length name-is ∙ between-long
-
-      pub names-room : at + (e - p) ≤ length a
+      pub names-room : at + length part ≤ length a
       names-room =
           let x = arena-grows s t from (i + 1) count (omega arith) in
           let y = arena-next s t from i in
           let z = front_long (arena (line_names s t from i)) a₀ (omega (arith, f.names)) in
           omega (arith, w.place, name-long, ap length w.bytes, f.names)
 
-      pub written-more : {part : List ℕ} → part ≡ between s p e
-          → Written s t from (i + 1) (at + (e - p)) a₀ b₀ c₀ (put_mid at (at + (e - p) - at) a part) (set b i at) (set c i (e - p))
-      written-more {part} q =
+      pub written-more : {copied : List ℕ} → copied ≡ part
+          → Written s t from (i + 1) (at + length part) a₀ b₀ c₀ (put_mid at (at + length part - at) a copied) (set b i at) (set c i (length part))
+      written-more {copied} q =
           let n : Name = line_name s t (from + i) in
           let x = starts-long (line_names s t from i) in
           let y = length-map (line_names s t from i) length in
@@ -179,15 +167,15 @@ module _ {s : List ℕ} {t : Table} {from count i at : ℕ} {a₀ b₀ c₀ a b 
           record {
             place = (let v = arena-next s t from i in omega (arith, w.place, name-long));
             bytes =
-                put_mid-paste at (at + (e - p) - at) a part (between s p e) (e - p) q (omega arith) (sym between-long)
-                ∙ (λ j. paste (w.bytes j) at (sym name-is j) (e - p)) ∙ front-paste (arena (line_names s t from i)) a₀ n at (e - p) (sym w.place) name-long
+                put_mid-paste at (at + length part - at) a copied part (length part) q (omega arith) refl
+                ∙ (λ j. paste (w.bytes j) at (is j) (length part)) ∙ front-paste (arena (line_names s t from i)) a₀ n at (length part) (sym w.place) name-long
                 ∙ ap (λ (l : List ℕ). at_front l a₀) (sym (ap arena next ∙ arena-more (line_names s t from i) n));
             starts =
                 ap (λ (l : List ℕ). set l i at) w.starts ∙ front-more (starts_counted_from 0 (line_names s t from i)) b₀ i at (omega arith) (omega (arith, f.starts, names-long s t from count))
                 ∙ ap (λ (l : List ℕ). at_front l b₀)
                 (ap (λ (k : ℕ). starts_counted_from 0 (line_names s t from i) ++ (k ∷ [])) w.place ∙ sym (ap (starts_counted_from 0) next ∙ starts_more (line_names s t from i) n));
             lengths =
-                ap (λ (l : List ℕ). set l i (e - p)) w.lengths ∙ front-more (map length (line_names s t from i)) c₀ i (e - p) (omega arith) (omega (arith, f.lengths, names-long s t from count))
+                ap (λ (l : List ℕ). set l i (length part)) w.lengths ∙ front-more (map length (line_names s t from i)) c₀ i (length part) (omega arith) (omega (arith, f.lengths, names-long s t from count))
                 ∙ ap (λ (l : List ℕ). at_front l c₀)
                 (ap (λ (k : ℕ). map length (line_names s t from i) ++ (k ∷ [])) (sym name-long) ∙ sym (ap (map length) next ∙ lengths-more (line_names s t from i) n));
           }

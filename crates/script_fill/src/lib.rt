@@ -2,13 +2,15 @@
 // Under "Ruled out" stand wrong programs that a public function's contract refuses.
 #![tactic(auto)]
 
-ghost use Rattle.std.specs.Prelude.{◌≡◌, ℕ, List, ◌++◌, ◌+◌, ◌-◌, ◌≤◌, ◌<◌, min, length, drop, get_or};
+ghost use Rattle.std.specs.Prelude.{◌≡◌, ℕ, List, ◌++◌, ◌+◌, ◌-◌, ◌≤◌, ◌<◌, length, drop, get_or};
+ghost use Rattle.std.specs.Option.{SomeIff};
 ghost use Rattle.reading.specs.Trees.{Declarations};
 ghost use Rattle.echo_spec.specs.Answers.{at_front, zeroed};
 ghost use Rattle.readback.specs.Rebuild.{arena};
 ghost use Rattle.readback.specs.ReadAnswers.{each_with, nothing};
 ghost use Rattle.script_names.specs.Entries.{place_of};
-ghost use Rattle.script_fill.specs.Filling.{line_names, Lines, FewOf, NamesFit, NamesFilled, VariablesFit, VariablesFilled, ArraysFit, ArraysFilled, FunctionsFit, FunctionsFilled};
+ghost use Rattle.script_fill.specs.Filling.{line_name, line_names, Lines, FewOf, NamesFit, NamesFilled, VariablesFit, VariablesFilled, ArraysFit, ArraysFilled, FunctionsFit, FunctionsFilled};
+ghost use Rattle.refusals.specs.declared.TheConstants.{MAX_ARENA};
 ghost use Rattle.script_fill.specs.Outputs.{problem_in, SameSlices};
 
 use lent::clear;
@@ -86,23 +88,32 @@ fn place(t: &Table, k: usize) -> usize
     t.lines.get(k).map_or(0, |line| line.place)
 }
 
-// The bytes of the names of `count` lines, from line `from` on; of names over the limit, one more than the limit. Ruled out: the last name
-// left out; the bars counted with the names.
-pub fn names_length(script: &Script, from: usize, count: usize) -> usize
+// The name of line k, up to its bar.
+fn name_of<'a>(script: &Script<'a>, k: usize) -> &'a [u8]
+    requires { place_of script.now.table.now k ≤ length script.now.text.now }
+    ensures { result.now ≡ line_name script.now.text.now script.now.table.now k }
+{
+    let s = script.text;
+    let p = place(script.table, k);
+    &s[p..bar_at(s, p)]
+}
+
+// The bytes of the names of `count` lines, from line `from` on, where they are within the limit. Ruled out: the last name left out; the bars
+// counted with the names.
+pub fn names_length(script: &Script, from: usize, count: usize) -> Option<usize>
     requires { Lines script.now.text.now script.now.table.now from count }
-    ensures { result ≡ min (length (arena (line_names script.now.text.now script.now.table.now from count))) 16385 }
+    ensures { SomeIff result (length (arena (line_names script.now.text.now script.now.table.now from count)) ≤ MAX_ARENA)
+        (length (arena (line_names script.now.text.now script.now.table.now from count))) }
 {
     let mut n: usize = 0;
     for i in 0..count {
-        let p = place(script.table, from + i);
-        let e = bar_at(script.text, p);
-        let size = e - p;
+        let size = name_of(script, from + i).len();
         if size > MAX_ARENA - n {
-            return MAX_ARENA + 1;
+            return None;
         }
         n += size;
     }
-    n
+    Some(n)
 }
 
 // The names end to end, where each starts, and their lengths.
@@ -120,13 +131,12 @@ fn put_names(
 {
     let mut at = 0;
     for i in 0..count {
-        let p = place(script.table, from + i);
-        let e = bar_at(script.text, p);
-        let size = e - p;
-        names[at..at + size].copy_from_slice(&script.text[p..e]);
+        let name = name_of(script, from + i);
+        let e = at + name.len();
+        names[at..e].copy_from_slice(name);
         starts[i] = at as u64;
-        lengths[i] = size as u64;
-        at += size;
+        lengths[i] = name.len() as u64;
+        at = e;
     }
 }
 
@@ -145,6 +155,8 @@ fn put_numbers<F: Fn(usize) -> u64>(count: usize, number: F, out: &mut [u64])
 
 // ---------------------------------------------------------------- tables
 
+// Kept: each table's own outputs as parameters, since a method that borrows all of `Outputs` would have to say of each other output that it stays;
+// a struct of the three columns of names would be taken out of `Outputs` for each table, which lends its eighteen slices one by one.
 // The table of variables. Ruled out: a name that starts one byte too far on; a variable's node one too high.
 pub fn fill_variables(
     script: &Script,

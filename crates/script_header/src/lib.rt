@@ -14,6 +14,8 @@ use script_names::{Declared, Table};
 use script_tokens::{Ending, literal, stretch_end};
 
 // Where the declarations begin; how many variables there are, how many variables and arrays, how many names in all; where they end.
+// Kept: lines are numbered through the three kinds, so a line's kind is told by comparing its number with these, and counts would be added up.
+// The count of a kind is a difference of two, which contracts have too, and a method would say no more than that.
 #[derive(Clone, Copy, Debug, PartialEq, Eq)]
 pub struct Header {
     pub first: usize,
@@ -55,6 +57,7 @@ fn logic_is(s: &[u8], a: usize, e: usize, functions: usize, arrays: usize) -> bo
 }
 
 // Does an assertion or the last line begin here?
+// Kept: each reader of a line has the line's word in its own contract, and a function for a word would say no more than `literal` does.
 fn has_begun(s: &[u8], at: usize) -> bool
     requires { at ≤ length s.now }
     ensures { result ≡ begun (drop at s.now) }

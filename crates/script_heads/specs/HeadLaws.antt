@@ -164,6 +164,17 @@ module _ (s : List ℕ) (D : Declarations) (n : Name) (r : Entry) (x : EntryIs s
   pub told-function : {g : ℕ} {u : Signature} → r ≡ FunctionEntry g u → FunctionIs s D n g u.arguments u.width
   told-function {g} {u} q = let y : EntryIs s D n (Some (FunctionEntry g u)) = subst (λ (e : Entry). EntryIs s D n (Some e)) q x in y
 
+-- an entry that is no function's, and one that is no array's
+pub no-function : (s : List ℕ) (D : Declarations) (n : Name) (r : Entry) → EntryIs s D n (Some r) → ((g : ℕ) (u : Signature) → r ≡ FunctionEntry g u → ⊥) → function_number D n ≡ none
+no-function s D n (VariableEntry k w) x f = x.numbers.function
+no-function s D n (ArrayEntry k u) x f = x.numbers.function
+no-function s D n (FunctionEntry g u) x f = absurd (f g u refl)
+
+pub no_array : (s : List ℕ) (D : Declarations) (n : Name) (r : Entry) → EntryIs s D n (Some r) → ((k : ℕ) (u : Widths) → r ≡ ArrayEntry k u → ⊥) → array_number D n ≡ none
+no_array s D n (VariableEntry k w) x f = x.numbers.array
+no_array s D n (ArrayEntry k u) x f = absurd (f k u refl)
+no_array s D n (FunctionEntry g u) x f = x.numbers.array
+
 -- ---------------------------------------------------------------- names
 
 pub no_name : (s : List ℕ) (at : ℕ) → get_or s at 0 ≡ 124 → name_read (drop (at + 1) s) ≡ none → (D : Declarations) → NothingAt s D at

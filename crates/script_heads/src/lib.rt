@@ -18,6 +18,7 @@ use script_symbols::kind_of;
 use script_tokens::{Number, byte_at, digits_end, literal, name_end, numeral, word_end};
 
 // The head of a term that can have a sort, and where what follows it begins.
+// Kept: `end` stands in each head, since each is read up to another token, and its definition says which.
 #[derive(Clone, Copy, Debug, PartialEq, Eq)]
 pub enum Head {
     // after the digits
@@ -34,7 +35,9 @@ pub enum Head {
         width: u64,
         end: usize,
     },
-    // so many of the two numerals; where the operands begin
+    // So many of the two numerals; where the operands begin.
+    // Kept: the numerals are compared with the shape's by number, in one place. An enum of none, one and two would have an arm for each pair of a
+    // head and a shape.
     Operator {
         kind: u8,
         numerals: u64,
@@ -68,10 +71,7 @@ fn constant_head(s: &[u8], at: usize) -> Option<Head>
         return None;
     }
     let e = digits_end(s, at + 2);
-    if e == at + 2 {
-        return None;
-    }
-    Some(Head::Constant(e))
+    (e > at + 2).then_some(Head::Constant(e))
 }
 
 // A name by itself, from its first bar on.
@@ -83,7 +83,7 @@ fn name_head(script: &Script, at: usize) -> Option<Head>
     let entry = script.entry_of(at + 1, end)?;
     match entry {
         Entry::Variable(number, width) => Some(Head::Variable { number, width, end }),
-        Entry::Array(_, _) => None,
+        Entry::Array(..) => None,
         Entry::Function(number, x) => match next_argument(script.text, x.arguments) {
             None => Some(Head::Nullary {
                 number,
@@ -103,20 +103,16 @@ fn call_head(script: &Script, at: usize) -> Option<Head>
     ensures { (D : Declarations) → Declares script.now D → HeadAt script.now.text.now D at result }
 {
     let end = name_end(script.text, at + 2)?;
-    let entry = script.entry_of(at + 2, end)?;
-    match entry {
-        Entry::Variable(_, _) => None,
-        Entry::Array(_, _) => None,
-        Entry::Function(number, x) => match next_argument(script.text, x.arguments) {
-            None => None,
-            Some(_) => Some(Head::Call {
-                number,
-                arguments: x.arguments,
-                width: x.width,
-                end,
-            }),
-        },
-    }
+    let Entry::Function(number, x) = script.entry_of(at + 2, end)? else {
+        return None;
+    };
+    next_argument(script.text, x.arguments)?;
+    Some(Head::Call {
+        number,
+        arguments: x.arguments,
+        width: x.width,
+        end,
+    })
 }
 
 // An operator without numerals, from its bracket on.
@@ -188,6 +184,7 @@ fn stores_at(s: &[u8], at: usize) -> usize
 {
     let mut n = 0;
     let mut p = at;
+    // Kept: each store tells where the next one begins.
     while let Some(q) = literal(s, p, b"(store ") {
         p = q;
         n += 1;
@@ -206,18 +203,16 @@ fn select_head(script: &Script, at: usize) -> Option<Head>
         return None;
     }
     let end = name_end(script.text, p + 1)?;
-    let entry = script.entry_of(p + 1, end)?;
-    match entry {
-        Entry::Variable(_, _) => None,
-        Entry::Array(number, x) => Some(Head::Select {
-            number,
-            index: x.index,
-            value: x.value,
-            stores,
-            end,
-        }),
-        Entry::Function(_, _) => None,
-    }
+    let Entry::Array(number, x) = script.entry_of(p + 1, end)? else {
+        return None;
+    };
+    Some(Head::Select {
+        number,
+        index: x.index,
+        value: x.value,
+        stores,
+        end,
+    })
 }
 
 // What stands after an opening bracket.
@@ -225,16 +220,13 @@ fn open_head(script: &Script, at: usize) -> Option<Head>
     requires { ((D : Declarations) × Declares script.now D) × (get_or script.now.text.now at 0 ≡ 40) }
     ensures { (D : Declarations) → Declares script.now D → HeadAt script.now.text.now D at result }
 {
-    let c = byte_at(script.text, at + 1);
-    if c == b'(' {
-        return indexed_head(script.text, at);
-    }
-    if c == b'|' {
-        return call_head(script, at);
-    }
-    match literal(script.text, at, b"(select ") {
-        Some(_) => select_head(script, at),
-        None => plain_head(script.text, at),
+    match byte_at(script.text, at + 1) {
+        b'(' => indexed_head(script.text, at),
+        b'|' => call_head(script, at),
+        _ => match literal(script.text, at, b"(select ") {
+            Some(_) => select_head(script, at),
+            None => plain_head(script.text, at),
+        },
     }
 }
 
@@ -244,15 +236,10 @@ pub fn head_at(script: &Script, at: usize) -> Option<Head>
     requires { (D : Declarations) × Declares script.now D }
     ensures { (D : Declarations) → Declares script.now D → HeadAt script.now.text.now D at result }
 {
-    let c = byte_at(script.text, at);
-    if c == b'#' {
-        return constant_head(script.text, at);
+    match byte_at(script.text, at) {
+        b'#' => constant_head(script.text, at),
+        b'|' => name_head(script, at),
+        b'(' => open_head(script, at),
+        _ => None,
     }
-    if c == b'|' {
-        return name_head(script, at);
-    }
-    if c == b'(' {
-        return open_head(script, at);
-    }
-    None
 }

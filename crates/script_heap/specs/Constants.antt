@@ -1,5 +1,5 @@
 -- Constants: found, or entered as the next node. Assumes nothing.
-use Rattle.std.specs.Prelude.{ℕ, ◌+◌, ◌*◌, ◌-◌, ◌^◌, ◌≤◌, ◌<◌, ◌≡◌, List, [], ◌∷◌, ◌++◌, Bool, true, false, ◌⊎◌, T, length, take, drop, get_or, set, Option, Some, None}
+use Rattle.std.specs.Prelude.{ℕ, ◌+◌, ◌*◌, ◌-◌, ◌≤◌, ◌<◌, ◌≡◌, List, [], ◌∷◌, ◌++◌, Bool, true, false, T, length, take, drop, get_or, set, Option, Some, None, Result, Ok, Err}
 use Rattle.std.proofs.Math.Path.{refl, ap, sym, subst}
 use Rattle.std.proofs.Common.{◌∙◌, inl, inr, arith, length-drop, drop_of_length-le, length-take-le}
 use Rattle.std.proofs.Math.Option as maybe
@@ -14,40 +14,33 @@ use Rattle.readback.specs.Records.{record_bytes, holdable}
 use Rattle.readback.specs.Rebuild.{Item, a_constant, find_constant, with_constant, with_constants, Ref, here, pending, node_of, bits_in, record_of}
 use Rattle.rebuilt.specs.Constants.{HasAll, node-of-constant, with-constants-has}
 use Rattle.script_tokens.specs.Reached.{between, ends_digits, Stretch}
-use Rattle.heap_laws.specs.Heap.{within, bits_size, constant_at, hash_of, bits_at, pending_in, Held}
+use Rattle.heap_laws.specs.Heap.{within, bits_size, constant_at, past, hash_of, bits_at, pending_in, Held}
 use Rattle.heap_laws.specs.declared.Heap.{Heap}
+use Rattle.heap_laws.specs.declared.OverLimit.{OverLimit}
 use Rattle.heap_laws.specs.Filled.{filled, length-filled, front-filled, part_filled}
 use Rattle.heap_laws.specs.Within.{within-parts, over-nodes, over-bits, over-record}
 use Rattle.heap_laws.specs.Adding.{held-bits}
 use Rattle.heap_laws.specs.Entering.{entered, held-entered}
 use Rattle.heap_laws.specs.Settling.{constant-found, constant-new}
-use Rattle.heap_laws.specs.Candidates.{bits-at-is, length-between, compared, compared-apart}
+use Rattle.heap_laws.specs.Candidates.{bits-at-is, length-between}
 use Rattle.heap_laws.specs.Chains.{Sought, sought-next, sought-less, sought-none, sought-found}
-use Rattle.script_heap.specs.Told.{ConstantTold, RefTold, Recorded, Entered, Half, constant_record, Compared, DigitsTo, found_as}
+use Rattle.script_heap.specs.Told.{ConstantTold, RefTold, Entered, Half, constant_record, Compared, DigitsTo, found_as}
 
 -- ---------------------------------------------------------------- a record that is added
-
-pub recorded-over : (heap heap' : Heap) (n : Node) (r : Option ℕ) → Recorded heap heap' n r → r ≡ None → (2048 ≤ heap.count) ⊎ (holdable n ≡ false)
-recorded-over heap heap' n r w e = subst (Recorded heap heap' n) e w
-
-pub recorded-at : (heap heap' : Heap) (n : Node) (r : Option ℕ) (m : ℕ) → Recorded heap heap' n r → r ≡ Some m
-    → (m ≡ heap.count) × (heap.count < 2048) × T (holdable n)
-    × (heap' ≡ record heap { count = heap.count + 1; records = filled heap.records (17 * heap.count) (record_bytes n) })
-recorded-at heap heap' n r m w e = subst (Recorded heap heap' n) e w
 
 -- the stores of a constant
 pub entered-stores : (heap heap₁ : Heap) (j w m : ℕ) → m ≡ heap.count
     → heap₁ ≡ record heap { count = heap.count + 1; records = filled heap.records (17 * heap.count) (record_bytes (constant_record heap w)) }
     → record heap₁ {
       bit_count = heap.bit_count + w;
-      constants = set heap₁.constants m (record { start = heap.bit_count; width = w; before = get_or heap.heads j 0 });
-      heads = set heap₁.heads j (m + 1);
+      constants = set heap₁.constants m (record { start = heap.bit_count; width = w; before = get_or heap.heads j None });
+      heads = set heap₁.heads j (Some m);
     } ≡ entered heap j w (constant_record heap w)
 entered-stores heap heap₁ j w m a e =
     λ i. record (e i) {
       bit_count = heap.bit_count + w;
-      constants = set (e i).constants (a i) (record { start = heap.bit_count; width = w; before = get_or heap.heads j 0 });
-      heads = set (e i).heads j (a i + 1);
+      constants = set (e i).constants (a i) (record { start = heap.bit_count; width = w; before = get_or heap.heads j None });
+      heads = set (e i).heads j (Some (a i));
     }
 
 -- ---------------------------------------------------------------- the constant of the bits behind those in use
@@ -71,7 +64,7 @@ module _ {heap : Heap} {s : List Item} (h : Held heap s) (w : ℕ) (few : w ≤ 
   long = length-take-le w (drop heap.bit_count heap.bits) (omega (arith, h.bits-long, bit-room h, length-drop heap.bit_count heap.bits))
 
   pub settle-found : (r : Option ℕ) (k : ℕ) → r ≡ found_as (find_constant (take w (drop heap.bit_count heap.bits)) s) → r ≡ Some k
-      → ConstantTold heap heap (take w (drop heap.bit_count heap.bits)) s (Some k)
+      → ConstantTold heap heap (take w (drop heap.bit_count heap.bits)) s (Ok k)
   settle-found r k e l =
       let (t, n) = constant-found bs s k (found_some (find_constant bs s) k (sym l ∙ e)) in
       (sym n, subst (Held heap) (sym t) h, refl, refl)
@@ -91,16 +84,16 @@ module _ {heap : Heap} {s : List Item} (h : Held heap s) (w : ℕ) (few : w ≤ 
     unfolding record_of
     record_is = λ i. record { kind = 1; a = heap.bit_count; b = sym long i; c = 0; d = 0 }
 
-    pub settle-enter : (j : ℕ) (heap' : Heap) (q : Option ℕ) → w ≤ 131072 - heap.bit_count → j ≡ hash_of (take w (drop heap.bit_count heap.bits)) → Entered heap heap' j w q
+    pub settle-enter : (j : ℕ) (heap' : Heap) (q : Result ℕ OverLimit) → w ≤ 131072 - heap.bit_count → j ≡ hash_of (take w (drop heap.bit_count heap.bits)) → Entered heap heap' j w q
         → ConstantTold heap heap' (take w (drop heap.bit_count heap.bits)) s q
     settle-enter j heap' q room z v = by_answer q v
       where
-        by_answer : (q : Option ℕ) → Entered heap heap' j w q → ConstantTold heap heap' (take w (drop heap.bit_count heap.bits)) s q
-        by_answer None (inl a) = ap within (constant-new bs s new).0 ∙ over-nodes s (a_constant bs) (omega (arith, h.count))
-        by_answer None (inr a) =
+        by_answer : (q : Result ℕ OverLimit) → Entered heap heap' j w q → ConstantTold heap heap' (take w (drop heap.bit_count heap.bits)) s q
+        by_answer (Err _) (inl a) = ap within (constant-new bs s new).0 ∙ over-nodes s (a_constant bs) (omega (arith, h.count))
+        by_answer (Err _) (inr a) =
             ap within (constant-new bs s new).0
             ∙ over-record s (a_constant bs) (sym (λ i. holdable (record_of (h.bit_count i) (h.side_count i) (a_constant bs))) ∙ ap holdable (sym record_is) ∙ a)
-        by_answer (Some m) (a, b, f, g) =
+        by_answer (Ok m) (a, b, f, g) =
             let (u, n) = constant-new bs s new in
             let c : Node = record_of heap.bit_count heap.side_count (a_constant bs) in
             let y : heap' ≡ entered heap (hash_of bs) (length bs) c = g ∙ (λ i. entered heap (z i) (sym long i) (record_is i)) in
@@ -130,12 +123,12 @@ module _ {heap : Heap} {s : List Item} (h : Held heap s) (bits : List ℕ) (bs :
       ap (λ (k : ℕ). take k (drop heap.bit_count bits)) (sym size) ∙ ap (λ (l : List ℕ). take (length bs) (drop heap.bit_count l)) (e h.bits-long)
       ∙ part_filled heap.bits heap.bit_count bs (omega (arith, room))
 
-  pub told-filled : (heap' : Heap) (r : Option ℕ) → ConstantTold (record heap { bits = bits }) heap' (take w (drop heap.bit_count bits)) s r → ConstantTold heap heap' bs s r
+  pub told-filled : (heap' : Heap) (r : Result ℕ OverLimit) → ConstantTold (record heap { bits = bits }) heap' (take w (drop heap.bit_count bits)) s r → ConstantTold heap heap' bs s r
   told-filled heap' r v = at_bits r (subst (λ (x : List ℕ). ConstantTold (record heap { bits = bits }) heap' x s r) part-is v)
     where
-      at_bits : (r : Option ℕ) → ConstantTold (record heap { bits = bits }) heap' bs s r → ConstantTold heap heap' bs s r
-      at_bits None v = v
-      at_bits (Some m) v = v
+      at_bits : (r : Result ℕ OverLimit) → ConstantTold (record heap { bits = bits }) heap' bs s r → ConstantTold heap heap' bs s r
+      at_bits (Err _) v = v
+      at_bits (Ok m) v = v
 
 -- ---------------------------------------------------------------- digits
 
@@ -162,54 +155,43 @@ module _ (script : List ℕ) (p e : ℕ) (d : DigitsTo script p e) where
 -- ---------------------------------------------------------------- operands
 
 module _ {heap : Heap} {s : List Item} (x : Ref) where
-  pub told-node : Held heap s → (k : ℕ) → x ≡ here k → RefTold heap heap x s (Some k)
+  pub told-node : Held heap s → (k : ℕ) → x ≡ here k → RefTold heap heap x s (Ok k)
   unfolding pending_in with_constants node_of
-  told-node h k e = subst (λ (y : Ref). RefTold heap heap y s (Some k)) (sym e) (refl, h, refl, refl)
+  told-node h k e = subst (λ (y : Ref). RefTold heap heap y s (Ok k)) (sym e) (refl, h, refl, refl)
 
-pub told-constant : (heap heap' : Heap) (s : List Item) (x : Ref) (bs : List ℕ) (r : Option ℕ) → x ≡ pending bs → ConstantTold heap heap' bs s r → RefTold heap heap' x s r
+pub told-constant : (heap heap' : Heap) (s : List Item) (x : Ref) (bs : List ℕ) (r : Result ℕ OverLimit) → x ≡ pending bs → ConstantTold heap heap' bs s r → RefTold heap heap' x s r
 unfolding pending_in with_constants
 told-constant heap heap' s x _ r e v = subst (λ (y : Ref). RefTold heap heap' y s r) (sym e) v
 
 -- ---------------------------------------------------------------- comparisons
 
-module _ {heap : Heap} {s : List Item} (h : Held heap s) (k : ℕ) (ds : List ℕ) (e : get_elem? s k ≡ some (a_constant ds)) (at w : ℕ)
-    (z : (constant_at heap.constants k).width ≡ w) where
-  pub part-compared : (r : Bool) → Compared (take w (drop (constant_at heap.constants k).start heap.bits)) (take w (drop at heap.bits)) r → Compared ds (take w (drop at heap.bits)) r
-  part-compared true f = compared h k ds e at w z f
-  part-compared false f = compared-apart h k ds e at w z f
-
 -- a node along the chain
-module _ {heap : Heap} {s : List Item} (h : Held heap s) (bs : List ℕ) {c : ℕ} (w : Sought s bs c) (l : 0 < c) where
-  again : c ≡ c - 1 + 1
-  again = omega arith
+pub sought-at : {s : List Item} {bs : List ℕ} {link : Option ℕ} {k : ℕ} → link ≡ Some k → Sought s bs (past link) → Sought s bs (k + 1)
+sought-at {s} {bs} e w = subst (λ (o : Option ℕ). Sought s bs (past o)) e w
 
-  here-sought : Sought s bs (c - 1 + 1)
-  here-sought = subst (Sought s bs) again w
+module _ {heap : Heap} {s : List Item} (h : Held heap s) (bs : List ℕ) (k : ℕ) (w : Sought s bs (k + 1)) where
+  pub chain-small : k < 2048
+  chain-small = let (a, ds, e, q) = w.own k refl in omega (arith, (within-parts s h.inside).nodes)
 
-  pub chain-small : c ≤ 2048
-  chain-small = let (a, ds, e, q) = w.own (c - 1) again in omega (arith, (within-parts s h.inside).nodes)
+  pub chain-constant : (s : List Item) × (ds : List ℕ) × Held heap s × (get_elem? s k ≡ some (a_constant ds))
+  chain-constant = let (a, ds, e, q) = w.own k refl in (s, ds, h, e)
 
-  pub chain-constant : (s : List Item) × (ds : List ℕ) × Held heap s × (get_elem? s (c - 1) ≡ some (a_constant ds))
-  chain-constant = let (a, ds, e, q) = w.own (c - 1) again in (s, ds, h, e)
-
-  module _ (v : (ds : List ℕ) → get_elem? s (c - 1) ≡ some (a_constant ds) → Compared ds bs true) where
-    pub chain-found : Some (c - 1) ≡ found_as (find_constant bs s)
+  module _ (v : (ds : List ℕ) → get_elem? s k ≡ some (a_constant ds) → Compared ds bs true) where
+    pub chain-found : Some k ≡ found_as (find_constant bs s)
     chain-found =
-        let (a, ds, e, q) = w.own (c - 1) again in
-        let f : get_elem? s (c - 1) ≡ some (a_constant bs) = e ∙ ap (λ (x : List ℕ). some (a_constant x)) (v ds e) in
-        ap found_as (sym (sought-found h bs (c - 1) f))
+        let (a, ds, e, q) = w.own k refl in
+        let f : get_elem? s k ≡ some (a_constant bs) = e ∙ ap (λ (x : List ℕ). some (a_constant x)) (v ds e) in
+        ap found_as (sym (sought-found h bs k f))
 
-  module _ (v : (ds : List ℕ) → get_elem? s (c - 1) ≡ some (a_constant ds) → Compared ds bs false) where
-    pub chain_next : Sought s bs (constant_at heap.constants (c - 1)).before
-    chain_next = sought-next h bs (c - 1) here-sought (λ f. v bs f refl)
+  module _ (v : (ds : List ℕ) → get_elem? s k ≡ some (a_constant ds) → Compared ds bs false) where
+    pub chain_next : Sought s bs (past (constant_at heap.constants k).before)
+    chain_next = sought-next h bs k w (λ f. v bs f refl)
 
-  pub chain-less : (constant_at heap.constants (c - 1)).before < c
-  chain-less = let a = sought-less h bs (c - 1) here-sought in omega arith
+  pub chain-less : past (constant_at heap.constants k).before < k + 1
+  chain-less = let a = sought-less h bs k w in omega arith
 
-pub chain-none : {heap : Heap} {s : List Item} (h : Held heap s) (bs : List ℕ) {c : ℕ} → Sought s bs c → c ≤ 0 → None ≡ found_as (find_constant bs s)
-chain-none {s = s} h bs {c} w l =
-    let z : c ≡ 0 = omega arith in
-    sym (ap found_as (sought-none h bs (subst (Sought s bs) z w)))
+pub chain-none : {heap : Heap} {s : List Item} (h : Held heap s) (bs : List ℕ) → Sought s bs 0 → None ≡ found_as (find_constant bs s)
+chain-none h bs w = sym (ap found_as (sought-none h bs w))
 
 -- the comparison's answer is known
 pub compared-as : (xs ys : List ℕ) (r q : Bool) → r ≡ q → Compared xs ys r → Compared xs ys q
@@ -223,26 +205,15 @@ module _ (script : List ℕ) (p e : ℕ) (d : DigitsTo script p e) where
   pub digits-filled : (bits bits' : List ℕ) (at : ℕ) → (length bits ≡ bits_size → bits' ≡ filled bits at (bits_of (between script p e))) → length bits ≡ bits_size → bits' ≡ filled bits at (bits_at script p)
   digits-filled bits bits' at f long = f long ∙ ap (filled bits at) (digits_are script p e d)
 
--- what an operand's answer says
-pub ref_over : (heap heap' : Heap) (x : Ref) (s : List Item) (r : Option ℕ) → RefTold heap heap' x s r → r ≡ None → within (with_constants (pending_in (x ∷ [])) s) ≡ false
-ref_over heap heap' x s r v e = subst (RefTold heap heap' x s) e v
-
-pub ref-at : (heap heap' : Heap) (x : Ref) (s : List Item) (r : Option ℕ) (m : ℕ) → RefTold heap heap' x s r → r ≡ Some m
-    → (m ≡ node_of (with_constants (pending_in (x ∷ [])) s) x) × Held heap' (with_constants (pending_in (x ∷ [])) s) × (heap'.top ≡ heap.top) × (heap'.stack ≡ heap.stack)
-ref-at heap heap' x s r m v e = subst (RefTold heap heap' x s) e v
-
 -- twice the number of a constant's node has 64 bits
-pub half-constant : (heap heap' : Heap) (bs : List ℕ) (s : List Item) (r : Option ℕ) → ConstantTold heap heap' bs s r → Half r
+pub half-constant : (heap heap' : Heap) (bs : List ℕ) (s : List Item) (r : Result ℕ OverLimit) → ConstantTold heap heap' bs s r → Half r
 unfolding with_constants
-half-constant heap heap' bs s None v = tt
-half-constant heap heap' bs s (Some m) (e, h, a, b) =
+half-constant heap heap' bs s (Err _) v = tt
+half-constant heap heap' bs s (Ok m) (e, h, a, b) =
     let t : List Item = with_constant bs s in
     let f : HasAll t (bs ∷ []) = with-constants-has (bs ∷ []) s in
     let l = at_less t (node_of t (pending bs)) (a_constant bs) (node-of-constant t bs f.0) in
     omega (arith, (within-parts t h.inside).nodes)
-
-pub half_at : (r : Option ℕ) (m : ℕ) → r ≡ Some m → Half r → 2 * m < 2 ^ 64
-half_at r m e v = subst Half e v
 
 -- the answer of a comparison
 pub compared-by : (xs ys : List ℕ) (r : Bool) → r ≡ same xs ys → Compared xs ys r

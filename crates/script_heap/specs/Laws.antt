@@ -1,5 +1,5 @@
 -- Laws of single stores, and of a record that is written and counted. Assumes nothing.
-use Rattle.std.specs.Prelude.{ℕ, ◌+◌, ◌*◌, ◌/◌, ◌%◌, ◌≤◌, ◌<◌, ◌≡◌, List, [], ◌∷◌, ◌++◌, false, T, leb, length, take, drop, set, Option, Some, None}
+use Rattle.std.specs.Prelude.{ℕ, ◌+◌, ◌*◌, ◌/◌, ◌%◌, ◌≤◌, ◌<◌, ◌≡◌, List, [], ◌∷◌, ◌++◌, false, T, leb, length, take, drop, set, Result, Ok, Err}
 use Rattle.std.proofs.Common.{ap, sym, ◌∙◌, subst, inl, inr, arith, le-leb, leb→le}
 use borrow.Rule.Slice.PartMut.{put_mid}
 use lib.Seq.{drop-drop}
@@ -13,6 +13,7 @@ use Rattle.heap_laws.specs.Filled.{filled, filled_none, filled_more, filled-fill
 use Rattle.heap_laws.specs.Within.{over-nodes, over-record}
 use Rattle.heap_laws.specs.Adding.{Plain, added, held-added}
 use Rattle.heap_laws.specs.declared.Heap.{Heap}
+use Rattle.heap_laws.specs.declared.OverLimit.{OverLimit}
 use Rattle.script_heap.specs.Told.{Told, Recorded}
 
 -- ---------------------------------------------------------------- stores one after the other
@@ -83,7 +84,7 @@ module _ (n : Node) where
 -- whatever the bits are
 module _ (heap : Heap) {bits : List ℕ} {s : List Item} (h : Held (record heap { bits = bits }) s) (x : Item) (p : Plain x) where
   -- where the side entries, their number and the number of operands that are left stand already
-  pub told-record : (xs : List ℕ) (top : ℕ) → side_in x ≡ xs → heap.side_count + length xs ≤ 8192 → (heap₁ heap' : Heap) (n : Node) (r : Option ℕ)
+  pub told-record : (xs : List ℕ) (top : ℕ) → side_in x ≡ xs → heap.side_count + length xs ≤ 8192 → (heap₁ heap' : Heap) (n : Node) (r : Result ℕ OverLimit)
       → heap₁ ≡ record heap { side_count = heap.side_count + length xs; top = top; side = filled heap.side heap.side_count xs } → n ≡ record_of heap.bit_count heap.side_count x
       → Recorded heap₁ heap' n r → Told (record heap { bits = bits }) (record heap' { bits = bits }) top (s ++ (x ∷ [])) (length s) r
   told-record xs top q room heap₁ heap' n r e f w = by_answer r w
@@ -91,10 +92,10 @@ module _ (heap : Heap) {bits : List ℕ} {s : List Item} (h : Held (record heap 
       same : heap₁.count ≡ length s
       same = ap (λ (y : Heap). y.count) e ∙ h.count
 
-      by_answer : (r : Option ℕ) → Recorded heap₁ heap' n r → Told (record heap { bits = bits }) (record heap' { bits = bits }) top (s ++ (x ∷ [])) (length s) r
-      by_answer None (inl a) = over-nodes s x (omega (arith, same))
-      by_answer None (inr a) = over-record s x (sym (λ i. holdable (record_of (h.bit_count i) (h.side_count i) x)) ∙ ap holdable (sym f) ∙ a)
-      by_answer (Some m) (a, b, c, d) =
+      by_answer : (r : Result ℕ OverLimit) → Recorded heap₁ heap' n r → Told (record heap { bits = bits }) (record heap' { bits = bits }) top (s ++ (x ∷ [])) (length s) r
+      by_answer (Err _) (inl a) = over-nodes s x (omega (arith, same))
+      by_answer (Err _) (inr a) = over-record s x (sym (λ i. holdable (record_of (h.bit_count i) (h.side_count i) x)) ∙ ap holdable (sym f) ∙ a)
+      by_answer (Ok m) (a, b, c, d) =
           let n' : Node = record_of heap.bit_count heap.side_count x in
           let z : heap' ≡ added heap xs top n' =
           d ∙ (λ i. record (e i) { count = (e i).count + 1; records = filled (e i).records (17 * (e i).count) (record_bytes (f i)) }) in (
@@ -105,7 +106,7 @@ module _ (heap : Heap) {bits : List ℕ} {s : List Item} (h : Held (record heap 
           )
 
 -- of the bits, which are as they were, an addition tells what it tells of any
-pub told-own : (heap heap' : Heap) (n : ℕ) (t : List Item) (k : ℕ) (r : Option ℕ) → heap'.bits ≡ heap.bits → Told heap (record heap' { bits = heap.bits }) n t k r → Told heap heap' n t k r
+pub told-own : (heap heap' : Heap) (n : ℕ) (t : List Item) (k : ℕ) (r : Result ℕ OverLimit) → heap'.bits ≡ heap.bits → Told heap (record heap' { bits = heap.bits }) n t k r → Told heap heap' n t k r
 told-own heap heap' n t k r e w = subst (λ (bits : List ℕ). Told heap (record heap' { bits = bits }) n t k r) (sym e) w
 
 -- of the records and the bits, which are as they were, holds what holds of any

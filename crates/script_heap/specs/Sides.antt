@@ -1,6 +1,6 @@
 -- Calls and selects: their operands become side entries, and wait no more. Assumes nothing.
 use Prim.Native.Nat.{ℕ, ◌+◌, ◌*◌, ◌-◌, ◌/◌, ◌≤◌, ◌<◌}
-use Rattle.std.specs.Prelude.{◌≡◌, false, take, drop, Option}
+use Rattle.std.specs.Prelude.{◌≡◌, false, take, drop, Result}
 use Rattle.std.proofs.Math.Path.{refl, ap, sym}
 use Rattle.std.proofs.Common.{◌∙◌, arith, length-drop, get_or-drop}
 use mathlib.Core.List.{List, [], ◌∷◌, ◌++◌, map}
@@ -9,6 +9,7 @@ use Rattle.std.proofs.lemmas.List.{length-map}
 use Rattle.readback.specs.Rebuild.{Item, a_select, a_call, Ref, here, flat, side_in, record_of}
 use Rattle.heap_laws.specs.Heap.{within, halves, pairs_back, Held, Stacked}
 use Rattle.heap_laws.specs.declared.Heap.{Heap}
+use Rattle.heap_laws.specs.declared.OverLimit.{OverLimit}
 use Rattle.heap_laws.specs.Filled.{filled}
 use Rattle.heap_laws.specs.Within.{within-parts, over-side}
 use Rattle.heap_laws.specs.Adding.{plain-select, plain-call}
@@ -39,7 +40,7 @@ module _ (heap : Heap) {bits : List ℕ} {s : List Item} (h : Held (record heap 
   unfolding side_in
   call-over g width l = over-side s (a_call g width xs) (omega (arith, size, h.side_count, side-room h))
 
-  pub told-call : (g width : ℕ) (side : List ℕ) (heap' : Heap) (r : Option ℕ) → heap.top - base ≤ 8192 - heap.side_count
+  pub told-call : (g width : ℕ) (side : List ℕ) (heap' : Heap) (r : Result ℕ OverLimit) → heap.top - base ≤ 8192 - heap.side_count
       → side ≡ filled heap.side heap.side_count (halves (take (heap.top - base) (drop base heap.stack)))
       → Recorded (record heap { side_count = heap.side_count + (heap.top - base); top = base; side = side }) heap' (record { kind = 38; a = g; b = width; c = heap.side_count; d = heap.top - base }) r
       → Told (record heap { bits = bits }) (record heap' { bits = bits }) base (s ++ (a_call g width xs ∷ [])) (length s) r
@@ -77,7 +78,7 @@ module _ (heap : Heap) {bits : List ℕ} {s : List Item} (h : Held (record heap 
     unfolding side_in
     select-over array l = over-side s (item array) (omega (arith, side-size, h.side_count, side-room h))
 
-    pub told-select : (array index : ℕ) (side : List ℕ) (heap' : Heap) (r : Option ℕ) → stores ≤ (8192 - heap.side_count) / 2 → index ≡ get_or heap.stack (base + 2 * stores) 0 / 2
+    pub told-select : (array index : ℕ) (side : List ℕ) (heap' : Heap) (r : Result ℕ OverLimit) → stores ≤ (8192 - heap.side_count) / 2 → index ≡ get_or heap.stack (base + 2 * stores) 0 / 2
         → side ≡ filled heap.side heap.side_count (flat (pairs_back stores (halves (drop base heap.stack))))
         → Recorded (record heap { side_count = heap.side_count + 2 * stores; top = base; side = side }) heap' (record { kind = 37; a = array; b = index; c = heap.side_count; d = stores }) r
         → Told (record heap { bits = bits }) (record heap' { bits = bits }) base (s ++ (a_select array (get_or xs (2 * stores) 0) (pairs_back stores xs) ∷ [])) (length s) r

@@ -1,5 +1,5 @@
 -- What an addition to the nodes answers.
-use Rattle.std.specs.Prelude.{ℕ, ◌+◌, ◌*◌, ◌^◌, ◌≤◌, ◌<◌, ◌≡◌, List, [], ◌∷◌, ◌++◌, Bool, true, false, ◌⊎◌, T, length, take, drop, Option, Some, None, ⊤}
+use Rattle.std.specs.Prelude.{ℕ, ◌+◌, ◌*◌, ◌^◌, ◌≤◌, ◌<◌, ◌≡◌, List, [], ◌∷◌, ◌++◌, Bool, true, false, ◌⊎◌, T, length, take, drop, Option, Some, None, Result, Ok, Err, ⊤}
 use Rattle.std.proofs.Math.Option as maybe
 use Rattle.std.proofs.Math.Option.{none, some}
 use Rattle.std.proofs.Math.ListN.{get_elem?}
@@ -12,6 +12,7 @@ use Rattle.heap_laws.specs.Heap.{within, stack_size, pending_in, settled, Held, 
 use Rattle.heap_laws.specs.Filled.{filled}
 use Rattle.heap_laws.specs.Entering.{entered}
 use Rattle.heap_laws.specs.declared.Heap.{Heap}
+use Rattle.heap_laws.specs.declared.OverLimit.{OverLimit}
 
 -- some nodes are held
 abbrev pub Holds : Heap → Type 0
@@ -22,27 +23,27 @@ abbrev pub HoldsNodes : Heap → Type 0
 HoldsNodes heap = (bits : List ℕ) × Holds (record heap { bits = bits })
 
 -- The nodes t are over a limit; or they are held, what was asked for is node k, and of the operands that wait the first n are left.
-abbrev pub Told : Heap → Heap → ℕ → List Item → ℕ → Option ℕ → Type 0
-Told heap heap' n t k None = within t ≡ false
-Told heap heap' n t k (Some m) = (m ≡ k) × Held heap' t × (heap'.top ≡ n) × (heap'.stack ≡ heap.stack)
+abbrev pub Told : Heap → Heap → ℕ → List Item → ℕ → Result ℕ OverLimit → Type 0
+Told heap heap' n t k (Err _) = within t ≡ false
+Told heap heap' n t k (Ok m) = (m ≡ k) × Held heap' t × (heap'.top ≡ n) × (heap'.stack ≡ heap.stack)
 
 -- The constant has its node, and those that wait are as they were.
-abbrev pub ConstantTold : Heap → Heap → List ℕ → List Item → Option ℕ → Type 0
+abbrev pub ConstantTold : Heap → Heap → List ℕ → List Item → Result ℕ OverLimit → Type 0
 ConstantTold heap heap' bs s r = Told heap heap' heap.top (with_constant bs s) (node_of (with_constant bs s) (pending bs)) r
 
 -- The operand has its node, and those that wait are as they were.
-abbrev pub RefTold : Heap → Heap → Ref → List Item → Option ℕ → Type 0
+abbrev pub RefTold : Heap → Heap → Ref → List Item → Result ℕ OverLimit → Type 0
 RefTold heap heap' x s r = Told heap heap' heap.top (with_constants (pending_in (x ∷ [])) s) (node_of (with_constants (pending_in (x ∷ [])) s) x) r
 
 -- twice the number has 64 bits
-abbrev pub Half : Option ℕ → Type 0
-Half None = Unit
-Half (Some m) = 2 * m < 2 ^ 64
+abbrev pub Half : Result ℕ OverLimit → Type 0
+Half (Err _) = Unit
+Half (Ok m) = 2 * m < 2 ^ 64
 
 -- The record is written and counted; or it is one too many, or cannot be written.
-abbrev pub Recorded : Heap → Heap → Node → Option ℕ → Type 0
-Recorded heap heap' n None = (2048 ≤ heap.count) ⊎ (holdable n ≡ false)
-Recorded heap heap' n (Some m) =
+abbrev pub Recorded : Heap → Heap → Node → Result ℕ OverLimit → Type 0
+Recorded heap heap' n (Err _) = (2048 ≤ heap.count) ⊎ (holdable n ≡ false)
+Recorded heap heap' n (Ok m) =
     (m ≡ heap.count) × (heap.count < 2048) × T (holdable n)
     × (heap' ≡ record heap { count = heap.count + 1; records = filled heap.records (17 * heap.count) (record_bytes n) })
 
@@ -51,20 +52,33 @@ abbrev pub constant_record : Heap → ℕ → Node
 constant_record heap w = record { kind = 1; a = heap.bit_count; b = w; c = 0; d = 0 }
 
 -- The constant is entered; or its record is one too many, or cannot be written.
-abbrev pub Entered : Heap → Heap → ℕ → ℕ → Option ℕ → Type 0
-Entered heap heap' j w None = (2048 ≤ heap.count) ⊎ (holdable (constant_record heap w) ≡ false)
-Entered heap heap' j w (Some m) =
+abbrev pub Entered : Heap → Heap → ℕ → ℕ → Result ℕ OverLimit → Type 0
+Entered heap heap' j w (Err _) = (2048 ≤ heap.count) ⊎ (holdable (constant_record heap w) ≡ false)
+Entered heap heap' j w (Ok m) =
     (m ≡ heap.count) × (heap.count < 2048) × T (holdable (constant_record heap w)) × (heap' ≡ entered heap j w (constant_record heap w))
 
 -- An operand more waits; or there is no room for it.
-abbrev pub Pushed : List ℕ → Heap → List Ref → Ref → Option ⊤ → Type 0
-Pushed script heap' refs r (Some _) = Stacked script heap' (refs ++ (r ∷ []))
-Pushed script heap' refs r None = length refs ≡ stack_size
+abbrev pub Pushed : List ℕ → Heap → List Ref → Ref → Result ⊤ OverLimit → Type 0
+Pushed script heap' refs r (Ok _) = Stacked script heap' (refs ++ (r ∷ []))
+Pushed script heap' refs r (Err _) = length refs ≡ stack_size
+
+-- No record is stored, and no bit.
+abbrev pub SameStores : Heap → Heap → Type 0
+SameStores heap heap' = (heap'.records ≡ heap.records) × (heap'.bits ≡ heap.bits)
+
+-- The same nodes are held, whatever records and bits are.
+abbrev pub StillHeld : Heap → Heap → Type 0
+StillHeld heap heap' = (records bits : List ℕ) (s : List Item) → Held (record heap { records = records; bits = bits }) s → Held (record heap' { records = records; bits = bits }) s
+
+-- The operand waits last of a script's, whatever records and bits are; or there is no room for it.
+abbrev pub Waits : List ℕ → Heap → Heap → Ref → Result ⊤ OverLimit → Type 0
+Waits script heap heap' x r =
+    (records bits : List ℕ) (s : List Item) (refs : List Ref) → Held (record heap { records = records; bits = bits }) s → Stacked script heap refs → Pushed script heap' refs x r
 
 -- The constants among the operands from place `base` on have their nodes, and so has each operand; or the nodes are over a limit.
-abbrev pub AllTold : List ℕ → Heap → ℕ → List Item → List Ref → Option ⊤ → Type 0
-AllTold script heap' base s refs None = within (with_constants (pending_in (drop base refs)) s) ≡ false
-AllTold script heap' base s refs (Some _) =
+abbrev pub AllTold : List ℕ → Heap → ℕ → List Item → List Ref → Result ⊤ OverLimit → Type 0
+AllTold script heap' base s refs (Err _) = within (with_constants (pending_in (drop base refs)) s) ≡ false
+AllTold script heap' base s refs (Ok _) =
     Held heap' (with_constants (pending_in (drop base refs)) s)
     × Stacked script heap' (take base refs ++ settled (with_constants (pending_in (drop base refs)) s) (drop base refs))
 

@@ -1,4 +1,4 @@
-// An addition to the nodes that are rebuilt so far (`Heap`): none, where the nodes would be over a limit, or the number of its node.
+// An addition to the nodes that are rebuilt so far (`Heap`): the number of its node, or that the nodes would be over a limit.
 // Under "Ruled out" stand wrong programs that a public function's contract refuses.
 #![tactic(auto)]
 
@@ -28,47 +28,54 @@ ghost use Rattle.script_tokens.specs.Reached.{between};
 ghost use Rattle.lent.specs.Records.{node_of};
 ghost use Rattle.heap_laws.specs.Heap.{nodes_size, bits_size, stack_size, hash_from, hash_of, bits_at, ref_at, halves, pairs_back, Held, Stacked};
 ghost use Rattle.heap_laws.specs.Filled.{filled};
-ghost use Rattle.script_heap.specs.Told.{Holds, HoldsNodes, Told, ConstantTold, RefTold, Half, Pushed, AllTold, Recorded, Entered, Compared, DigitsTo, ConstantAt, found_as};
+ghost use Rattle.script_heap.specs.Told.{Holds, HoldsNodes, Told, ConstantTold, RefTold, Half, SameStores, StillHeld, Waits, AllTold, Recorded, Entered, Compared, DigitsTo, ConstantAt, found_as};
 
 use echo_names::same_bytes;
-use heap_laws::{Constant, Heap, SIDE, STACK};
+use heap_laws::{Constant, HASHES, Heap, OverLimit, SIDE, STACK};
 use lent::Node;
+use refusals::{MAX_BITS, MAX_NODES, RECORD};
 use script_tokens::digits_end;
 
-const MAX_NODES: u64 = 2048;
+// The largest number that a record can hold.
+const LARGEST: u64 = u32::MAX as u64;
 
-const MAX_BITS: usize = 131072;
+// Of a long constant only the lowest bits count for its hash, as a number of so many bits.
+const HASHED_BITS: usize = 48;
 
-const LARGEST: u64 = 4294967295;
+const HASH_RANGE: u64 = 1 << HASHED_BITS;
 
-// Kept: the bytes that a record has for these kinds, as the format of the nodes numbers them.
-const CONST: u8 = 1;
+// The hashes that are used: the largest prime up to `HASHES`.
+const HASH_PRIME: u64 = 4093;
 
-const SELECT: u8 = 37;
-
-const CALL: u8 = 38;
+// The kinds of nodes that no operator has, as a record numbers them.
+#[derive(Clone, Copy)]
+enum Kind {
+    Variable = 0,
+    Constant = 1,
+    Select = 37,
+    Call = 38,
+}
 
 // ---------------------------------------------------------------- records
 
 // 32 bits, the lowest byte first.
-fn write_word(records: &mut [u8], at: usize, v: u64)
-    requires room { at + 4 ≤ length records.old }
-    requires small { v ≤ 4294967295 }
+fn write_word(records: &mut [u8], at: usize, v: u32)
+    requires { at + 4 ≤ length records.old }
     ensures { records.new ≡ filled records.old at (le32 v) }
 {
-    records[at..at + 4].copy_from_slice(&(v as u32).to_le_bytes());
+    records[at..at + 4].copy_from_slice(&v.to_le_bytes());
 }
 
 fn write_record(records: &mut [u8], at: usize, n: Node)
-    requires room { at + 17 ≤ length records.old }
+    requires room { at + RECORD ≤ length records.old }
     requires fits { T (holdable (node_of n)) }
     ensures { records.new ≡ filled records.old at (record_bytes (node_of n)) }
 {
     records[at] = n.kind;
-    write_word(records, at + 1, n.a);
-    write_word(records, at + 5, n.b);
-    write_word(records, at + 9, n.c);
-    write_word(records, at + 13, n.d);
+    write_word(records, at + 1, n.a as u32);
+    write_word(records, at + 5, n.b as u32);
+    write_word(records, at + 9, n.c as u32);
+    write_word(records, at + 13, n.d as u32);
 }
 
 // Can a record hold the node?
@@ -79,26 +86,24 @@ fn fits(n: Node) -> bool
 }
 
 // The next record, and one node more.
-fn add_record(heap: &mut Heap, n: Node) -> Option<u64>
+fn add_record(heap: &mut Heap, n: Node) -> Result<u64, OverLimit>
     ensures bits { heap.new.bits ≡ heap.old.bits }
     ensures recorded { Recorded heap.old heap.new (node_of n) result }
 {
     let k = heap.count;
-    if k >= MAX_NODES {
-        return None;
+    if k >= MAX_NODES || !fits(n) {
+        return Err(OverLimit);
     }
-    if !fits(n) {
-        return None;
-    }
-    write_record(&mut heap.records, 17 * (k as usize), n);
+    write_record(&mut heap.records, RECORD * k, n);
     heap.count = k + 1;
-    Some(k)
+    Ok(k as u64)
 }
 
 // ---------------------------------------------------------------- nodes without side entries
 
+// Kept: in each record the numbers that are 0 stand as they are written, and not as a default of `Node`.
 // A variable. Ruled out: a width of 33 bits cut to 32; node 2,048.
-pub fn add_variable(heap: &mut Heap, width: u64) -> Option<u64>
+pub fn add_variable(heap: &mut Heap, width: u64) -> Result<u64, OverLimit>
     ensures bits { heap.new.bits ≡ heap.old.bits }
     ensures told { (bits : List ℕ) (s : List Item) → let before = record heap.old { bits = bits } in let after = record heap.new { bits = bits } in
         Held before s → Told before after heap.old.top (s ++ (a_variable width ∷ [])) (length s) result }
@@ -106,7 +111,7 @@ pub fn add_variable(heap: &mut Heap, width: u64) -> Option<u64>
     add_record(
         heap,
         Node {
-            kind: 0,
+            kind: Kind::Variable as u8,
             a: width,
             b: 0,
             c: 0,
@@ -117,55 +122,49 @@ pub fn add_variable(heap: &mut Heap, width: u64) -> Option<u64>
 
 // An operator, by its record; of the operands that wait `base` are left. Ruled out: an operand over 32 bits; the record of the node
 // before it written over.
-pub fn add_operator(heap: &mut Heap, base: usize, n: Node) -> Option<u64>
+pub fn add_operator(heap: &mut Heap, base: usize, n: Node) -> Result<u64, OverLimit>
     ensures bits { heap.new.bits ≡ heap.old.bits }
     ensures told { (bits : List ℕ) (s : List Item) (ks xs ms : List ℕ) → let before = record heap.old { bits = bits } in let after = record heap.new { bits = bits } in
         Held before s → node_with n.kind (fields (shape_of n.kind) ks xs ms) ≡ node_of n
         → Told before after base (s ++ (an_operator n.kind ks xs ms ∷ [])) (length s) result }
 {
-    heap.top = base as u64;
+    heap.top = base;
     add_record(heap, n)
 }
 
 // ---------------------------------------------------------------- operands that wait
 
-fn push(heap: &mut Heap, v: u64) -> Option<()>
-    ensures same { (heap.new.records ≡ heap.old.records) × (heap.new.bits ≡ heap.old.bits) }
-    ensures held { (records bits : List ℕ) (s : List Item) → let before = record heap.old { records = records; bits = bits } in let after = record heap.new { records = records; bits = bits } in
-        Held before s → Held after s }
-    ensures pushed { (records bits : List ℕ) (s : List Item) (script : List ℕ) (refs : List Ref) → Held (record heap.old { records = records; bits = bits }) s
-        → Stacked script heap.old refs → Pushed script heap.new refs (ref_at script v) result }
+fn push(heap: &mut Heap, v: u64) -> Result<(), OverLimit>
+    ensures same { SameStores heap.old heap.new }
+    ensures held { StillHeld heap.old heap.new }
+    ensures pushed { (script : List ℕ) → Waits script heap.old heap.new (ref_at script v) result }
 {
     let t = heap.top;
-    if t >= STACK as u64 {
-        return None;
+    if t >= STACK {
+        return Err(OverLimit);
     }
-    heap.stack[t as usize] = v;
+    heap.stack[t] = v;
     heap.top = t + 1;
-    Some(())
+    Ok(())
 }
 
-// A node waits as an operand; none, where there is no room. Ruled out: one that is put below the last; a number that is taken for a
+// A node waits as an operand, where there is room. Ruled out: one that is put below the last; a number that is taken for a
 // constant's place.
-pub fn push_node(heap: &mut Heap, i: u64) -> Option<()>
+pub fn push_node(heap: &mut Heap, i: u64) -> Result<(), OverLimit>
     requires { i < 2 ^ 63 }
-    ensures same { (heap.new.records ≡ heap.old.records) × (heap.new.bits ≡ heap.old.bits) }
-    ensures held { (records bits : List ℕ) (s : List Item) → let before = record heap.old { records = records; bits = bits } in let after = record heap.new { records = records; bits = bits } in
-        Held before s → Held after s }
-    ensures pushed { (records bits : List ℕ) (s : List Item) (script : List ℕ) (refs : List Ref) → Held (record heap.old { records = records; bits = bits }) s
-        → Stacked script heap.old refs → Pushed script heap.new refs (here i) result }
+    ensures same { SameStores heap.old heap.new }
+    ensures held { StillHeld heap.old heap.new }
+    ensures pushed { (script : List ℕ) → Waits script heap.old heap.new (here i) result }
 {
     push(heap, 2 * i)
 }
 
 // A constant, by the place of its digits. Ruled out: the place taken for a node's number; the digits one place on.
-pub fn push_constant(s: &[u8], heap: &mut Heap, p: usize) -> Option<()>
+pub fn push_constant(s: &[u8], heap: &mut Heap, p: usize) -> Result<(), OverLimit>
     requires { p ≤ length s.now }
-    ensures same { (heap.new.records ≡ heap.old.records) × (heap.new.bits ≡ heap.old.bits) }
-    ensures held { (records bits : List ℕ) (t : List Item) → let before = record heap.old { records = records; bits = bits } in let after = record heap.new { records = records; bits = bits } in
-        Held before t → Held after t }
-    ensures pushed { (records bits : List ℕ) (t : List Item) (refs : List Ref) → Held (record heap.old { records = records; bits = bits }) t
-        → Stacked s.now heap.old refs → Pushed s.now heap.new refs (pending (bits_at s.now p)) result }
+    ensures same { SameStores heap.old heap.new }
+    ensures held { StillHeld heap.old heap.new }
+    ensures pushed { Waits s.now heap.old heap.new (pending (bits_at s.now p)) result }
 {
     push(heap, 2 * (p as u64) + 1)
 }
@@ -187,8 +186,8 @@ fn copy_operands(side: &mut [u64], stack: &[u64], from: usize, base: usize, coun
     requires operands { base + count ≤ length stack.now }
     ensures { side.new ≡ filled side.old from (halves (take count (drop base stack.now))) }
 {
-    for i in 0..count {
-        side[from + i] = stack[base + i] / 2;
+    for (i, operand) in stack[base..base + count].iter().enumerate() {
+        side[from + i] = operand / 2;
     }
 }
 
@@ -198,6 +197,7 @@ fn copy_pairs(side: &mut [u64], stack: &[u64], from: usize, base: usize, n: usiz
     requires operands { base + 2 * n ≤ length stack.now }
     ensures { side.new ≡ filled side.old from (flat (pairs_back n (halves (drop base stack.now)))) }
 {
+    // Kept: by place, since the pairs go up and their operands down.
     for i in 0..n {
         let m = n - 1 - i;
         let at = from + 2 * i;
@@ -208,7 +208,7 @@ fn copy_pairs(side: &mut [u64], stack: &[u64], from: usize, base: usize, n: usiz
 
 // A call on the operands from place `base` on, which wait no more. Ruled out: one operand left out; the operands of the term around it
 // taken too.
-pub fn add_call(heap: &mut Heap, base: usize, g: u64, width: u64) -> Option<u64>
+pub fn add_call(heap: &mut Heap, base: usize, g: u64, width: u64) -> Result<u64, OverLimit>
     requires holds { HoldsNodes heap.old }
     requires low { base ≤ heap.old.top }
     requires room { heap.old.top ≤ stack_size }
@@ -217,18 +217,18 @@ pub fn add_call(heap: &mut Heap, base: usize, g: u64, width: u64) -> Option<u64>
         Held before s → Stacked script heap.old refs → drop base refs ≡ map here xs
         → Told before after base (s ++ (a_call g width xs ∷ [])) (length s) result }
 {
-    let count = heap.top as usize - base;
-    let side = heap.side_count as usize;
+    let count = heap.top - base;
+    let side = heap.side_count;
     if count > SIDE - side {
-        return None;
+        return Err(OverLimit);
     }
     copy_operands(&mut heap.side, &heap.stack, side, base, count);
-    heap.side_count = (side + count) as u64;
-    heap.top = base as u64;
+    heap.side_count = side + count;
+    heap.top = base;
     add_record(
         heap,
         Node {
-            kind: CALL,
+            kind: Kind::Call as u8,
             a: g,
             b: width,
             c: side as u64,
@@ -239,7 +239,7 @@ pub fn add_call(heap: &mut Heap, base: usize, g: u64, width: u64) -> Option<u64>
 
 // A select with `stores` stores. The operands from place `base` on wait no more: index and value of each store, the innermost first, and
 // the select's own index. Ruled out: the innermost store as the first pair; a value in the place of its index.
-pub fn add_select(heap: &mut Heap, base: usize, stores: usize, array: u64) -> Option<u64>
+pub fn add_select(heap: &mut Heap, base: usize, stores: usize, array: u64) -> Result<u64, OverLimit>
     requires holds { HoldsNodes heap.old }
     requires room { base + (2 * stores + 1) ≤ stack_size }
     ensures bits { heap.new.bits ≡ heap.old.bits }
@@ -247,18 +247,18 @@ pub fn add_select(heap: &mut Heap, base: usize, stores: usize, array: u64) -> Op
         Held before s → Stacked script heap.old refs → drop base refs ≡ map here xs → length xs ≡ 2 * stores + 1
         → Told before after base (s ++ (a_select array (get_or xs (2 * stores) 0) (pairs_back stores xs) ∷ [])) (length s) result }
 {
-    let side = heap.side_count as usize;
+    let side = heap.side_count;
     if stores > (SIDE - side) / 2 {
-        return None;
+        return Err(OverLimit);
     }
     let index = operand(heap, base + 2 * stores);
     copy_pairs(&mut heap.side, &heap.stack, side, base, stores);
-    heap.side_count = (side + 2 * stores) as u64;
-    heap.top = base as u64;
+    heap.side_count = side + 2 * stores;
+    heap.top = base;
     add_record(
         heap,
         Node {
-            kind: SELECT,
+            kind: Kind::Select as u8,
             a: array,
             b: index,
             c: side as u64,
@@ -272,11 +272,12 @@ pub fn add_select(heap: &mut Heap, base: usize, stores: usize, array: u64) -> Op
 // The number of the bits, as far as 48 bits hold it.
 fn hash_bits(bits: &[u8]) -> u64
     ensures value { result ≡ hash_from 0 bits.now }
-    ensures small { result < 281474976710656 }
+    ensures small { result < HASH_RANGE }
 {
     let mut h: u64 = 0;
+    // Kept: a loop in place of `fold`, whose closure would not know that the sum stays small.
     for b in bits {
-        h = (h * 2 + u64::from(*b)) % 281474976710656;
+        h = (h * 2 + u64::from(*b)) % HASH_RANGE;
     }
     h
 }
@@ -285,51 +286,42 @@ fn hash_bits(bits: &[u8]) -> u64
 fn hash_at(bits: &[u8]) -> usize
     ensures { result ≡ hash_of bits.now }
 {
-    let w = bits.len();
-    if w > 48 {
-        return ((hash_bits(&bits[..48]) + w as u64) % 4093) as usize;
-    }
-    ((hash_bits(bits) + w as u64) % 4093) as usize
+    let lowest = &bits[..bits.len().min(HASHED_BITS)];
+    ((hash_bits(lowest) + bits.len() as u64) % HASH_PRIME) as usize
 }
 
-// Is node k, a constant, that of the w bits from place `at` on?
-fn is_at(heap: &Heap, k: usize, at: usize, w: usize) -> bool
-    requires constant { ConstantAt heap.now k }
-    requires inside { at + w ≤ bits_size }
-    ensures { (s : List Item) (ds : List ℕ) → Held heap.now s → get_elem? s k ≡ some (a_constant ds)
-        → Compared ds (take w (drop at heap.now.bits)) result }
+// Is node k, a constant, that of these bits?
+fn is_at(heap: &Heap, k: usize, bits: &[u8]) -> bool
+    requires { ConstantAt heap.now k }
+    ensures { (s : List Item) (ds : List ℕ) → Held heap.now s → get_elem? s k ≡ some (a_constant ds) → Compared ds bits.now result }
 {
     let x = heap.constants[k];
-    if x.width as usize != w {
-        return false;
-    }
-    let start = x.start as usize;
-    same_bytes(&heap.bits[start..start + w], &heap.bits[at..at + w])
+    same_bytes(&heap.bits[x.start..x.start + x.width], bits)
 }
 
-// The node of the constant of the w bits from place `at` on, with hash j, if it has one.
-fn find_bits(heap: &Heap, j: usize, at: usize, w: usize) -> Option<u64>
+// The node of the constant of these bits, with hash j, if it has one.
+// Kept: a walk along a chain, as in script_names. The links there are those of lines; one walk for both would take the links and the comparison
+// as closures over the table and over the nodes.
+fn find_bits(heap: &Heap, j: usize, bits: &[u8]) -> Option<u16>
     requires holds { Holds heap.now }
-    requires inside { at + w ≤ bits_size }
-    requires hash { j ≡ hash_of (take w (drop at heap.now.bits)) }
-    ensures { (s : List Item) → Held heap.now s → result ≡ found_as (find_constant (take w (drop at heap.now.bits)) s) }
+    requires hash { j ≡ hash_of bits.now }
+    ensures { (s : List Item) → Held heap.now s → result ≡ found_as (find_constant bits.now s) }
 {
-    let mut c = heap.heads[j];
-    // Kept: a walk along a chain of links.
-    while c > 0 {
-        let k = c - 1;
-        if is_at(heap, k as usize, at, w) {
-            return Some(k);
+    let mut link = heap.heads[j];
+    while let Some(n) = link {
+        let k = usize::from(n);
+        if is_at(heap, k, bits) {
+            return Some(n);
         }
-        c = heap.constants[k as usize].before;
+        link = heap.constants[k].before;
     }
     None
 }
 
 // A constant of the w bits behind those in use, with hash j, is the next node.
-fn enter_constant(heap: &mut Heap, j: usize, w: usize) -> Option<u64>
-    requires small { j < 4096 }
-    requires room { heap.old.bit_count + w ≤ 131072 }
+fn enter_constant(heap: &mut Heap, j: usize, w: usize) -> Result<u64, OverLimit>
+    requires small { j < HASHES }
+    requires room { heap.old.bit_count + w ≤ MAX_BITS }
     ensures { Entered heap.old heap.new j w result }
 {
     let before = heap.heads[j];
@@ -337,8 +329,8 @@ fn enter_constant(heap: &mut Heap, j: usize, w: usize) -> Option<u64>
     let n = add_record(
         heap,
         Node {
-            kind: CONST,
-            a: start,
+            kind: Kind::Constant as u8,
+            a: start as u64,
             b: w as u64,
             c: 0,
             d: 0,
@@ -346,27 +338,29 @@ fn enter_constant(heap: &mut Heap, j: usize, w: usize) -> Option<u64>
     )?;
     heap.constants[n as usize] = Constant {
         start,
-        width: w as u64,
+        width: w,
         before,
     };
-    heap.heads[j] = n + 1;
-    heap.bit_count = start + w as u64;
-    Some(n)
+    heap.heads[j] = Some(n as u16);
+    heap.bit_count = start + w;
+    Ok(n)
 }
 
 // The constant of the w bits behind those in use has its node.
-fn settle(heap: &mut Heap, w: usize) -> Option<u64>
+fn settle(heap: &mut Heap, w: usize) -> Result<u64, OverLimit>
     requires holds { Holds heap.old }
-    requires few { w ≤ 131072 }
+    requires few { w ≤ MAX_BITS }
     ensures { (s : List Item) → Held heap.old s → ConstantTold heap.old heap.new (take w (drop heap.old.bit_count heap.old.bits)) s result }
 {
-    let at = heap.bit_count as usize;
-    let j = hash_at(&heap.bits[at..at + w]);
-    if let Some(k) = find_bits(heap, j, at, w) {
-        return Some(k);
+    let at = heap.bit_count;
+    let nodes: &Heap = heap;
+    let bits = &nodes.bits[at..at + w];
+    let j = hash_at(bits);
+    if let Some(k) = find_bits(nodes, j, bits) {
+        return Ok(u64::from(k));
     }
     if w > MAX_BITS - at {
-        return None;
+        return Err(OverLimit);
     }
     enter_constant(heap, j, w)
 }
@@ -383,6 +377,9 @@ fn digits_to(s: &[u8], p: usize) -> usize
     digits_end(s, p)
 }
 
+// Kept: what is stored from a place on is told of the whole array here and above, as the laws of the nodes have it; a part that is lent would be put
+// back into the array in the proof of each caller.
+
 // The bits of the digits between two places, stored from place `at` on, the lowest first.
 fn digits_in(s: &[u8], bits: &mut [u8], at: usize, p: usize, e: usize)
     requires digits { DigitsTo s.now p e }
@@ -390,9 +387,11 @@ fn digits_in(s: &[u8], bits: &mut [u8], at: usize, p: usize, e: usize)
     ensures { bits.new ≡ filled bits.old at (bits_of (between s.now p e)) }
 {
     let n = e - p;
+    // Kept: by place. Each turn stores the last of the digits that are left; `rev` and `enumerate` would give the bit's place alone, and the proof
+    // is about both.
     for i in 0..n {
         let k = n - 1 - i;
-        bits[at + i] = s[p + k] - 48;
+        bits[at + i] = s[p + k] - b'0';
     }
 }
 
@@ -402,66 +401,66 @@ fn number_in(bits: &mut [u8], at: usize, value: u64, w: usize)
     ensures { bits.new ≡ filled bits.old at (low_bits w value) }
 {
     let mut v = value;
-    for i in 0..w {
-        bits[at + i] = (v % 2) as u8;
+    for bit in &mut bits[at..at + w] {
+        *bit = (v % 2) as u8;
         v /= 2;
     }
 }
 
 // The constant whose digits begin at place p has its node.
-fn settle_digits(s: &[u8], heap: &mut Heap, p: usize) -> Option<u64>
+fn settle_digits(s: &[u8], heap: &mut Heap, p: usize) -> Result<u64, OverLimit>
     requires { Holds heap.old }
     ensures { (t : List Item) → Held heap.old t → ConstantTold heap.old heap.new (bits_at s.now p) t result }
 {
     let e = digits_to(s, p);
     let w = e - p;
     if w > MAX_BITS {
-        return None;
+        return Err(OverLimit);
     }
-    let at = heap.bit_count as usize;
+    let at = heap.bit_count;
     digits_in(s, &mut heap.bits, at, p, e);
     settle(heap, w)
 }
 
 // The constant of the number's lowest bits has its node. Ruled out: a second node for a constant that has one; the highest bit first.
-pub fn settle_number(heap: &mut Heap, value: u64, width: u64) -> Option<u64>
+pub fn settle_number(heap: &mut Heap, value: u64, width: u64) -> Result<u64, OverLimit>
     requires { Holds heap.old }
     ensures { (s : List Item) → Held heap.old s → ConstantTold heap.old heap.new (low_bits width value) s result }
 {
     let w = width as usize;
     if w > MAX_BITS {
-        return None;
+        return Err(OverLimit);
     }
-    let at = heap.bit_count as usize;
+    let at = heap.bit_count;
     number_in(&mut heap.bits, at, value, w);
     settle(heap, w)
 }
 
 // The operand that a number stands for has its node.
-fn settle_one(s: &[u8], heap: &mut Heap, c: u64) -> Option<u64>
+fn settle_one(s: &[u8], heap: &mut Heap, c: u64) -> Result<u64, OverLimit>
     requires { Holds heap.old }
     ensures told { (t : List Item) → Held heap.old t → RefTold heap.old heap.new (ref_at s.now c) t result }
     ensures half { Half result }
 {
     if c % 2 == 0 {
-        return Some(c / 2);
+        return Ok(c / 2);
     }
     settle_digits(s, heap, (c / 2) as usize)
 }
 
 // Every operand from place `base` on has its node, in order. Ruled out: a constant that is used twice placed twice; one past the last
 // operand settled.
-pub fn settle_all(s: &[u8], heap: &mut Heap, base: usize) -> Option<()>
+pub fn settle_all(s: &[u8], heap: &mut Heap, base: usize) -> Result<(), OverLimit>
     requires holds { Holds heap.old }
     requires room { heap.old.top ≤ stack_size }
     ensures { (t : List Item) (refs : List Ref) → Held heap.old t → Stacked s.now heap.old refs
         → AllTold s.now heap.new base t refs result }
 {
-    let top = heap.top as usize;
-    for i in base..top {
+    // Kept: by place, since each turn changes the heap that the operands wait in.
+    for i in base..heap.top {
         let c = heap.stack[i];
         let m = settle_one(s, heap, c)?;
         heap.stack[i] = 2 * m;
     }
-    Some(())
+    Ok(())
 }

@@ -11,6 +11,12 @@ ghost use Rattle.script_lines.specs.Scanning.{found_of, fresh_at, starts_at, ahe
 // A check-sat line, with its byte 10.
 static LINE: [u8; 12] = *b"(check-sat)\n";
 
+// The place in that line of its `k`.
+const K: usize = 5;
+
+// The place of its `-`.
+const DASH: usize = 6;
+
 // So many places are looked at together.
 const BLOCK: usize = 64;
 
@@ -35,6 +41,7 @@ fn first_line(file: &[u8], a: usize, e: usize) -> Option<usize>
     requires { (a ≤ e) × (e ≤ length file.now) }
     ensures { ahead file.now a ≡ scanned file.now e result }
 {
+    // Kept: the closure of a `find` would have to be told that its place lies in the file.
     for k in a..e {
         if starts(file, k) {
             return Some(k + LINE.len());
@@ -43,10 +50,11 @@ fn first_line(file: &[u8], a: usize, e: usize) -> Option<usize>
     None
 }
 
-// Does the byte stand in the block from this place on? (All places are looked at: a loop that is not left midway is done many places at once.)
+// Does the byte stand in the block from this place on?
+// Kept: `contains` would leave the loop midway, and one that looks at all places is done many places at once.
 fn in_reach(file: &[u8], i: usize, b: u8) -> bool
-    requires { i + 64 ≤ length file.now }
-    ensures { result ≡ false → Without file.now i 64 b }
+    requires { i + BLOCK ≤ length file.now }
+    ensures { result ≡ false → Without file.now i BLOCK b }
 {
     let mut seen = false;
     for x in &file[i..i + BLOCK] {
@@ -57,13 +65,13 @@ fn in_reach(file: &[u8], i: usize, b: u8) -> bool
     seen
 }
 
-// The places of a block. Where none of them has the line's `k` five bytes on, or none its `-` six bytes on, no check-sat line starts there.
+// The places of a block. Where none of them has the line's `k` so far on, or none its `-`, no check-sat line starts there.
 // The scripts have a `k` nowhere else but in names.
 fn in_block(file: &[u8], i: usize) -> Option<usize>
-    requires { i + 70 ≤ length file.now }
-    ensures { ahead file.now i ≡ scanned file.now (i + 64) result }
+    requires { i + BLOCK + DASH ≤ length file.now }
+    ensures { ahead file.now i ≡ scanned file.now (i + BLOCK) result }
 {
-    if !in_reach(file, i + 5, b'k') || !in_reach(file, i + 6, b'-') {
+    if !in_reach(file, i + K, b'k') || !in_reach(file, i + DASH, b'-') {
         return None;
     }
     first_line(file, i, i + BLOCK)
@@ -75,8 +83,9 @@ fn in_block(file: &[u8], i: usize) -> Option<usize>
 pub fn next_script(file: &[u8]) -> Option<usize>
     ensures { found_of result ≡ following_script file.now }
 {
-    // (A block is looked at six bytes on.)
-    let blocks = file.len().saturating_sub(6) / BLOCK;
+    // (A block is looked at up to its last place's `-`.)
+    let blocks = file.len().saturating_sub(DASH) / BLOCK;
+    // Kept: as in `first_line`.
     for k in 0..blocks {
         if let Some(end) = in_block(file, BLOCK * k) {
             return Some(end);

@@ -1,11 +1,11 @@
 -- The table keeps what is asked of it where a line is entered.
-use Rattle.std.specs.Prelude.{ℕ, ◌+◌, ◌-◌, ◌*◌, ◌%◌, ◌≤◌, ◌<◌, ◌≡◌, refl, List, [], ◌∷◌, Bool, true, false, eqb, leb, length, take, drop, set}
+use Rattle.std.specs.Prelude.{ℕ, ◌+◌, ◌-◌, ◌*◌, ◌%◌, ◌≤◌, ◌<◌, ◌≡◌, refl, List, [], ◌∷◌, Bool, true, false, eqb, leb, length, take, drop, get_or, set, Some, None}
 use Rattle.std.proofs.Common.{ap, sym, ◌∙◌, subst, arith, eqb→eq, length-set, get_or-set_same, get_or-set_other}
 use Rattle.std.proofs.lemmas.Bool.{eqb-false}
 use Rattle.lists.specs.Tests.{true→T}
 use Rattle.script_names.specs.declared.Line.{Line}
 use Rattle.script_names.specs.declared.Table.{Table}
-use Rattle.script_names.specs.Entries.{entry_from, name_at, hash_from, hash_of, hash_at, no_line, place_of, before_of, last_of, Chains, Long}
+use Rattle.script_names.specs.Entries.{entry_from, name_at, hash_from, hash_of, hash_at, no_measure, no_line, link_of, place_of, before_of, last_of, Chains, Long}
 
 hash-from-small : (h : ℕ) (w : List ℕ) → h < 4096 → hash_from h w < 4096
 unfolding hash_from
@@ -30,10 +30,10 @@ by_equal {P} k c f g = go (eqb k c) refl
 
 -- a line entered at place a, with hash h
 abbrev pub entered : Table → ℕ → ℕ → ℕ → Table
-entered t c a h = record { lines = set t.lines c (record { place = a; before = last_of t h }); last = set t.last h (c + 1); measures = t.measures }
+entered t c a h = record { lines = set t.lines c (record { place = a; before = get_or t.last h None; measure = no_measure }); last = set t.last h (Some c) }
 
 pub entered-long : (t : Table) (c a h : ℕ) → Long t → Long (entered t c a h)
-entered-long t c a h l = record { lines = length-set _ _ _ ∙ l.lines; last = length-set _ _ _ ∙ l.last; measures = l.measures }
+entered-long t c a h l = record { lines = length-set _ _ _ ∙ l.lines; last = length-set _ _ _ ∙ l.last }
 
 module _ (t : Table) (c a h : ℕ) (room : c < 1536) (long : Long t) (small : h < 4096) where
   place_other : (k : ℕ) → (k ≡ c → ⊥) → place_of (entered t c a h) k ≡ place_of t k
@@ -43,16 +43,16 @@ module _ (t : Table) (c a h : ℕ) (room : c < 1536) (long : Long t) (small : h 
   place-own = ap (λ (x : Line). x.place) (get_or-set_same t.lines c _ no_line (omega (arith, long.lines)))
 
   next-other : (k : ℕ) → (k ≡ c → ⊥) → before_of (entered t c a h) k ≡ before_of t k
-  next-other k f = ap (λ (x : Line). x.before) (get_or-set_other t.lines c k _ no_line f)
+  next-other k f = ap (λ (x : Line). link_of x.before) (get_or-set_other t.lines c k _ no_line f)
 
   next_here : before_of (entered t c a h) c ≡ last_of t h
-  next_here = ap (λ (x : Line). x.before) (get_or-set_same t.lines c _ no_line (omega (arith, long.lines)))
+  next_here = ap (λ (x : Line). link_of x.before) (get_or-set_same t.lines c _ no_line (omega (arith, long.lines)))
 
   head-other : (j : ℕ) → (j ≡ h → ⊥) → last_of (entered t c a h) j ≡ last_of t j
-  head-other j f = get_or-set_other t.last h j (c + 1) 0 f
+  head-other j f = ap link_of (get_or-set_other t.last h j (Some c) None f)
 
   head-here : last_of (entered t c a h) h ≡ c + 1
-  head-here = get_or-set_same t.last h (c + 1) 0 (omega (arith, long.last))
+  head-here = ap link_of (get_or-set_same t.last h (Some c) None (omega (arith, long.last))) ∙ omega arith
 
 module _ (s b : List ℕ) (t : Table) (c a : ℕ) (room : c < 1536) (long : Long t) (x : Chains s b t c) (low : a ≤ length s) (here : drop a s ≡ entry_from c b) where
   abbrev h : ℕ

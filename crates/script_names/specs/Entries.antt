@@ -61,26 +61,31 @@ hash_of n = elim (leb (length n) 16) [ true ↦ hash_from 0 n | false ↦ hash_f
 abbrev pub hash_at : List ℕ → ℕ → ℕ
 hash_at b k = hash_of (name_at b k)
 
--- where the name of line k begins; 1 and the number of the last line before it with the same hash, or 0
-abbrev pub no_line : Line
-no_line = record { place = 0; before = 0 }
+-- 1 and the number of the line, or 0
+abbrev pub link_of : Option ℕ → ℕ
+link_of None = 0
+link_of (Some k) = suc k
 
+abbrev pub no_measure : Measure
+no_measure = record { first = 0; second = 0 }
+
+abbrev pub no_line : Line
+no_line = record { place = 0; before = None; measure = no_measure }
+
+-- where the name of line k begins; 1 and the number of the last line before it with the same hash, or 0
 abbrev pub place_of : Table → ℕ → ℕ
 place_of t k = (get_or t.lines k no_line).place
 
 abbrev pub before_of : Table → ℕ → ℕ
-before_of t k = (get_or t.lines k no_line).before
+before_of t k = link_of (get_or t.lines k no_line).before
 
 -- 1 and the number of the last line with the hash h, or 0
 abbrev pub last_of : Table → ℕ → ℕ
-last_of t h = get_or t.last h 0
+last_of t h = link_of (get_or t.last h None)
 
 -- the numbers of line k
-abbrev pub no_measure : Measure
-no_measure = record { first = 0; second = 0 }
-
 abbrev pub measure_of : Table → ℕ → Measure
-measure_of t k = get_or t.measures k no_measure
+measure_of t k = (get_or t.lines k no_line).measure
 
 -- Of the numbers of lines nothing is asked here.
 pub record Chains (s b : List ℕ) (t : Table) (count : ℕ) : Type 0 where
@@ -95,7 +100,6 @@ pub record Chains (s b : List ℕ) (t : Table) (count : ℕ) : Type 0 where
 pub record Long (t : Table) : Type 0 where
   pub lines : length t.lines ≡ 1536
   pub last : length t.last ≡ 4096
-  pub measures : length t.measures ≡ 1536
 
 -- no line is in the table
 pub record Empty (t : Table) : Type 0 where

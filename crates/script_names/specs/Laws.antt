@@ -1,20 +1,21 @@
 -- Laws of the names between bars, and of their hashes.
-use Rattle.std.specs.Prelude.{ℕ, zero, suc, ◌+◌, ◌*◌, ◌-◌, ◌%◌, ◌≤◌, ◌<◌, ◌≡◌, refl, List, [], ◌∷◌, ◌++◌, Bool, true, false, T, eqb, leb, ltb, length, take, drop, get_or, Some, None, unwrap_or}
+use Rattle.std.specs.Prelude.{ℕ, zero, suc, ◌+◌, ◌*◌, ◌-◌, ◌%◌, ◌≤◌, ◌<◌, ◌≡◌, refl, List, [], ◌∷◌, ◌++◌, Bool, true, false, T, eqb, leb, ltb, length, take, drop, get_or, set, Some, None, unwrap_or}
 use Rattle.std.specs.Prelude.{Option as Maybe}
-use Rattle.std.proofs.Common.{drop_of_length-le, ap, sym, ◌∙◌, subst, append_assoc, arith, eqb→eq, ltb→lt, nltb→le, le-leb, length-drop, take-append-drop, drop-drop, drop-cons, take-take, length-take-le}
+use Rattle.std.proofs.Common.{drop_of_length-le, ap, sym, ◌∙◌, subst, append_assoc, arith, eqb→eq, ltb→lt, nltb→le, le-leb, length-drop, length-set, get_or-set_same, get_or-set_other, take-append-drop, drop-cons, length-take-le}
 use Rattle.std.proofs.Math.Option.{Option, none}
 use Rattle.std.proofs.lemmas.Bool.{eqb-false, lt-leb}
-use Rattle.std.proofs.Math.Seq.{drop-length, take-nil}
+use Rattle.std.proofs.Math.Seq.{drop-length}
 use Rattle.lists.specs.Bytes.{bytes}
 use Rattle.lists.specs.Tests.{same, same→eq, same_refl, T→true, true→T, no→false}
 use Rattle.reading.specs.Trees.{Name}
 use Rattle.readback.specs.Reader.{Took, took, and_then, expect, up_to, name_read}
 use Rattle.reader_laws.specs.TermsStrict.{impossible, took-both, name-strict}
 use Rattle.script_tokens.specs.Reached.{between, NameTo, ends_name}
+use Rattle.script_names.specs.declared.Line.{Line}
 use Rattle.script_names.specs.declared.Measure.{Measure}
 use Rattle.script_names.specs.declared.Table.{Table}
 use Rattle.script_names.specs.Chains.{entered, entered-long, chains-more}
-use Rattle.script_names.specs.Entries.{after_bar, entry_from, name_here, name_at, Named, Closed, hash_from, hash_of, hash_at, before_of, last_of, Chains, Empty, Tabled}
+use Rattle.script_names.specs.Entries.{after_bar, entry_from, name_here, name_at, Named, Closed, hash_from, hash_of, hash_at, no_line, link_of, place_of, before_of, last_of, measure_of, Chains, Sought, Empty, Tabled}
 
 -- ---------------------------------------------------------------- a name and its bar
 
@@ -99,6 +100,9 @@ same-front x y n m r q tx ty = by-same (same n m) refl
         let g : n ≡ m = sym k ∙ ty.name in
         subst T (ap (λ (z : List ℕ). same n z) g ∙ e) (same_refl n)))
 
+pub between-length : (s : List ℕ) (a e : ℕ) → a ≤ e → e ≤ length s → length (between s a e) ≡ e - a
+between-length s a e l m = let d = length-drop a s in length-take-le (e - a) (drop a s) (omega arith)
+
 pub name-same : (s : List ℕ) (a f p : ℕ) (y : List ℕ) → Named s a f → drop p s ≡ y → Closed y
     → same (between s a f) (take (f - a) (drop p s)) ≡ same (between s a (f - 1)) (name_here y)
 name-same s a f p y h e c =
@@ -107,6 +111,11 @@ name-same s a f p y h e c =
     let z : f - a ≡ suc (length n) = omega (arith, h.low) in
     (λ i. same (take (z i) (drop a s)) (take (z i) (e i)))
     ∙ same-front (drop a s) y n (name_here y) (drop f s) c.rest (taken (drop a s) n (drop f s) h.read) (taken y (name_here y) c.rest c.read)
+
+-- the same, of as many bytes as the name and its bar have
+pub name-stands : (s : List ℕ) (a f p : ℕ) (y : List ℕ) → Named s a f → drop p s ≡ y → Closed y
+    → same (between s a f) (take (length (between s a f)) (drop p s)) ≡ same (between s a (f - 1)) (name_here y)
+name-stands s a f p y h e c = rw (between-length s a f (omega (arith, h.low)) h.high) (name-same s a f p y h e c)
 
 -- ---------------------------------------------------------------- hashes
 
@@ -118,39 +127,13 @@ pub hash-end : (xs : List ℕ) (h i : ℕ) → length xs ≤ i → hash_from h (
 unfolding hash_from
 hash-end xs h i l = rw (drop_of_length-le xs {i = i} l)
 
-pub between-length : (s : List ℕ) (a e : ℕ) → a ≤ e → e ≤ length s → length (between s a e) ≡ e - a
-between-length s a e l m = let d = length-drop a s in length-take-le (e - a) (drop a s) (omega arith)
-
-pub hash-whole : (s : List ℕ) (a e : ℕ) → a ≤ e → e ≤ length s → e - a ≤ 16 → hash_from 0 (between s a e) ≡ hash_of (between s a e)
+pub hash-whole : (n : Name) → length n ≤ 16 → hash_from 0 n ≡ hash_of n
 unfolding hash_of
-hash-whole s a e l m k =
-    let n = between-length s a e l m in
-    let z : leb (length (between s a e)) 16 ≡ true = le-leb (length (between s a e)) 16 (omega arith) in
-    rw (z, hash_of)
+hash-whole n l = let z : leb (length n) 16 ≡ true = le-leb (length n) 16 l in rw (z, hash_of)
 
-drop-take : (k n : ℕ) (l : List ℕ) → drop k (take (k + n) l) ≡ take n (drop k l)
-drop-take zero n l = let z : 0 + n ≡ n = omega arith in rw z refl
-drop-take (suc k) n [] = let z : suc k + n ≡ suc (k + n) = omega arith in rw z (sym (take-nil n))
-drop-take (suc k) n (x ∷ l) = let z : suc k + n ≡ suc (k + n) = omega arith in rw z (drop-take k n l)
-
-pub hash-ends : (s : List ℕ) (a e : ℕ) → a ≤ e → e ≤ length s → 16 < e - a → hash_from (hash_from 0 (between s a (a + 16))) (between s (e - 16) e) ≡ hash_of (between s a e)
+pub hash-ends : (n : Name) → 16 < length n → hash_from (hash_from 0 (take 16 n)) (drop (length n - 16) n) ≡ hash_of n
 unfolding hash_of
-hash-ends s a e l m k = parted (e - a - 16) (e - 16) (omega arith) (omega arith) (between-length s a e l m)
-  where
-    first : between s a (a + 16) ≡ take 16 (between s a e)
-    first =
-        let x : a + 16 - a ≡ 16 = omega arith in
-        ap (λ (i : ℕ). take i (drop a s)) x ∙ sym (take-take 16 (e - a) (drop a s) (omega arith))
-
-    parted : (d b : ℕ) → d + 16 ≡ e - a → a + d ≡ b → length (between s a e) ≡ e - a → hash_from (hash_from 0 (between s a (a + 16))) (between s b e) ≡ hash_of (between s a e)
-    parted d b p q n =
-        let z : length (between s a e) - 16 ≡ d = omega (arith, p, n) in
-        let y : e - b ≡ 16 = omega (arith, p, q, l) in
-        let x : take (e - a) (drop a s) ≡ take (d + 16) (drop a s) = ap (λ (i : ℕ). take i (drop a s)) (sym p) in
-        let w : leb (length (between s a e)) 16 ≡ false = lt-leb (length (between s a e)) 16 (omega (arith, p, n, k)) in
-        let v : between s b e ≡ drop (length (between s a e) - 16) (between s a e) =
-        ap (λ (i : ℕ). take i (drop b s)) y ∙ ap (λ (i : ℕ). take 16 (drop i s)) (sym q) ∙ sym (ap (take 16) (drop-drop d a s)) ∙ sym (drop-take d 16 (drop a s)) ∙ ap (drop d) (sym x) ∙ ap (λ (i : ℕ). drop i (between s a e)) (sym z) in
-        (λ i. hash_from (hash_from 0 (first i)) (v i)) ∙ rw (w, hash_of)
+hash-ends n l = let w : leb (length n) 16 ≡ false = lt-leb (length n) 16 l in rw (w, hash_of)
 
 -- ---------------------------------------------------------------- chains
 
@@ -218,26 +201,35 @@ walk-on s b t count n k x w q =
         let apart = eqb-false j k r in
         w.past j (omega arith) l
 
-module _ (s b : List ℕ) (t : Table) (count : ℕ) (n : Name) (c : ℕ) (x : Chains s b t count) (w : Walked b n count c) (above : 0 < c) where
-  at-line : Walked b n count (suc (c - 1))
-  at-line = let z : c ≡ suc (c - 1) = omega arith in subst (Walked b n count) z w
+-- a link to line k
+pub walk-at : {b : List ℕ} {n : Name} {count k j : ℕ} {o : Maybe ℕ} → Walked b n count (link_of o) → o ≡ Some k → j ≡ k → Walked b n count (suc j)
+walk-at {b} {n} {count} w e f = subst (λ (i : ℕ). Walked b n count (suc i)) (sym f) (subst (λ (o : Maybe ℕ). Walked b n count (link_of o)) e w)
 
-  pub walk_inside : c - 1 < count
-  walk_inside = (at-line.own (c - 1) refl).0
+module _ (s b : List ℕ) (t : Table) (count : ℕ) (n : Name) (k : ℕ) (x : Chains s b t count) (w : Walked b n count (suc k)) where
+  pub walk_inside : k < count
+  walk_inside = (w.own k refl).0
 
-  pub walk_step : same n (name_at b (c - 1)) ≡ false → Walked b n count (before_of t (c - 1))
-  walk_step q = walk-on s b t count n (c - 1) x at-line q
+  pub walk_step : same n (name_at b k) ≡ false → Walked b n count (before_of t k)
+  walk_step q = walk-on s b t count n k x w q
 
-  pub walk-less : before_of t (c - 1) < c
-  walk-less = by_next (before_of t (c - 1)) refl
+  pub walk-less : before_of t k < suc k
+  walk-less = by_next (before_of t k) refl
     where
-      by_next : (y : ℕ) → before_of t (c - 1) ≡ y → y < c
-      by_next zero e = above
-      by_next (suc j) e = let r = x.next_own (c - 1) walk_inside j e in omega (arith, r.0)
+      by_next : (y : ℕ) → before_of t k ≡ y → y < suc k
+      by_next zero e = omega arith
+      by_next (suc j) e = let r = x.next_own k walk_inside j e in omega (arith, r.0)
 
 -- the chain has ended
 pub walk_end : {b : List ℕ} {n : Name} {count c : ℕ} → Walked b n count c → c ≤ 0 → (j : ℕ) → j < count → same n (name_at b j) ≡ false
 walk_end w l j m = w.past j (omega arith) m
+
+-- a line of the table whose name is compared
+module _ {s : List ℕ} {first count a f : ℕ} {t : Table} (n : Named s a f) (x : Tabled s first t count) (few : count ≤ 1536) (k : ℕ) (inside : k < count) where
+  pub line-same : same (between s a f) (take (length (between s a f)) (drop (place_of t k) s)) ≡ same (between s a (f - 1)) (name_at (drop first s) k)
+  line-same = name-stands s a f (place_of t k) (entry_from k (drop first s)) n ((x.chains few).entry k inside) (x.closed k inside)
+
+  pub line-found : same (between s a f) (take (length (between s a f)) (drop (place_of t k) s)) ≡ true → Sought s first count (between s a (f - 1)) (Some (record { line = k; place = place_of t k }))
+  line-found e = (inside, (x.chains few).place k inside, (x.chains few).entry k inside, sym line-same ∙ e)
 
 -- the name of a line that is entered
 pub entered-name : (s : List ℕ) (a f : ℕ) (y : List ℕ) → Named s a f → drop a s ≡ y → name_here y ≡ between s a (f - 1)
@@ -287,13 +279,45 @@ tabled_start s first t z = record {
 
 -- ---------------------------------------------------------------- the numbers of lines
 
--- what is written there leaves the chains as they are
-chains-kept : (s b : List ℕ) (t : Table) (count : ℕ) (ms : List Measure) → Chains s b t count → Chains s b (record t { measures = ms }) count
-chains-kept s b t count ms x = record { place = x.place; entry = x.entry; head_all = x.head_all; head-own = x.head-own; next_all = x.next_all; next_own = x.next_own }
+-- the numbers of line k written
+abbrev pub noted : Table → ℕ → Measure → Table
+noted t k x = record t { lines = set t.lines k (record (get_or t.lines k no_line) { measure = x }) }
 
-pub tabled-kept : {s : List ℕ} {first : ℕ} {t : Table} {count : ℕ} (ms : List Measure) → length ms ≡ 1536 → Tabled s first t count → Tabled s first (record t { measures = ms }) count
-tabled-kept {s} {first} {t} {count} ms l y = record {
-  long = record { lines = y.long.lines; last = y.long.last; measures = l };
-  closed = y.closed;
-  chains = λ m. chains-kept s (drop first s) t count ms (y.chains m);
-}
+module _ (t : Table) (k : ℕ) (x : Measure) (inside : k < length t.lines) where
+  -- what a line has beside them is as before
+  aside : {A : Type 0} (g : Line → A) → ((y : Line) → g (record y { measure = x }) ≡ g y) → (j : ℕ) → g (get_or (noted t k x).lines j no_line) ≡ g (get_or t.lines j no_line)
+  aside g f j = by_line (eqb j k) refl
+    where
+      by_line : (b : Bool) → eqb j k ≡ b → g (get_or (noted t k x).lines j no_line) ≡ g (get_or t.lines j no_line)
+      by_line true e = let z : j ≡ k = eqb→eq j k (true→T e) in rw z (ap g (get_or-set_same t.lines k _ no_line inside) ∙ f (get_or t.lines k no_line))
+      by_line false e = ap g (get_or-set_other t.lines k j _ no_line (eqb-false j k e))
+
+  place-kept : (j : ℕ) → place_of (noted t k x) j ≡ place_of t j
+  place-kept = aside (λ (y : Line). y.place) (λ y. refl)
+
+  before-kept : (j : ℕ) → before_of (noted t k x) j ≡ before_of t j
+  before-kept = aside (λ (y : Line). link_of y.before) (λ y. refl)
+
+  -- what is written there leaves the chains as they are
+  chains-kept : (s b : List ℕ) (count : ℕ) → Chains s b t count → Chains s b (noted t k x) count
+  chains-kept s b count c = record {
+    place = λ j l. rw (place-kept j) (c.place j l);
+    entry = λ j l. rw (place-kept j) (c.entry j l);
+    head_all = c.head_all;
+    head-own = c.head-own;
+    next_all = λ j l i m q. rw (before-kept j) (c.next_all j l i m q);
+    next_own = λ j l i q. c.next_own j l i (sym (before-kept j) ∙ q);
+  }
+
+  pub tabled-kept : {s : List ℕ} {first count : ℕ} → Tabled s first t count → Tabled s first (noted t k x) count
+  tabled-kept {s} {first} {count} y = record {
+    long = record { lines = length-set t.lines k _ ∙ y.long.lines; last = y.long.last };
+    closed = y.closed;
+    chains = λ m. chains-kept s (drop first s) count (y.chains m);
+  }
+
+  pub measure-own : measure_of (noted t k x) k ≡ x
+  measure-own = ap (λ (y : Line). y.measure) (get_or-set_same t.lines k _ no_line inside)
+
+  pub measure-other : (j : ℕ) → (j ≡ k → ⊥) → measure_of (noted t k x) j ≡ measure_of t j
+  measure-other j f = ap (λ (y : Line). y.measure) (get_or-set_other t.lines k j _ no_line f)

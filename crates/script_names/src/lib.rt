@@ -1,4 +1,7 @@
 // The names that a script declares, found by hash: the table that is made as lines are read, and what is found in it.
+// Kept: a text, its table and its lines are parameters. The table is lent to be changed while lines are read and to be looked at afterwards, which
+// one struct cannot be. Where the lines begin and how many there are stands in a header too, so a table with both would have contracts say that
+// the two are one. A name to be found is two places of the text, since `Named` says what stands after it there: its bar.
 // Under "Ruled out" stand wrong programs that a public function's contract refuses.
 #![tactic(auto)]
 
@@ -9,33 +12,42 @@ ghost use Rattle.script_names.specs.Entries.{after_bar, entry_from, hash_of, has
 
 use script_tokens::name_end;
 
-// How many lines the table holds.
+// How many lines the table holds: as many as a script within the limits has.
 pub const LINES: usize = 1536;
 
 // How many hashes there are.
 pub const HASHES: usize = 4096;
 
-// Of a line: where its name begins; 1 and the number of the last line before it with the same hash, or 0.
-#[derive(Clone, Copy, Debug, PartialEq, Eq)]
-pub struct Line {
-    pub place: usize,
-    pub before: usize,
-}
+// So many bytes at each end of a name does its hash depend on.
+const ENDS: usize = 16;
 
 // Two numbers of a line, which are for what it declares.
+// Kept: a line's number tells what it declares, so an enum would say that again, and its readers would have arms that cannot come.
 #[derive(Clone, Copy, Debug, PartialEq, Eq)]
 pub struct Measure {
     pub first: u64,
     pub second: u64,
 }
 
-// The table: the lines; for each hash 1 and the number of the last line with it, or 0; and what the lines declare.
-// Kept: two arrays of as many elements, since the second is written when the first is whole, and each element is then written once.
+// The numbers of a line of which none were read yet.
+pub const UNREAD: Measure = Measure {
+    first: 0,
+    second: 0,
+};
+
+// Of a line: where its name begins; the last line before it with the same hash; the numbers of what it declares.
+#[derive(Clone, Copy, Debug, PartialEq, Eq)]
+pub struct Line {
+    pub place: usize,
+    pub before: Option<u16>,
+    pub measure: Measure,
+}
+
+// The table: the lines, and for each hash the last line with it.
 #[derive(Drop)]
 pub struct Table {
     pub lines: [Line; LINES],
-    pub last: [usize; HASHES],
-    pub measures: [Measure; LINES],
+    pub last: [Option<u16>; HASHES],
 }
 
 // The lines of declarations so far: where the first of them begins, and how many there are.
@@ -60,57 +72,51 @@ impl Table {
         Table {
             lines: [Line {
                 place: 0,
-                before: 0,
+                before: None,
+                measure: UNREAD,
             }; LINES],
-            last: [0; HASHES],
-            measures: [Measure {
-                first: 0,
-                second: 0,
-            }; LINES],
+            last: [None; HASHES],
         }
     }
 }
 
-// The hash goes on from a number over a part of the script.
-fn hash_from(s: &[u8], start: usize, from: usize, e: usize) -> usize
-    requires { (start < 4096) × (from ≤ e) × (e ≤ length s.now) }
-    ensures { (result ≡ hash_from start (between s.now from e)) × (result < 4096) }
+// The hash goes on from a number over a part of a name.
+fn hash_from(start: usize, part: &[u8]) -> usize
+    requires { start < HASHES }
+    ensures { (result ≡ hash_from start part.now) × (result < HASHES) }
 {
     let mut h = start;
-    for c in &s[from..e] {
+    for c in part {
         h = (h * 31 + usize::from(*c)) % HASHES;
     }
     h
 }
 
-// The hash of a part of the script: of a long one by its first and last sixteen bytes. Ruled out: one that reads before the part; one that is not
-// below 4,096.
-pub fn hash_part(s: &[u8], a: usize, e: usize) -> usize
-    requires { (a ≤ e) × (e ≤ length s.now) }
-    ensures { (result ≡ hash_of (between s.now a e)) × (result < 4096) }
+// The hash of a name: of a long one by its first and last bytes.
+fn hash_of(name: &[u8]) -> usize
+    ensures { (result ≡ hash_of name.now) × (result < HASHES) }
 {
-    if e - a > 16 {
-        let h = hash_from(s, 0, a, a + 16);
-        return hash_from(s, h, e - 16, e);
+    if name.len() > ENDS {
+        let h = hash_from(0, &name[..ENDS]);
+        return hash_from(h, &name[name.len() - ENDS..]);
     }
-    hash_from(s, 0, a, e)
+    hash_from(0, name)
 }
 
-// The place after the first bar from here on, or the end.
-fn after_bar(s: &[u8], at: usize) -> usize
+// The place after the first bar from here on, or the end. Ruled out: the place at the bar; the end where there is a bar.
+pub fn after_bar(s: &[u8], at: usize) -> usize
     requires { at ≤ length s.now }
     ensures { (result ≤ length s.now) × (drop result s.now ≡ after_bar (drop at s.now)) }
 {
     name_end(s, at).unwrap_or(s.len())
 }
 
-// Do the bytes at place p begin with those from place a up to place e? Ruled out: one that compares no more bytes than are left; yes for bytes
-// that differ in the last.
-pub fn stands(s: &[u8], a: usize, e: usize, p: usize) -> bool
-    requires { (a ≤ e) × (e ≤ length s.now) × (p ≤ length s.now) }
-    ensures { result ≡ same (between s.now a e) (take (e - a) (drop p s.now)) }
+// Do the bytes at place p begin with the name? Ruled out: one that compares no more bytes than are left; yes for bytes that differ in the last.
+pub fn stands(s: &[u8], name: &[u8], p: usize) -> bool
+    requires { p ≤ length s.now }
+    ensures { result ≡ same name.now (take (length name.now) (drop p s.now)) }
 {
-    s[p..].starts_with(&s[a..e])
+    s[p..].starts_with(name)
 }
 
 // The lines one after the other.
@@ -119,8 +125,9 @@ fn scanned(s: &[u8], lines: Declared, a: usize, f: usize) -> Option<Found>
     ensures { Sought s.now lines.first lines.count (between s.now a (f - 1)) result }
 {
     let mut p = after_bar(s, lines.first);
+    // Kept: each name tells where the next one begins.
     for k in 0..lines.count {
-        if stands(s, a, f, p) {
+        if stands(s, &s[a..f], p) {
             return Some(Found { line: k, place: p });
         }
         p = after_bar(s, after_bar(s, p));
@@ -130,20 +137,18 @@ fn scanned(s: &[u8], lines: Declared, a: usize, f: usize) -> Option<Found>
 
 // The lines with the hash of the name, the last first.
 fn chained(s: &[u8], t: &Table, lines: Declared, a: usize, f: usize) -> Option<Found>
-    requires { (lines.count ≤ 1536) × Named s.now a f × Tabled s.now lines.first t.now lines.count }
+    requires { (lines.count ≤ LINES) × Named s.now a f × Tabled s.now lines.first t.now lines.count }
     ensures { Sought s.now lines.first lines.count (between s.now a (f - 1)) result }
 {
-    let mut c = t.last[hash_part(s, a, f - 1)];
-    // Kept: a walk along a chain of links.
-    while c > 0 {
-        let line = t.lines[c - 1];
-        if stands(s, a, f, line.place) {
-            return Some(Found {
-                line: c - 1,
-                place: line.place,
-            });
+    let mut link = t.last[hash_of(&s[a..f - 1])];
+    // Kept: a walk along a chain of links. Constants have chains of equal hashes too (`script_heap`), of another array whose laws say other things.
+    while let Some(k) = link {
+        let line = usize::from(k);
+        let place = t.lines[line].place;
+        if stands(s, &s[a..f], place) {
+            return Some(Found { line, place });
         }
-        c = line.before;
+        link = t.lines[line].before;
     }
     None
 }
@@ -168,11 +173,12 @@ pub fn enter(s: &[u8], t: &mut Table, lines: Declared, a: usize, f: usize)
     ensures { Tabled s.now lines.first t.new (lines.count + 1) }
 {
     if lines.count < LINES {
-        let h = hash_part(s, a, f - 1);
+        let h = hash_of(&s[a..f - 1]);
         t.lines[lines.count] = Line {
             place: a,
             before: t.last[h],
+            measure: UNREAD,
         };
-        t.last[h] = lines.count + 1;
+        t.last[h] = Some(lines.count as u16);
     }
 }

@@ -1,4 +1,4 @@
-// How a script begins, read with the script and the place reached as one thing: four methods of that struct, and a function with plain
+// How a script begins, read with the script and the place reached as one thing: two methods of that struct, and a function with plain
 // parameters, which all others call. The work is in `opening_at`, on a slice and a number.
 // Under "Ruled out" stand wrong programs that a public function's contract refuses.
 #![tactic(auto)]
@@ -9,7 +9,7 @@ ghost use Rattle.script_opening.specs.Openings.{opening_at};
 use script_tokens::literal;
 
 // The bytes of a script, and how far they are read.
-// Kept: a struct of a byte slice and a number, the form that document 01 names for this place.
+// Kept: the form in which the users asked for it (docs/DECISIONS.md).
 #[derive(Clone, Copy)]
 pub struct Reader<'a> {
     pub src: &'a [u8],
@@ -33,20 +33,6 @@ impl<'a> Reader<'a> {
         ensures { (result.src ≡ src.entry) × (result.at ≡ 0) }
     {
         Reader { src, at: 0 }
-    }
-
-    // Ruled out: the length for the place; the place after it.
-    pub fn place(self) -> usize
-        ensures { result ≡ self.entry.at }
-    {
-        self.at
-    }
-
-    // Ruled out: the place left as it was; other bytes.
-    pub fn moved(self, at: usize) -> Reader<'a>
-        ensures { (result.src ≡ self.entry.src) × (result.at ≡ at) }
-    {
-        Reader { src: self.src, at }
     }
 
     // Ruled out: the opening read at the start, wherever the reader is; the reader's own place answered.

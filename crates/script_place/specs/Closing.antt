@@ -1,6 +1,5 @@
 -- A term at its bracket: its node, by its head and the operands that wait.
-use Rattle.std.specs.Prelude.{ℕ, zero, suc, ◌+◌, ◌*◌, ◌≤◌, ◌<◌, ◌≡◌, T, length, drop, get_or, Result, Ok, Err, Some, None}
-use Rattle.std.specs.Prelude as code
+use Rattle.std.specs.Prelude.{ℕ, zero, suc, ◌+◌, ◌*◌, ◌≤◌, ◌<◌, ◌≡◌, T, length, drop, get_or, Result, Ok, Err, unwrap_or}
 use Rattle.std.proofs.Math.Path.{refl, ap}
 use Rattle.std.proofs.Common.{sym, ◌∙◌, subst, arith, length-append}
 use mathlib.Core.List.{List, [], ◌∷◌, ◌++◌, map}
@@ -15,6 +14,7 @@ use Rattle.rebuilt.specs.Built.{array_at, function_at}
 use Rattle.rebuilt.specs.Known.{select-known, call_known}
 use Rattle.heap_laws.specs.Heap.{pending_in, pairs_back}
 use Rattle.heap_laws.specs.declared.Heap.{Heap}
+use Rattle.heap_laws.specs.declared.OverLimit.{OverLimit}
 use Rattle.heap_laws.specs.Within.{within-parts}
 use Rattle.place_laws.specs.Ahead.{stored_then, stores_in}
 use Rattle.place_laws.specs.Operands.{operands_of, amounts_of, put-operator, put-call, put-select, select-refs}
@@ -25,8 +25,10 @@ use Rattle.script_heads.specs.declared.Head.{Head}
 use Rattle.script_heads.specs.declared.Head.TheVariants.{Operator, Call, Select}
 use Rattle.script_heads.specs.Heads.{numerals_of, name_to, select_name, NullaryAt}
 use Rattle.script_ends.specs.declared.Seen.{Seen}
+use Rattle.script_ends.specs.Parts.{seen-first-width, seen-second-width}
 use Rattle.script_ends.specs.Ends.{EndedAs, Ending, OperatorEnds, operator_item}
 use Rattle.script_place.specs.declared.Unread.{Unread}
+use Rattle.script_place.specs.declared.Unread.TheVariants.{Limit}
 use Rattle.script_place.specs.declared.Placed.{Placed}
 use Rattle.script_place.specs.Terms.{PlacedTo, Finished, Closing}
 use Rattle.script_place.specs.Forms.{at_byte, leaf-form, operator-form, call-form, select-form}
@@ -49,11 +51,11 @@ second-numeral (suc (suc m)) i j b p q = p (omega arith)
 
 -- the end of a term, as `place` answers it
 module _ (s : List ℕ) (heap : Heap) (at : ℕ) (rest : List ℕ) (width : ℕ) (D : Declarations) (tree : Tree) (first : List Item) (refs : List Ref) (levels side : ℕ) where
-  ended-placed : (r : code.Option ℕ) (w e : ℕ) (p : Result Placed Unread) → at < e → e ≤ length s → rest ≡ drop e s → w ≡ width → NoLeaf tree → EndedAs s heap refs (put D tree first) r → Finished r w e p
+  ended-placed : (r : Result ℕ OverLimit) (w e : ℕ) (p : Result Placed Unread) → at < e → e ≤ length s → rest ≡ drop e s → w ≡ width → NoLeaf tree → EndedAs s heap refs (put D tree first) r → Finished r w e p
       → PlacedTo s heap at rest width (put D tree first) refs levels side p
-  ended-placed None w e p a b c d f h q =
+  ended-placed (Err _) w e p a b c d f h q =
       subst (PlacedTo s heap at rest width (put D tree first) refs levels side) (sym q) (λ r. over_none levels side (put D tree first).items h r)
-  ended-placed (Some i) w e p a b c d f (x, y, z) q =
+  ended-placed (Ok i) w e p a b c d f (x, y, z) q =
       let l = node-low D tree first i f x in
       let k = (within-parts (put D tree first).items y.inside).nodes in
       subst (PlacedTo s heap at rest width (put D tree first) refs levels side) (sym q)
@@ -67,13 +69,22 @@ module _ {s : List ℕ} {heap : Heap} {x : Head} {base : ℕ} {v : Seen} {e at :
   pub bracket-low : e < length s
   bracket-low = (at_byte s e 41 rest c.bracket).0
 
-  pub closed-placed : (heap' : Heap) (p : Put) → p ≡ put D tree first → NoLeaf tree → (r : code.Option ℕ) (w : ℕ) (z : Result Placed Unread) → w ≡ width_of (some sort)
+  pub closed-placed : (heap' : Heap) (p : Put) → p ≡ put D tree first → NoLeaf tree → (r : Result ℕ OverLimit) (w : ℕ) (z : Result Placed Unread) → w ≡ width_of (some sort)
       → EndedAs s heap' refs p r → Finished r w (e + 1) z → (levels side : ℕ) → PlacedTo s heap' at rest (width_of (some sort)) (put D tree first) refs levels side z
   closed-placed heap' p q n r w z d h f levels side =
       let l = bracket-low in
       let k = c.low in
       ended-placed s heap' at rest (width_of (some sort)) D tree first refs levels side r w (e + 1) z (omega arith) (omega arith) (at_byte s e 41 rest c.bracket).1 d n
       (subst (λ (y : Put). EndedAs s heap' refs y r) q h) f
+
+  -- by the term's head
+  pub closing-as : {y : Head} → x ≡ y → Closing s heap y base v e at D tree sort rest first refs
+  closing-as f = subst (λ (z : Head). Closing s heap z base v e at D tree sort rest first refs) f c
+
+  -- no room for its node
+  pub closed-over : (heap' : Heap) (p : Put) → p ≡ put D tree first → (u : OverLimit) → EndedAs s heap' refs p (Err u)
+      → (levels side : ℕ) → PlacedTo s heap' at rest (width_of (some sort)) (put D tree first) refs levels side (Err Limit)
+  closed-over heap' p q u h levels side = λ r. over_none levels side (put D tree first).items (subst (λ (y : Put). EndedAs s heap' refs y (Err u)) q h) r
 
   puts : (ts : Trees) → operands_of tree ≡ ts → put_all D ts first ≡ record { items = c.now; refs = c.rs }
   puts ts q = ap (λ (us : Trees). put_all D us first) (sym q) ∙ (so-far-end D (operands_of tree) first c.now c.rs c.os c.far).0
@@ -124,17 +135,17 @@ module _ {s : List ℕ} {heap : Heap} {k m i j from base : ℕ} {v : Seen} {e at
       sym (ap (λ (t : Tree). put D t first) operator-is ∙ put-operator D k numerals operator-trees first
       ∙ ap (λ (o : PutAll). ended (operator_amounts ++ pending_in o.refs) (λ node. an_operator k numerals (map node o.refs) (pendings node operator_amounts)) o.items) (puts c operator-trees operator-operands))
 
-  first-seen : v.first ≡ first_width (tree_sorts D operator-trees)
-  first-seen = c.seen.first ∙ ap first_width (sym (sorts c operator-trees operator-operands))
+  first-seen : unwrap_or v.first 0 ≡ first_width (tree_sorts D operator-trees)
+  first-seen = ap (λ o. unwrap_or o 0) c.seen.first ∙ seen-first-width c.os ∙ ap first_width (sym (sorts c operator-trees operator-operands))
 
-  second-seen : v.second ≡ second_width (tree_sorts D operator-trees)
-  second-seen = c.seen.second ∙ ap second_width (sym (sorts c operator-trees operator-operands))
+  second-seen : unwrap_or v.second 0 ≡ second_width (tree_sorts D operator-trees)
+  second-seen = ap (λ o. unwrap_or o 0) c.seen.second ∙ seen-second-width c.os ∙ ap second_width (sym (sorts c operator-trees operator-operands))
 
   operator-met : Met (shape_of k) numerals (tree_sorts D operator-trees) sort
   operator-met = apply_met D k numerals operator-trees sort operator-sorted
 
-  module _ (a b : ℕ) (p : a ≡ get_or numerals 0 0) (q : b ≡ get_or numerals 1 0) where
-    pub operator-ends : OperatorEnds k a b v.first numerals operator_amounts (length c.rs)
+  module _ (a b y : ℕ) (p : a ≡ get_or numerals 0 0) (q : b ≡ get_or numerals 1 0) (f : y ≡ unwrap_or v.first 0) where
+    pub operator-ends : OperatorEnds k a b y numerals operator_amounts (length c.rs)
     operator-ends = record {
       operands = tree_sorts D operator-trees;
       sort = sort;
@@ -142,22 +153,23 @@ module _ {s : List ℕ} {heap : Heap} {k m i j from base : ℕ} {v : Seen} {e at
       many = ap length (sorts c operator-trees operator-operands) ∙ c.far.count;
       first-numeral = p;
       second-numeral = q;
-      turns = λ h. rotation-amount D k numerals operator-trees sort operator-sorted h ∙ (λ t. low_bits (sym first-seen t) (sym p t) ∷ []);
+      turns = λ h. rotation-amount D k numerals operator-trees sort operator-sorted h ∙ (λ t. low_bits (sym (f ∙ first-seen) t) (sym p t) ∷ []);
       plain = λ h. no-amounts (shape_of k) (width_of (tree_sort D (apply k numerals operator-trees))) numerals h;
     }
 
-    rule-is : rule_of (shape_of k) (get_or numerals 0 0) (get_or numerals 1 0) (first_width (tree_sorts D operator-trees)) (second_width (tree_sorts D operator-trees)) ≡ rule_of (shape_of k) a b v.first v.second
-    rule-is = λ t. rule_of (shape_of k) (sym p t) (sym q t) (sym first-seen t) (sym second-seen t)
+    module _ (z : ℕ) (g : z ≡ unwrap_or v.second 0) where
+      rule-is : rule_of (shape_of k) (get_or numerals 0 0) (get_or numerals 1 0) (first_width (tree_sorts D operator-trees)) (second_width (tree_sorts D operator-trees)) ≡ rule_of (shape_of k) a b y z
+      rule-is = λ t. rule_of (shape_of k) (sym p t) (sym q t) (sym (f ∙ first-seen) t) (sym (g ∙ second-seen) t)
 
-    pub operator-rule : T (proper (rule_of (shape_of k) a b v.first v.second).result) × T (rule_of (shape_of k) a b v.first v.second).condition
-    operator-rule = (
-      subst (λ (r : Rule). T (proper r.result)) rule-is (subst (λ (σ : TreeSort). T (proper σ)) (sym operator-met.result) operator-met.proper),
-      subst (λ (r : Rule). T r.condition) rule-is operator-met.condition,
-    )
+      pub operator-rule : T (proper (rule_of (shape_of k) a b y z).result) × T (rule_of (shape_of k) a b y z).condition
+      operator-rule = (
+        subst (λ (r : Rule). T (proper r.result)) rule-is (subst (λ (σ : TreeSort). T (proper σ)) (sym operator-met.result) operator-met.proper),
+        subst (λ (r : Rule). T r.condition) rule-is operator-met.condition,
+      )
 
-    pub operator-width : (r : ℕ) → r ≡ result_width (shape_of k) a b v.first v.second → r ≡ width_of (some sort)
-    operator-width r f =
-        f ∙ ap (λ (y : Rule). width_of (some y.result)) (sym rule-is) ∙ sym (apply-width D k numerals operator-trees sort operator-sorted) ∙ ap width_of operator-sorted
+      pub operator-width : (r : ℕ) → r ≡ result_width (shape_of k) a b y z → r ≡ width_of (some sort)
+      operator-width r e =
+          e ∙ ap (λ (y : Rule). width_of (some y.result)) (sym rule-is) ∙ sym (apply-width D k numerals operator-trees sort operator-sorted) ∙ ap width_of operator-sorted
 
 -- ---------------------------------------------------------------- calls
 
@@ -215,7 +227,7 @@ module _ {s : List ℕ} {D : Declarations} {at g w e : ℕ} (x : NullaryAt s D a
   alone-put items =
       call-item D (name_to s (at + 1) e) g w x.entry.numbers.function x.entry.width noTrees sort alone-sorted [] items items refl ∙ ap (λ (t : Tree). put D t items) alone-is.0
 
-  pub alone-placed : (heap : Heap) (items : List Item) (refs : List Ref) (levels side : ℕ) (r : code.Option ℕ) (p : Result Placed Unread)
+  pub alone-placed : (heap : Heap) (items : List Item) (refs : List Ref) (levels side : ℕ) (r : Result ℕ OverLimit) (p : Result Placed Unread)
       → EndedAs s heap refs (ended (pending_in []) (λ node. a_call g w (map node [])) items) r → Finished r w e p
       → PlacedTo s heap at rest (width_of (some sort)) (put D tree items) refs levels side p
   alone-placed heap items refs levels side r p h f =

@@ -1,6 +1,5 @@
 -- What the head of a term tells: the term is placed, or it is a call without arguments, or its operands begin.
-use Rattle.std.specs.Prelude.{ℕ, suc, ◌+◌, ◌-◌, ◌≤◌, ◌<◌, ◌≡◌, refl, List, [], ◌∷◌, length, drop, Result, Ok, Err, Some, None}
-use Rattle.std.specs.Prelude as code
+use Rattle.std.specs.Prelude.{ℕ, suc, ◌+◌, ◌-◌, ◌≤◌, ◌<◌, ◌≡◌, refl, List, length, drop, Result, Ok, Err, Some, None}
 use Rattle.std.proofs.Math.Path.{ap, sym, subst}
 use Rattle.std.proofs.Common.{◌∙◌}
 use Rattle.std.proofs.Math.Option.{Option, none, some}
@@ -14,6 +13,7 @@ use Rattle.sort_reader.specs.Sorted.{sorted}
 use Rattle.sort_reader.specs.Selects.{raised, raised_by}
 use Rattle.heap_laws.specs.Heap.{Held}
 use Rattle.heap_laws.specs.declared.Heap.{Heap}
+use Rattle.heap_laws.specs.declared.OverLimit.{OverLimit}
 use Rattle.heap_laws.specs.Within.{within-parts}
 use Rattle.place_laws.specs.Ahead.{Ahead}
 use Rattle.place_laws.specs.Operands.{operands_of}
@@ -25,7 +25,7 @@ use Rattle.script_heads.specs.declared.Head.TheVariants.{Constant, Variable, Nul
 use Rattle.script_heads.specs.Heads.{numerals_of, name_to, HeadAt, NothingAt, ConstantAt, VariableAt}
 use Rattle.script_names.specs.declared.Table.{Table}
 use Rattle.script_header.specs.declared.Header.{Header}
-use Rattle.script_terms.specs.declared.Code.TheVariants as states
+use Rattle.script_terms.specs.declared.TermState.TheVariants as states
 use Rattle.script_terms.specs.States.{sort_from, rest, state_of, enough, SortAt, Going as Reads}
 use Rattle.script_terms.specs.SortLaws.{term-sorted}
 use Rattle.script_terms.specs.Turns.{head_end}
@@ -64,9 +64,9 @@ sorts-as {s} {t} {h} {at} q n e k = took-both (sort_from n) q.sort (drop e s) q.
 -- ---------------------------------------------------------------- by the head
 
 -- a term that its head is
-leaf-sort : {s : List ℕ} {D : Declarations} {a w e : ℕ} → Reads s D a (record { code = states.Done; x = w; y = 0; z = 0 }) e → SortAt s D a (Some (record { sort = w; end = e }))
+leaf-sort : {s : List ℕ} {D : Declarations} {a w e : ℕ} → Reads s D a (states.Done w) e → SortAt s D a (Some (record { sort = w; end = e }))
 unfolding state_of rest
-leaf-sort {s} {D} {a} {w} {e} x = (x.moved refl, x.high, λ f l. let (g, m, k) = x.reads f l in k ∙ ap (λ o. rest g D o (drop e s)) x.held.is)
+leaf-sort {s} {D} {a} {w} {e} x = (x.moved _ refl, x.high, λ f l. let (g, m, k) = x.reads f l in k ∙ ap (λ o. rest g D o (drop e s)) x.held.is)
 
 module _ (s : List ℕ) (D : Declarations) (at : ℕ) where
   done-is : (a b : Placed) → SortIs s D at (Ok b) → ◌≡◌ {A = Begun} (Done a) (Done b) → SortIs s D at (Ok a)
@@ -81,9 +81,9 @@ module _ (s : List ℕ) (D : Declarations) (at : ℕ) where
   done-sorts (Call f i w z) k p e = absurd (let y : ◌≡◌ {A = ℕ} 0 1 = cc in omega arith)
   done-sorts (Select a i v n f) k p e = absurd (let y : ◌≡◌ {A = ℕ} 0 1 = cc in omega arith)
 
-pub alone-sorts : {s : List ℕ} {D : Declarations} {at g w e : ℕ} → HeadAt s D at (Some (Nullary g w e)) → (r : code.Option ℕ) (p : Result Placed Unread) → Finished r w e p → SortIs s D at p
-alone-sorts {s} {D} {at} k None p f = subst (SortIs s D at) (sym f) tt
-alone-sorts {s} {D} {at} k (Some i) p f = subst (SortIs s D at) (sym f) (leaf-sort (nullary-going k))
+pub alone-sorts : {s : List ℕ} {D : Declarations} {at g w e : ℕ} → HeadAt s D at (Some (Nullary g w e)) → (r : Result ℕ OverLimit) (p : Result Placed Unread) → Finished r w e p → SortIs s D at p
+alone-sorts {s} {D} {at} k (Err _) p f = subst (SortIs s D at) (sym f) tt
+alone-sorts {s} {D} {at} k (Ok i) p f = subst (SortIs s D at) (sym f) (leaf-sort (nullary-going k))
 
 -- a call without arguments
 pub alone-head : (at : ℕ) (x : Head) (c : Applied) → BegunTo x at (Alone c) → x ≡ Nullary c.function c.width c.end

@@ -1,5 +1,5 @@
 -- The operands of a term, one after the other: what holds at each turn, and what a turn brings.
-use Rattle.std.specs.Prelude.{ℕ, suc, ◌+◌, ◌-◌, ◌≤◌, ◌<◌, ◌≡◌, refl, List, [], ◌∷◌, ◌++◌, length, drop, get_or, Ok, Err, Some, ⊤}
+use Rattle.std.specs.Prelude.{ℕ, suc, ◌+◌, ◌-◌, ◌≤◌, ◌<◌, ◌≡◌, refl, List, [], ◌∷◌, ◌++◌, length, drop, get_or, Ok, Err, Some, None, ⊤}
 use Rattle.std.proofs.Common.{ap, sym, ◌∙◌, subst, append_assoc, append-nil, arith, add-one, ne_eqb, length-append, drop-cons}
 use Rattle.std.proofs.Math.Option.{Option}
 use Rattle.lists.specs.Places.{grows-length}
@@ -8,6 +8,7 @@ use Rattle.echo_spec.specs.TreeSorts.{TreeSort, width_of, tree_sort}
 use Rattle.readback.specs.Rebuild.{Item, Ref, Put, put}
 use Rattle.heap_laws.specs.Heap.{stack_size, Held, Stacked}
 use Rattle.heap_laws.specs.declared.Heap.{Heap}
+use Rattle.heap_laws.specs.declared.OverLimit.{OverLimit}
 use Rattle.place_laws.specs.Ahead.{Ahead, Next, at-blank, at-close, at-end, begins}
 use Rattle.place_laws.specs.Operands.{operands_of}
 use Rattle.place_laws.specs.Room.{Room, put-grows}
@@ -46,7 +47,7 @@ pub record Going {s : List ℕ} {t : Table} {h : Header} {heap₀ : Heap} {at le
 
 -- before the first operand
 pub going_start : {s : List ℕ} {t : Table} {h : Header} {heap : Heap} {at levels : ℕ} (q : Term s t h at) (g : State q.declarations s heap levels) (x : Head) (e n base : ℕ) → Opened q x e n
-    → heap.count + levels < 2048 → base ≡ heap.top → Going q g heap base e n (record { count = 0; first = 0; second = 0 })
+    → heap.count + levels < 2048 → base ≡ heap.top → Going q g heap base e n (record { first = None; second = None })
 going_start {s} {t} {h} {heap} {at} {levels} q g x e n base o l b = record {
   now = g.items;
   rs = [];
@@ -56,7 +57,7 @@ going_start {s} {t} {h} {heap} {at} {levels} q g x e n base o l b = record {
   held = g.held;
   stacked = subst (λ (y : List Ref). Stacked s heap y) (sym (append-nil g.refs)) g.stacked;
   below = sym (b ∙ g.stacked.top);
-  seen = record { count = refl; first = refl; second = refl };
+  seen = record { first = refl; second = refl };
   ahead = o.ahead;
   sorts = operand-sorts q.declarations q.tree q.sort q.sorted;
   variables = g.variables;
@@ -80,14 +81,6 @@ module _ {s : List ℕ} {t : Table} {h : Header} {heap₀ : Heap} {heap : Heap} 
   inside =
       let b = begins q.declarations w.ahead in
       (at_byte s e b.byte b.rest b.is).0
-
-  pub few-seen : v.count < 65536
-  few-seen =
-      let a = w.seen.count in
-      let b = w.far.count in
-      let c = w.stacked.room in
-      let d = length-append g.refs w.rs in
-      omega arith
 
   byte-is : (c : ℕ) (r : List ℕ) → drop e s ≡ c ∷ r → get_or s e 0 ≡ c
   byte-is c r d =
@@ -164,9 +157,8 @@ module _ {s : List ℕ} {t : Table} {h : Header} {heap₀ : Heap} {heap : Heap} 
     step-not heap₁ Limit p = λ r. p (operand-has-room r)
 
     -- NO ROOM for an operand that is placed: there is none for its term.
-    pub step-over : (heap₁ heap₂ : Heap) (z : Placed) (u : Unread) → PlacedAs operand_term operand_state heap₁ (Ok z) → MoreTo s heap₁ heap₂ z.operand (Err u) → PlacedAs q g heap₂ (Err u)
-    step-over heap₁ heap₂ z NoScript p m = m
-    step-over heap₁ heap₂ z Limit (p, _) m = λ r. stack-full (m heap₁.records heap₁.bits _ (g.refs ++ w.rs) p.held p.stacked) r
+    pub step-over : (heap₁ heap₂ : Heap) (z : Placed) (u : OverLimit) → PlacedAs operand_term operand_state heap₁ (Ok z) → MoreTo s heap₁ heap₂ z.operand (Err u) → PlacedAs q g heap₂ (Err Limit)
+    step-over heap₁ heap₂ z u (p, _) m = λ r. stack-full (m heap₁.records heap₁.bits _ (g.refs ++ w.rs) p.held p.stacked) r
 
     -- AN OPERAND that is placed and waits.
     pub step-going : (heap₁ heap₂ : Heap) (z : Placed) (u : ⊤) (v' : Seen) → PlacedAs operand_term operand_state heap₁ (Ok z) → MoreTo s heap₁ heap₂ z.operand (Ok u) → OneMore v z.width v'

@@ -1,6 +1,5 @@
 -- A term at a place of a script, the nodes so far, and what placing the term answers.
 use Rattle.std.specs.Prelude.{ℕ, ◌+◌, ◌*◌, ◌-◌, ◌≤◌, ◌<◌, ◌≡◌, List, [], ◌∷◌, ◌++◌, length, drop, Result, Ok, Err, Some, None, ⊤}
-use Rattle.std.specs.Prelude as code
 use Rattle.std.proofs.Math.Option.{Option, some}
 use Rattle.reading.specs.Trees.{Tree, none as noTrees, Declarations}
 use Rattle.echo_spec.specs.TreeSorts.{TreeSort, width_of, tree_sort}
@@ -8,6 +7,7 @@ use Rattle.readback.specs.Rebuild.{Item, Ref, here, pending, Put, put}
 use Rattle.readback.specs.Reader.{took, read_term}
 use Rattle.heap_laws.specs.Heap.{stack_size, bits_at, Held, Stacked}
 use Rattle.heap_laws.specs.declared.Heap.{Heap}
+use Rattle.heap_laws.specs.declared.OverLimit.{OverLimit}
 use Rattle.place_laws.specs.Operands.{operands_of}
 use Rattle.place_laws.specs.Room.{Room}
 use Rattle.place_laws.specs.SoFar.{SoFar}
@@ -109,9 +109,8 @@ BegunTo (Select a i v n e) at r = r ≡ Open
 -- ---------------------------------------------------------------- operands
 
 -- one operand more waits, or there is no room for it, whatever the records and the bits are, which stay as they were
-abbrev pub MoreTo : List ℕ → Heap → Heap → Operand → Result ⊤ Unread → Type 0
-MoreTo s heap heap' x (Err NoScript) = ⊥
-MoreTo s heap heap' x (Err Limit) =
+abbrev pub MoreTo : List ℕ → Heap → Heap → Operand → Result ⊤ OverLimit → Type 0
+MoreTo s heap heap' x (Err _) =
     (records bits : List ℕ) (t : List Item) (refs : List Ref) → Held (record heap { records = records; bits = bits }) t → Stacked s heap refs → length refs ≡ stack_size
 MoreTo s heap heap' x (Ok _) =
     (heap'.records ≡ heap.records) × (heap'.bits ≡ heap.bits)
@@ -120,9 +119,10 @@ MoreTo s heap heap' x (Ok _) =
 
 -- ---------------------------------------------------------------- ends
 
-abbrev pub Finished : code.Option ℕ → ℕ → ℕ → Result Placed Unread → Type 0
-Finished None w e p = p ≡ Err Limit
-Finished (Some i) w e p = p ≡ Ok (record { operand = Node i; width = w; end = e })
+-- a term that ends has its node, if there was room for it
+abbrev pub Finished : Result ℕ OverLimit → ℕ → ℕ → Result Placed Unread → Type 0
+Finished (Err _) w e p = p ≡ Err Limit
+Finished (Ok i) w e p = p ≡ Ok (record { operand = Node i; width = w; end = e })
 
 -- a head whose operands follow
 abbrev pub Opening : Head → Type 0

@@ -1,6 +1,5 @@
 -- A term that is placed as it is checked: what holds at each turn of its operands, whether or not a term stands there.
 use Rattle.std.specs.Prelude.{ℕ, zero, suc, ◌+◌, ◌-◌, ◌≤◌, ◌<◌, ◌≡◌, refl, List, [], ◌∷◌, ◌++◌, map, Bool, true, false, length, drop, get_or, Result, Ok, Err, Some, None, ⊤}
-use Rattle.std.specs.Prelude as code
 use Rattle.std.proofs.Common.{ap, sym, ◌∙◌, subst, inl, inr, arith, length-append, length-drop}
 use Rattle.std.proofs.Math.Option.{Option, none, some}
 use Rattle.lists.specs.Places.{grows-length}
@@ -13,6 +12,7 @@ use Rattle.reader_laws.specs.TermsStrict.{and-then, term-strict}
 use Rattle.sort_reader.specs.Sorted.{sorted}
 use Rattle.heap_laws.specs.Heap.{pending_in}
 use Rattle.heap_laws.specs.declared.Heap.{Heap}
+use Rattle.heap_laws.specs.declared.OverLimit.{OverLimit}
 use Rattle.place_laws.specs.Ahead.{Ahead, ends, closes, next, at-close, at-end}
 use Rattle.place_laws.specs.Room.{put-grows}
 use Rattle.script_entries.specs.Entries.{Known}
@@ -21,14 +21,15 @@ use Rattle.script_heads.specs.declared.Head.TheVariants.{Nullary}
 use Rattle.script_heads.specs.Heads.{HeadAt}
 use Rattle.script_names.specs.declared.Table.{Table}
 use Rattle.script_header.specs.declared.Header.{Header}
-use Rattle.script_terms.specs.declared.Coded.{Coded}
+use Rattle.script_terms.specs.declared.TermState.{TermState}
+use Rattle.script_terms.specs.declared.TermState.TheVariants.{Done}
 use Rattle.script_terms.specs.declared.Opened.{Opened as Begins}
-use Rattle.script_terms.specs.States.{sort_from, State as Standing, rest, after, Held as HeldIn, enough, Going as Reads, Asking, SortedTo, SortAt}
+use Rattle.script_terms.specs.States.{sort_from, State as Standing, rest, after, Held as HeldIn, enough, Going as Reads, Asking, SortAt, told_at}
 use Rattle.script_terms.specs.SortLaws.{sorted-term}
 use Rattle.script_terms.specs.Turns.{Begun, Ended, MovedTo, NextTo, head_end}
-use Rattle.script_terms.specs.TurnLaws.{came, went, asking-of, sorted_of}
+use Rattle.script_terms.specs.TurnLaws.{came, went, asking-of, sorted_of, told-none}
 use Rattle.script_terms.specs.OperandLaws.{not-zero}
-use Rattle.script_terms.specs.Lengths.{sorted-takes, after-takes, exact-by}
+use Rattle.script_terms.specs.Lengths.{sorted-takes, after-takes}
 use Rattle.script_ends.specs.declared.Seen.{Seen}
 use Rattle.script_ends.specs.Ends.{EndedAs, Ending}
 use Rattle.script_ends.specs.Parts.{SeenOf, OneMore}
@@ -70,7 +71,7 @@ ahead-long {D} (next f q t y us e h k a) =
     omega (arith, ap length e)
 
 -- a term that asks for an operand ends after it
-asking-long : {s : List ℕ} {t : Table} {h : Header} {w : Coded} {at p : ℕ} (q : Term s t h at) → Asking s q.declarations at w p → length q.rest < length (drop p s)
+asking-long : {s : List ℕ} {t : Table} {h : Header} {w : TermState} {at p : ℕ} (q : Term s t h at) → Asking s q.declarations at w p → length q.rest < length (drop p s)
 asking-long {s} {t} {h} {w} {at} {p} q a =
     let (f, l, u) = sorted-at q in
     let (g, _, e) = a.reads f l in
@@ -89,9 +90,6 @@ pub record Ready (s : List ℕ) (t : Table) (h : Header) (heap : Heap) (levels :
   pub sorts : List (Option TreeSort)
   pub seen : SeenOf v sorts
   pub many : length sorts ≤ length state.refs
-
-pub few-ready : {s : List ℕ} {t : Table} {h : Header} {heap : Heap} {levels : ℕ} {v : Seen} → Ready s t h heap levels v → v.count < 65536
-few-ready r = let a = r.seen.count in let b = r.many in let c = r.state.stacked.room in omega arith
 
 module _ {s : List ℕ} {t : Table} {h : Header} {heap heap₁ : Heap} {levels p : ℕ} {v : Seen} (r : Ready s t h heap levels v) where
   pub ready-pushable : (z : Placed) → PlacedAt s t h heap p (levels + 1) heap₁ (Ok z) → Pushable s z.operand
@@ -128,9 +126,6 @@ module _ {s : List ℕ} {t : Table} {h : Header} {heap heap₁ : Heap} {levels p
 
 -- ---------------------------------------------------------------- sorts
 
-sorted-to : {s : List ℕ} {D : Declarations} {a n e : ℕ} → SortAt s D a (Some (record { sort = n; end = e })) → SortedTo s D a n e
-sorted-to x = record { none-sorted = λ k. absurd (let l = x.0 in omega arith); low = λ _. x.0; high = x.1; is_sorted = λ _. x.2 }
-
 none_then : (o : Option (Took TreeSort)) (K : TreeSort → List ℕ → Option (Took TreeSort)) → o ≡ none → and_then o K ≡ none
 unfolding and_then
 none_then o K e = rw e
@@ -152,7 +147,7 @@ none-placed k = record { sorted = k; placed = λ q g. unsorted q (k q.declaratio
 -- A TERM WITH OPERANDS that does not begin.
 -- A CALL WITHOUT ARGUMENTS.
 pub alone_at : {s : List ℕ} {t : Table} {h : Header} {heap : Heap} {at levels : ℕ} {heap' : Heap} (x : Head) (c : Applied) → ((D : Declarations) → Known s t h D → HeadAt s D at (Some x)) → BegunTo x at (Alone c)
-    → (r : code.Option ℕ) (p : Result Placed Unread)
+    → (r : Result ℕ OverLimit) (p : Result Placed Unread)
     → ((i : List Item) (refs rs : List Ref) → Ending s heap heap.top i refs rs → EndedAs s heap' refs (endedWith (pending_in rs) (λ node. a_call c.function c.width (map node rs)) i) r)
     → Finished r c.width c.end p → PlacedAt s t h heap at levels heap' p
 alone_at {s} {t} {h} {heap} {at} {levels} {heap'} x c k b r p i j =
@@ -166,7 +161,7 @@ alone_at {s} {t} {h} {heap} {at} {levels} {heap'} x c k b r p i j =
 -- ---------------------------------------------------------------- turns
 
 -- What was read of the term, whatever it is; the arrays; and if a term stands there, its operands so far.
-pub record Turning (s : List ℕ) (t : Table) (h : Header) (heap₀ : Heap) (at levels : ℕ) (x : Head) (heap : Heap) (base : ℕ) (w : Coded) (e : ℕ) (v : Seen) : Type 0 where
+pub record Turning (s : List ℕ) (t : Table) (h : Header) (heap₀ : Heap) (at levels : ℕ) (x : Head) (heap : Heap) (base : ℕ) (w : TermState) (e : ℕ) (v : Seen) : Type 0 where
   pub opens : Opening x
   pub head : (D : Declarations) → Known s t h D → HeadAt s D at (Some x)
   pub reads : (D : Declarations) → Known s t h D → Reads s D at w e
@@ -176,7 +171,7 @@ pub record Turning (s : List ℕ) (t : Table) (h : Header) (heap₀ : Heap) (at 
 -- BEFORE THE FIRST OPERAND.
 pub turning-start : {s : List ℕ} {t : Table} {h : Header} {heap : Heap} {at levels : ℕ} {D : Declarations} → Known s t h D → State D s heap levels → (x : Head) → ((D : Declarations) → Known s t h D → HeadAt s D at (Some x))
     → Opening x → (w : Begins) → heap.count + levels < 2048 → w.end ≡ head_end x → ((s : List ℕ) (D : Declarations) → HeadAt s D at (Some x) → Reads s D at w.state w.end)
-    → Turning s t h heap at levels x heap heap.top w.state w.end (record { count = 0; first = 0; second = 0 })
+    → Turning s t h heap at levels x heap heap.top w.state w.end (record { first = None; second = None })
 turning-start {s} {t} {h} {heap} {at} {levels} {D} known g x k o w l i j =
     let u = g.waiting in
     record {
@@ -197,14 +192,14 @@ turning-start {s} {t} {h} {heap} {at} {levels} {D} known g x k o w l i j =
           few = omega arith;
         };
         sorts = [];
-        seen = record { count = refl; first = refl; second = refl };
+        seen = record { first = refl; second = refl };
         many = omega arith;
       };
       going = λ q y. let (n, p) = open-head q y x (k q.declarations q.known) o w.end i in (n, going_start q y x w.end n heap.top p l refl);
     }
 
-module _ {s : List ℕ} {t : Table} {h : Header} {heap₀ : Heap} {at levels : ℕ} {x₀ : Head} {heap : Heap} {base : ℕ} {w : Coded} {e : ℕ} {v : Seen} (x : Turning s t h heap₀ at levels x₀ heap base w e v)
-    {w' : Coded} {p : ℕ} {r : Bool} (m : NextTo s e w p w' r × MovedTo s e p r) where
+module _ {s : List ℕ} {t : Table} {h : Header} {heap₀ : Heap} {at levels : ℕ} {x₀ : Head} {heap : Heap} {base : ℕ} {w : TermState} {e : ℕ} {v : Seen} (x : Turning s t h heap₀ at levels x₀ heap base w e v)
+    {w' : TermState} {p : ℕ} {r : Bool} (m : NextTo s e w p w' r × MovedTo s e p w' r) where
   -- ---------------------------------------------------------------- an operand follows
 
   module _ (y : r ≡ true) where
@@ -213,7 +208,7 @@ module _ {s : List ℕ} {t : Table} {h : Header} {heap₀ : Heap} {at levels : �
 
     -- its blank
     ask-going : (q : Term s t h at) (g : State q.declarations s heap₀ levels) → (b : ℕ) × (n : ℕ) × Going q g heap base b n v × (get_or s b 0 ≡ 32) × (p ≡ b + 1)
-    ask-going q g = let (n, z) = x.going q g in by_bytes n z (subst (MovedTo s e p) y m.1)
+    ask-going q g = let (n, z) = x.going q g in by_bytes n z (subst (MovedTo s e p w') y m.1)
       where
         by_bytes : (n : ℕ) → Going q g heap base e n v → Begun s e p → (b : ℕ) × (n : ℕ) × Going q g heap base b n v × (get_or s b 0 ≡ 32) × (p ≡ b + 1)
         by_bytes n z (inl (k, i)) = (e, n, z, k, i)
@@ -243,15 +238,14 @@ module _ {s : List ℕ} {t : Table} {h : Header} {heap₀ : Heap} {at levels : �
 
     module _ {heap₁ : Heap} {z : Placed} (k : PlacedAt s t h heap p (levels + 1) heap₁ (Ok z)) (heap₂ : Heap) where
       -- NO ROOM for it to wait: there is none for the term.
-      pub turn-over : (u : Unread) → MoreTo s heap₁ heap₂ z.operand (Err u) → PlacedAt s t h heap₀ at levels heap₂ (Err u)
-      turn-over NoScript o = absurd o
-      turn-over Limit o = record {
+      pub turn-over : (e : OverLimit) → MoreTo s heap₁ heap₂ z.operand (Err e) → PlacedAt s t h heap₀ at levels heap₂ (Err Limit)
+      turn-over e o = record {
         sorted = λ D κ. tt;
-        placed = λ q g. let (b, n, u, l, i) = ask-going q g in step-over u l heap₁ heap₂ z Limit (moved k b i (operand_term u l) (operand_state u l)) o;
+        placed = λ q g. let (b, n, u, l, i) = ask-going q g in step-over u l heap₁ heap₂ z e (moved k b i (operand_term u l) (operand_state u l)) o;
       }
 
       -- IT WAITS, and the term goes on.
-      pub turn-next : {w'' : Coded} (u : ⊤) {v' : Seen} → MoreTo s heap₁ heap₂ z.operand (Ok u) → OneMore v z.width v' → ((u : Standing) → HeldIn s w' u → HeldIn s w'' (after u (sort_from z.width)))
+      pub turn-next : {w'' : TermState} (u : ⊤) {v' : Seen} → MoreTo s heap₁ heap₂ z.operand (Ok u) → OneMore v z.width v' → ((u : Standing) → HeldIn s w' u → HeldIn s w'' (after u (sort_from z.width)))
           → Turning s t h heap₀ at levels x₀ heap₂ base w'' z.end v' × (e < z.end) × (z.end ≤ length s)
       turn-next {w''} unit {v'} o i j =
           let D : Declarations = x.ready.declarations in
@@ -263,7 +257,7 @@ module _ {s : List ℕ} {t : Table} {h : Header} {heap₀ : Heap} {at levels : �
               opens = x.opens;
               head = x.head;
               reads = λ D κ.
-                  let u = came {n = z.width} (asking D κ) (exact-by {l = 0} (sorted-to (k.sorted D κ))) (λ d. omega arith) in
+                  let u = came {n = z.width} {e = z.end} (asking D κ) (k.sorted D κ) in
                   went u (j u.state u.held);
               ready = ready-next x.ready z heap₂ unit v' k o i;
               going = λ q g.
@@ -277,24 +271,27 @@ module _ {s : List ℕ} {t : Table} {h : Header} {heap₀ : Heap} {at levels : �
   -- ---------------------------------------------------------------- none follows
 
   module _ (y : r ≡ false) where
-    ended : (D : Declarations) → Known s t h D → SortedTo s D at w'.x p
+    ended : (D : Declarations) → Known s t h D → SortAt s D at (told_at w' p)
     ended D k = sorted_of s D at p w' (m.0 D at (x.reads D k)).turned y
 
     -- NO SORT.
-    pub end_none : p ≡ 0 → PlacedAt s t h heap₀ at levels heap (Err NoScript)
-    end_none z = none-placed λ D k. (ended D k).none-sorted z
+    pub end_none : ((n : ℕ) → w' ≡ Done n → ⊥) → PlacedAt s t h heap₀ at levels heap (Err NoScript)
+    end_none z = none-placed λ D k. subst (SortAt s D at) (told-none w' p z) (ended D k)
 
-    module _ (z : p ≡ 0 → ⊥) where
-      ends_as : (D : Declarations) → Known s t h D → SortAt s D at (Some (record { sort = w'.x; end = p }))
-      ends_as D κ = let u = ended D κ in (u.low (not-zero p z), u.high, u.is_sorted (not-zero p z))
+    module _ (n : ℕ) (z : w' ≡ Done n) where
+      ends_as : (D : Declarations) → Known s t h D → SortAt s D at (Some (record { sort = n; end = p }))
+      ends_as D κ = subst (λ (u : TermState). SortAt s D at (told_at u p)) z (ended D κ)
+
+      pub end-low : (D : Declarations) → Known s t h D → 0 < p
+      end-low D κ = let l = (ends_as D κ).0 in omega arith
 
       -- THE BRACKET of the term.
       pub end-closing : (q : Term s t h at) (g : State q.declarations s heap₀ levels)
           → Closing s heap x₀ base v (p - 1) at q.declarations q.tree q.sort q.rest g.items g.refs
-      end-closing q g = let (n, u) = x.going q g in by_bytes n u (subst (MovedTo s e p) y m.1 (not-zero p z))
+      end-closing q g = let (k, u) = x.going q g in by_bytes k u (subst (MovedTo s e p w') y m.1 n z)
         where
           rest-is : drop p s ≡ q.rest
-          rest-is = (sorts-as q w'.x p (ends_as q.declarations q.known)).1
+          rest-is = (sorts-as q n p (ends_as q.declarations q.known)).1
 
           by_bytes : (n : ℕ) → Going q g heap base e n v → Ended s e p → Closing s heap x₀ base v (p - 1) at q.declarations q.tree q.sort q.rest g.items g.refs
           by_bytes n u (inl i) = absurd (let a = ahead-long u.ahead in let b = ap length rest-is in omega (arith, length-drop p s, length-drop e s))
@@ -313,7 +310,7 @@ module _ {s : List ℕ} {t : Table} {h : Header} {heap₀ : Heap} {at levels : �
 
       module _ {D₀ : Declarations} (κ₀ : Known s t h D₀) (g : State D₀ s heap₀ levels) where
         abbrev whole : Term s t h at
-        whole = term_told w'.x p κ₀ (ends_as D₀ κ₀)
+        whole = term_told n p κ₀ (ends_as D₀ κ₀)
 
         pub end-closes : Closes s heap x₀ base v (p - 1)
         end-closes = record {
@@ -335,7 +332,7 @@ module _ {s : List ℕ} {t : Table} {h : Header} {heap₀ : Heap} {at levels : �
         }
           where
             by-placed : (D : Declarations) → Known s t h D → (b : Result Placed Unread)
-                → PlacedTo s heap' at (drop p s) (width_of (some (sort_from w'.x))) (put D₀ whole.tree g.items) g.refs levels g.side b → SortIs s D at b
+                → PlacedTo s heap' at (drop p s) (width_of (some (sort_from n))) (put D₀ whole.tree g.items) g.refs levels g.side b → SortIs s D at b
             by-placed D κ (Err NoScript) u = absurd u
             by-placed D κ (Err Limit) u = tt
-            by-placed D κ (Ok z) u = after-sorts D w'.x p u.0 (ends_as D κ)
+            by-placed D κ (Ok z) u = after-sorts D n p u.0 (ends_as D κ)

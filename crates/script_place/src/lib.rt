@@ -6,14 +6,16 @@ ghost use Rattle.std.specs.Prelude.{◌≡◌, List, ℕ, ◌+◌, ◌≤◌, �
 ghost use Rattle.reading.specs.Trees.{Declarations};
 ghost use Rattle.script_entries.specs.Entries.{Declares};
 ghost use Rattle.script_heads.specs.Heads.{HeadAt};
+ghost use Rattle.script_place.specs.declared.Unread.TheVariants.{Limit};
 ghost use Rattle.script_place.specs.Terms.{State, PlacedAt, BegunTo, Pushable, MoreTo, Finished, Closes, ClosedTo};
 
-use heap_laws::Heap;
+use heap_laws::{Heap, OverLimit};
+use refusals::MAX_NODES;
 use script_ends::{Operator, Seen, end_call, end_operator, end_select, result_width};
 use script_entries::Script;
 use script_heads::{Head, head_at};
 use script_heap::{push_constant, push_node};
-use script_terms::{head_state, more, step};
+use script_terms::{TermState, head_state, more, step};
 
 // Why a script's problem is not rebuilt.
 #[derive(Clone, Copy, Debug, PartialEq, Eq)]
@@ -24,6 +26,15 @@ pub enum Unread {
     Limit,
 }
 
+// A problem over a limit is not rebuilt. Ruled out: a limit told as bytes that are no script.
+impl From<OverLimit> for Unread {
+    ghost from_gives = { λ _ u. u ≡ Limit };
+
+    fn from(_: OverLimit) -> Unread {
+        Unread::Limit
+    }
+}
+
 // What an operand is: a node, or a constant by the place of its digits.
 #[derive(Clone, Copy, Debug, PartialEq, Eq)]
 pub enum Operand {
@@ -32,6 +43,7 @@ pub enum Operand {
 }
 
 // A term that is placed: what it is as an operand, its width, 0 of a Bool, and the place after it.
+// Kept: the width as in `Sorted` of script_terms, for the same reason.
 #[derive(Clone, Copy, Debug, PartialEq, Eq)]
 pub struct Placed {
     pub operand: Operand,
@@ -78,42 +90,39 @@ fn begin(x: Head, at: usize) -> Begun
             width,
             end,
         }),
-        Head::Operator { .. } => Begun::Open,
-        Head::Call { .. } => Begun::Open,
-        Head::Select { .. } => Begun::Open,
+        Head::Operator { .. } | Head::Call { .. } | Head::Select { .. } => Begun::Open,
     }
 }
 
 // ---------------------------------------------------------------- operands
 
-// The operand waits for the term around it to end.
-fn pushed(s: &[u8], heap: &mut Heap, x: Operand) -> Result<(), Unread>
+// The operand waits for the term around it to end. Kept: beside the two functions of script_heap, since a call on zeros (place_script) has nodes
+// alone, and no script to take a constant from.
+fn pushed(s: &[u8], heap: &mut Heap, x: Operand) -> Result<(), OverLimit>
     requires { Pushable s.now x }
     ensures { MoreTo s.now heap.old heap.new x result }
 {
     match x {
-        Operand::Node(i) => push_node(heap, i).ok_or(Unread::Limit),
-        Operand::Constant(p) => push_constant(s, heap, p).ok_or(Unread::Limit),
+        Operand::Node(i) => push_node(heap, i),
+        Operand::Constant(p) => push_constant(s, heap, p),
     }
 }
 
 // ---------------------------------------------------------------- ends
 
-// The term has its node, if there was room for it.
-fn finished(node: Option<u64>, width: u64, end: usize) -> Result<Placed, Unread>
-    ensures { Finished node width end result }
+// A term that has its node.
+fn placed_at(node: u64, width: u64, end: usize) -> Placed
+    ensures { result ≡ record { operand = Operand.Node node; width = width; end = end } }
 {
-    match node {
-        Some(i) => Ok(Placed {
-            operand: Operand::Node(i),
-            width,
-            end,
-        }),
-        None => Err(Unread::Limit),
+    Placed {
+        operand: Operand::Node(node),
+        width,
+        end,
     }
 }
 
-// The numeral, if there are as many.
+// The numeral, if there are as many; else 0, which is what the end of an operator takes for a numeral that it does not have.
+// Kept: a head has its two numerals beside the number of those that are there (script_heads).
 fn numeral_or_zero(m: u64, least: u64, i: u64) -> u64
     ensures { (least ≤ m → result ≡ i) × (m < least → result ≡ 0) }
 {
@@ -147,12 +156,14 @@ fn closed(
                 first: a,
                 second: b,
             };
-            let r = end_operator(s, heap, base, o, v.first);
-            finished(r, result_width(o, v.first, v.second), e + 1)
+            let w = v.first.unwrap_or(0);
+            let node = end_operator(s, heap, base, o, w)?;
+            let width = result_width(o, w, v.second.unwrap_or(0));
+            Ok(placed_at(node, width, e + 1))
         }
         Head::Call { number, width, .. } => {
-            let r = end_call(s, heap, base, number as u64, width);
-            finished(r, width, e + 1)
+            let node = end_call(s, heap, base, number as u64, width)?;
+            Ok(placed_at(node, width, e + 1))
         }
         Head::Select {
             number,
@@ -160,12 +171,11 @@ fn closed(
             stores,
             ..
         } => {
-            let r = end_select(s, heap, base, stores, number as u64);
-            finished(r, value, e + 1)
+            let node = end_select(s, heap, base, stores, number as u64)?;
+            Ok(placed_at(node, value, e + 1))
         }
-        Head::Constant(_) => Err(Unread::Limit),
-        Head::Variable { .. } => Err(Unread::Limit),
-        Head::Nullary { .. } => Err(Unread::Limit),
+        // Kept: of six heads three come here. An enum of those three would be made in `begin`, field by field, and taken apart here.
+        _ => unreachable!(),
     }
 }
 
@@ -173,28 +183,25 @@ fn closed(
 
 // The term at a place, under so many terms that are not ended. Ruled out: a term without a sort that is placed; a constant placed before another
 // term; the node of a term before those of its operands; an operand's node left out of the limit of a term around it.
-pub fn place(script: &Script, heap: &mut Heap, at: usize, levels: u64) -> Result<Placed, Unread>
+pub fn place(script: &Script, heap: &mut Heap, at: usize, levels: usize) -> Result<Placed, Unread>
     requires { (D : Declarations) × Declares script.now D × State D script.now.text.now heap.old levels }
     ensures { PlacedAt script.now.text.now script.now.table.now script.now.header heap.old at levels heap.new result }
 {
-    let Some(x) = head_at(script, at) else {
-        return Err(Unread::NoScript);
-    };
-    let y = begin(x, at);
-    match y {
+    let x = head_at(script, at).ok_or(Unread::NoScript)?;
+    match begin(x, at) {
         Begun::Done(p) => Ok(p),
         Begun::Nullary(c) => {
-            let top = heap.top as usize;
-            let r = end_call(script.text, heap, top, c.function, c.width);
-            finished(r, c.width, c.end)
+            let top = heap.top;
+            let node = end_call(script.text, heap, top, c.function, c.width)?;
+            Ok(placed_at(node, c.width, c.end))
         }
         Begun::Open => {
             // There is to be room for its node and for those of the terms around it.
-            if heap.count + levels >= 2048 {
+            if heap.count + levels >= MAX_NODES {
                 return Err(Unread::Limit);
             }
             let o = head_state(x, at);
-            let base = heap.top as usize;
+            let base = heap.top;
             let mut w = o.state;
             let mut e = o.end;
             let mut v = Seen::default();
@@ -206,9 +213,9 @@ pub fn place(script: &Script, heap: &mut Heap, at: usize, levels: u64) -> Result
                 e = z.end;
                 step(script.text, &mut w, z.width);
             }
-            if e == 0 {
+            let TermState::Done(_) = w else {
                 return Err(Unread::NoScript);
-            }
+            };
             closed(script.text, heap, x, base, v, e - 1)
         }
     }

@@ -9,15 +9,16 @@ ghost use Rattle.script_rebuild.specs.Decided.{lengths_of, needs_of};
 ghost use Rattle.script_reader.specs.Outputs.{NodesFit, NodesFilled, read_back};
 
 use heap_laws::Heap;
+use refusals::MAX_ROOTS;
 use script_entries::Script;
 pub use script_fill::Outputs;
 use script_fill::{fill, fill_arrays, fill_functions, fill_variables};
 use script_names::Table;
-use script_rebuild::{decide, no_nodes};
+use script_rebuild::{OUTPUTS, decide};
 pub use script_rebuild::{ReadError, Sizes};
 
 // How many elements there are of each output.
-fn room(o: &Outputs) -> [usize; 18]
+fn room(o: &Outputs) -> [usize; OUTPUTS]
     ensures { result ≡ lengths_of (problem_in o.now) }
 {
     [
@@ -46,7 +47,7 @@ fn room(o: &Outputs) -> [usize; 18]
 fn fill_nodes(
     sizes: &Sizes,
     heap: &Heap,
-    tops: &[u64; 256],
+    tops: &[u64; MAX_ROOTS],
     nodes: &mut [u8],
     bits: &mut [u8],
     side: &mut [u64],
@@ -69,8 +70,8 @@ pub fn read_script(script: &[u8], outputs: &mut Outputs) -> Result<Sizes, ReadEr
 {
     let room = room(outputs);
     let mut t = Table::new();
-    let mut heap = no_nodes();
-    let mut tops = [0u64; 256];
+    let mut heap = Heap::new();
+    let mut tops = [0u64; MAX_ROOTS];
     match decide(script, &mut t, &mut heap, &mut tops, &room) {
         Err(e) => {
             outputs.clear();

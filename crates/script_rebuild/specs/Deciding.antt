@@ -120,9 +120,9 @@ module _ {s : List ℕ} {t : Table} {h : Header} {heap : Heap} {roots : List ℕ
   need-is {q} c a =
       let p = x.passes in
       let e₀ : 17 * heap.count ≡ 17 * length items = ap (λ (k : ℕ). 17 * k) x.held.count in
-      let vn : q.names ≡ length (arena (variable_names_in D)) = omega (arith, a.names, p.variables.names) in
-      let an : q.anames ≡ length (arena (array_names_in D)) = omega (arith, a.anames, p.arrays.names) in
-      let fn : q.fnames ≡ length (arena (function_names_in D)) = omega (arith, a.fnames, p.functions.names) in
+      let vn : q.names ≡ length (arena (variable_names_in D)) = a.names in
+      let an : q.anames ≡ length (arena (array_names_in D)) = a.anames in
+      let fn : q.fnames ≡ length (arena (function_names_in D)) = a.fnames in
       let v : variables_of h ≡ length (variable_names_in D) = c.variables in
       let ar : arrays_of h - variables_of h ≡ length (array_names_in D) = omega (arith, c.arrays) in
       let f : names_of h - arrays_of h ≡ length (function_names_in D) = omega (arith, c.functions) in

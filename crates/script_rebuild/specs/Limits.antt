@@ -1,5 +1,5 @@
 -- 9 of a script's problem, part by part: its nodes, its roots, the entries and the names of each table.
-use Rattle.std.specs.Prelude.{ℕ, suc, ◌≤◌, ◌≡◌, List, [], ◌∷◌, map, false, ◌&&◌}
+use Rattle.std.specs.Prelude.{ℕ, suc, ◌≤◌, ◌≡◌, List, [], ◌∷◌, map, ◌&&◌, Option, Some, None}
 use Rattle.std.proofs.Math.Path.{refl, subst}
 use Rattle.std.proofs.Common.{ap, sym, arith}
 use Rattle.std.proofs.Math.Bool.{Bool, true}
@@ -16,6 +16,8 @@ use Rattle.readback.specs.Rebuild.{Item, put, put_all, node_of, records_from, bi
 use Rattle.readback.specs.ReadAnswers.{limits_passed}
 use Rattle.rebuilt.specs.Layout.{length-starts, length-count}
 use Rattle.heap_laws.specs.Heap.{within}
+use Rattle.script_rebuild.specs.ArenaLengths.{ArenasAre}
+use Rattle.script_rebuild.specs.declared.Arenas.{Arenas}
 
 -- a table keeps to its limits
 pub record TableWithin (ns : List Name) : Type 0 where
@@ -168,7 +170,7 @@ pub record TablesWithin (D : Declarations) : Type 0 where
   pub arrays : TableWithin (array_names_in D)
   pub functions : TableWithin (function_names_in D)
 
--- the test of the three tables
-abbrev pub Tables : Declarations → Bool → Type 0
-Tables D true = TablesWithin D
-Tables D false = TablesWithin D → ⊥
+-- the three tables keep to their limits, and so long are their names
+abbrev pub Tables : Declarations → Option Arenas → Type 0
+Tables D (Some a) = TablesWithin D × ArenasAre D a
+Tables D None = TablesWithin D → ⊥

@@ -14,6 +14,7 @@ use Rattle.script_header.specs.declared.Header.{Header}
 use Rattle.script_place.specs.declared.Unread.{Unread}
 use Rattle.script_place.specs.declared.Unread.TheVariants.{NoScript, Limit}
 use Rattle.script_rebuild.specs.declared.Rebuilt.{Rebuilt}
+use Rattle.script_rebuild.specs.ArenaLengths.{ArenasAre}
 use Rattle.script_rebuild.specs.Limits.{Passes}
 
 -- the script has n assertions, and its problem keeps to the limits and stands in the arrays
@@ -30,4 +31,4 @@ pub record WholeProblem (s : List ℕ) (t : Table) (h : Header) (heap : Heap) (r
 abbrev pub RebuiltTo : List ℕ → Table → Heap → List ℕ → Result Rebuilt Unread → Type 0
 RebuiltTo s t heap roots (Err NoScript) = reading_in s ≡ none
 RebuiltTo s t heap roots (Err Limit) = (r : Reading) × (reading_in s ≡ some r) × (limits_passed (rebuild r) ≡ false)
-RebuiltTo s t heap roots (Ok x) = WholeProblem s t x.header heap roots x.roots
+RebuiltTo s t heap roots (Ok x) = (w : WholeProblem s t x.header heap roots x.roots) × ArenasAre w.declarations x.arenas

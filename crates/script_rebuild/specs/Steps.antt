@@ -1,12 +1,12 @@
 -- The steps of rebuilding a script's problem.
-use Rattle.std.specs.Prelude.{ℕ, ◌+◌, ◌-◌, ◌≤◌, min, ◌≡◌, refl, List, [], map, false, T, length, take, Result, Ok, Err, None, Bool}
-use Rattle.std.proofs.Common.{ap, sym, ◌∙◌, subst, ⊎_elim, arith}
+use Rattle.std.specs.Prelude.{ℕ, ◌+◌, ◌-◌, ◌≤◌, ◌≡◌, refl, List, [], map, T, length, take, Result, Ok, Err, None, Bool}
+use Rattle.std.proofs.Common.{sym, subst, ⊎_elim, arith}
 use Rattle.std.proofs.Math.Option.{Option, none, some}
 use Rattle.std.proofs.lemmas.List.{length-map}
 use Rattle.lists.specs.Tests.{no→false}
-use Rattle.reading.specs.Trees.{Name, Tree, Variable, Array, Function, Declarations, Reading}
+use Rattle.reading.specs.Trees.{Tree, Variable, Array, Function, Declarations, Reading}
 use Rattle.readback.specs.Printable.{variable_names_in, array_names_in, function_names_in}
-use Rattle.readback.specs.Rebuild.{arena, node_of, placed, rebuild}
+use Rattle.readback.specs.Rebuild.{node_of, placed, rebuild}
 use Rattle.readback.specs.ScriptReader.{reading_in, trees_from}
 use Rattle.readback.specs.ReadAnswers.{limits_passed}
 use Rattle.script_entries.specs.Entries.{variables_of, arrays_of, names_of, Known}
@@ -16,8 +16,7 @@ use Rattle.readback.specs.Reader.{Took, and_then, expect}
 use Rattle.script_header.specs.Header.{header_in}
 use Rattle.header_laws.specs.Whole.{header-none}
 use Rattle.script_opening.specs.Openings.{place_of, opening_at}
-use Rattle.script_fill.specs.Filling.{line_names, Few}
-use Rattle.script_fill.specs.Turns.{variable-lines, array-lines, function-lines}
+use Rattle.script_fill.specs.Filling.{Few}
 use Rattle.header_laws.specs.Body.{reading_of, AssertionsAt}
 use Rattle.heap_laws.specs.Heap.{Held, Stacked}
 use Rattle.heap_laws.specs.declared.Heap.{Heap}
@@ -25,12 +24,13 @@ use Rattle.script_names.specs.declared.Table.{Table}
 use Rattle.script_header.specs.declared.Header.{Header}
 use Rattle.script_place.specs.declared.Unread.{Unread}
 use Rattle.script_place.specs.declared.Unread.TheVariants.{NoScript, Limit}
-use Rattle.script_rebuild.specs.Limits.{TablesWithin, Tables, Passes, passes, roots-counted}
+use Rattle.script_rebuild.specs.Limits.{TablesWithin, Passes, passes, roots-counted}
 use Rattle.place_script.specs.Scripts.{Ready, ScriptTo, RootsIn}
 use Rattle.script_rebuild.specs.ArenaLengths.{ArenasAre}
 use Rattle.script_check.specs.Check.{Topped, BodyAt, BodyTo}
 use Rattle.script_check.specs.Turns.{body-none, body_checked}
-use Rattle.script_rebuild.specs.Rebuilt.{WholeProblem, RebuiltTo}
+use Rattle.script_rebuild.specs.declared.Arenas.{Arenas}
+use Rattle.script_rebuild.specs.Rebuilt.{RebuiltTo}
 
 -- ---------------------------------------------------------------- tables
 
@@ -47,13 +47,10 @@ counts s t h D k =
     let f = length-map D.functions (λ (x : Function). x.name) in
     record { variables = omega (arith, v, k.variables); arrays = omega (arith, a, k.arrays); functions = omega (arith, f, k.functions) }
 
--- the lengths of the names of the three tables
-pub arenas-are : {s : List ℕ} {t : Table} {h : Header} {D : Declarations} → Few s t h D → {a b c : ℕ} → a ≡ min (length (arena (line_names s t 0 (variables_of h)))) 16385
-    → b ≡ min (length (arena (line_names s t (variables_of h) (arrays_of h - variables_of h)))) 16385 → c ≡ min (length (arena (line_names s t (arrays_of h) (names_of h - arrays_of h)))) 16385
-    → ArenasAre D (record { names = a; anames = b; fnames = c })
-arenas-are x e f g =
-    let m : List Name → ℕ = λ ns. min (length (arena ns)) 16385 in
-    record { names = e ∙ ap m (variable-lines x); anames = f ∙ ap m (array-lines x); fnames = g ∙ ap m (function-lines x) }
+-- tables with so few entries have few names
+pub few-entries : {s : List ℕ} {t : Table} {h : Header} {D : Declarations} → Known s t h D → variables_of h ≤ 512 → arrays_of h - variables_of h ≤ 512 → names_of h - arrays_of h ≤ 512
+    → Few s t h D
+few-entries k v a f = record { known = k; few = omega (arith, k.arrays, k.functions) }
 
 -- ---------------------------------------------------------------- how a script begins
 
@@ -94,7 +91,7 @@ module _ {s : List ℕ} {t : Table} {h : Header} {from : ℕ} (x : Topped s t h 
   over heap roots f NoScript b = body-none x b
   over heap roots f Limit (_, b) = (r b.trees, (body_checked x b).reading, no→false (limits_passed (rebuild (r b.trees))) (λ p. f b.trees b.assertions (passes (r b.trees) p)))
 
-  pub over-tables : (heap : Heap) (roots : List ℕ) → Tables D false → (o : Unread) → OverTo s D from o → RebuiltTo s t heap roots (Err o)
+  pub over-tables : (heap : Heap) (roots : List ℕ) → (TablesWithin D → ⊥) → (o : Unread) → OverTo s D from o → RebuiltTo s t heap roots (Err o)
   over-tables heap roots w = over heap roots (λ ts _ p. w (record { variables = p.variables; arrays = p.arrays; functions = p.functions }))
 
   module _ {flags : List Bool} {heap₀ : Heap} {roots₀ : List ℕ} (w : TablesWithin D) (f : (D : Declarations) (ts : List Tree) → Known s t h D → AssertionsAt s D from ts → Flagged D (trees_from ts) flags)
@@ -110,20 +107,22 @@ module _ {s : List ℕ} {t : Table} {h : Header} {from : ℕ} (x : Topped s t h 
       pub over-items : b ≡ Err Limit → (o : Unread) → OverTo s D from o → RebuiltTo s t heap roots (Err o)
       over-items q = over heap roots (λ ts a p. ⊎_elim (λ e. subst T e p.items) (λ l. omega (arith, l, roots-counted D ts, p.roots)) (placed_by q ts a))
 
-      pub whole : {n : ℕ} → b ≡ Ok n → RootsIn s D from b → WholeProblem s t h heap roots n
-      whole {n} q v =
+      pub whole : {n : ℕ} {a : Arenas} → ArenasAre D a → b ≡ Ok n → RootsIn s D from b → RebuiltTo s t heap roots (Ok (record { header = h; arenas = a; roots = n }))
+      whole {n} y q v =
           let (c, l) = subst (RootsIn s D from) q v in
-          let (i, j) = placed_by q c.trees c.assertions in
-          record {
-            declarations = D;
-            trees = c.trees;
-            reading = (body_checked x c).reading;
-            known = x.known;
-            passes = record { items = i.inside; roots = omega (arith, l, roots-counted D c.trees, c.roots); variables = w.variables; arrays = w.arrays; functions = w.functions };
-            held = i;
-            counted = c.roots;
-            rooted = subst (λ (k : ℕ). take k roots ≡ map (node_of (placed (r c.trees)).items) (placed (r c.trees)).refs) (sym c.roots) j;
-          }
+          let (i, j) = placed_by q c.trees c.assertions in (
+            record {
+              declarations = D;
+              trees = c.trees;
+              reading = (body_checked x c).reading;
+              known = x.known;
+              passes = record { items = i.inside; roots = omega (arith, l, roots-counted D c.trees, c.roots); variables = w.variables; arrays = w.arrays; functions = w.functions };
+              held = i;
+              counted = c.roots;
+              rooted = subst (λ (k : ℕ). take k roots ≡ map (node_of (placed (r c.trees)).items) (placed (r c.trees)).refs) (sym c.roots) j;
+            },
+            y,
+          )
 
   pub none-placed : {b : Result ℕ Unread} → RootsIn s D from b → b ≡ Err NoScript → reading_in s ≡ none
   none-placed v q = body-none x (subst (RootsIn s D from) q v)

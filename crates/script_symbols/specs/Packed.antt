@@ -1,8 +1,9 @@
 -- Words as numbers: a word of bytes is one number, and no other word is.
-use Rattle.std.specs.Prelude.{ℕ, zero, suc, ◌+◌, ◌*◌, ◌-◌, ◌≤◌, ◌<◌, ◌≡◌, refl, List, [], ◌∷◌, map, Bool, true, false, ◌||◌, T, ltb, eqb, length, get_or, drop}
+use Rattle.std.specs.Prelude.{ℕ, zero, suc, ◌+◌, ◌*◌, ◌-◌, ◌≤◌, ◌<◌, ◌≡◌, refl, List, [], ◌∷◌, map, Bool, true, false, ◌||◌, T, ltb, eqb, length, get_or, drop, reverse}
 use Prim.Native.String.{String}
 use Rattle.std.proofs.Common.{ap, sym, ◌∙◌, subst, arith, eqb→eq, ltb→lt, lt→ltb, drop_of_length-le, drop-cons}
 use Rattle.std.specs.Prelude.{Option as Maybe, Some, None}
+use Rattle.std.proofs.lemmas.List.{length-reverse, get_or-reverse, get_or_default}
 use Rattle.std.proofs.Math.Option.{Option, none, some}
 use Rattle.std.proofs.Math.Dec.{eqb_refl}
 use Rattle.lists.specs.Bytes.{bytes}
@@ -167,30 +168,58 @@ most-six k h = by-places k h
     by-places (suc (suc (suc (suc (suc (suc (suc k))))))) h = absurd (omega arith)
 
 -- one byte more, from the last to the first
-pub pack-step : (w : List ℕ) (i v : ℕ) → 1 ≤ i → i ≤ length w → v ≡ packed (drop i w) → v * 256 + get_or w (i - 1) 0 ≡ packed (drop (i - 1) w)
+pack-step : (w : List ℕ) (i v : ℕ) → 1 ≤ i → i ≤ length w → v ≡ packed (drop i w) → v * 256 + get_or w (i - 1) 0 ≡ packed (drop (i - 1) w)
 pack-step w i v h l e =
     let z : suc (i - 1) ≡ i = omega arith in
     let p = packed-at w (i - 1) (omega arith) in
     let q : packed (drop (suc (i - 1)) w) ≡ packed (drop i w) = ap (λ (k : ℕ). packed (drop k w)) z in
     omega arith
 
-pub most_step : (n i v c : ℕ) → 1 ≤ i → i ≤ n → v < most (n - i) → c < 256 → v * 256 + c < most (n - (i - 1))
-unfolding most
-most_step n i v c h l m k =
-    let z : n - (i - 1) ≡ suc (n - i) = omega arith in
-    let y : most (n - (i - 1)) ≡ 256 * most (n - i) = ap most z in
-    omega arith
+-- the last n bytes, packed
+pub record Behind (w : List ℕ) (n v : ℕ) : Type 0 where
+  pub room : n ≤ length w
+  pub value : v ≡ packed (drop (length w - n) w)
+  pub below : v < most n
 
-pub pack-start : (w : List ℕ) → 1 ≡ packed (drop (length w) w)
-unfolding packed
-pack-start w = rw (drop_of_length-le w {i = length w} (omega arith))
+pub behind-none : (w : List ℕ) → Behind w 0 1
+unfolding packed most
+behind-none w =
+    let z : drop (length w - 0) w ≡ [] = drop_of_length-le w (omega arith) in
+    record { room = omega arith; value = rw z refl; below = omega arith }
 
-pub most-start : (n : ℕ) → 1 < most (n - n)
-unfolding most
-most-start n = let z : n - n ≡ 0 = omega arith in rw z (omega arith)
+-- what a walk from the last byte back comes to, after n
+behind-at : (w : List ℕ) (n c : ℕ) → (n < length (reverse w)) × (c ≡ get_or (reverse w) n c) → (n < length w) × (c ≡ get_or w (length w - n - 1) 0)
+behind-at w n c t =
+    let l : n < length w = omega (arith, t.0, length-reverse w) in
+    let y : length w - 1 - n ≡ length w - n - 1 = omega arith in
+    (l, t.1 ∙ get_or-reverse w n c l ∙ get_or_default w (length w - 1 - n) c 0 (omega arith) ∙ ap (λ (k : ℕ). get_or w k 0) y)
 
-pub pack-end : (w : List ℕ) (i v : ℕ) → i ≡ 0 → v ≡ packed (drop i w) → v ≡ packed w
-pack-end w i v e h = h ∙ ap (λ (k : ℕ). packed (drop k w)) e
+module _ (w : List ℕ) (n c v : ℕ) (t : (n < length (reverse w)) × (c ≡ get_or (reverse w) n c)) (d : (i : ℕ) → get_or w i 0 < 256) (b : Behind w n v) where
+  behind-left : n < length w
+  behind-left = (behind-at w n c t).0
+
+  behind-byte : c ≡ get_or w (length w - n - 1) 0
+  behind-byte = (behind-at w n c t).1
+
+  -- seven bytes have 57 bits
+  pub behind-fits : length w ≤ 7 → (v ≤ 562949953421312) × (c < 256)
+  behind-fits h =
+      let l = behind-left in
+      let m = most-six n (omega arith) in
+      (omega (arith, b.below), omega (arith, behind-byte, d (length w - n - 1)))
+
+  pub behind-more : Behind w (n + 1) (v * 256 + c)
+  unfolding most
+  behind-more =
+      let l = behind-left in
+      let k : c < 256 = omega (arith, behind-byte, d (length w - n - 1)) in
+      let y : length w - (n + 1) ≡ length w - n - 1 = omega arith in
+      let p = pack-step w (length w - n) v (omega arith) (omega arith) b.value in
+      let z : n + 1 ≡ suc n = omega arith in
+      record { room = omega arith; value = rw y (ap (λ (x : ℕ). v * 256 + x) behind-byte ∙ p); below = rw z (omega (arith, b.below)) }
+
+pub behind-all : (w : List ℕ) (n v : ℕ) → Behind w n v → length w ≤ n → v ≡ packed w
+behind-all w n v b l = let z : length w - n ≡ 0 = omega arith in rw z at b.value
 
 -- what is in a slice of bytes
 pub all-bytes : (w : List ℕ) → ((i : ℕ) → get_or w i 0 < 256) → All byte w

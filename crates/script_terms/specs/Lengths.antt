@@ -20,10 +20,10 @@ use Rattle.sort_reader.specs.Sorted.{of_sort, sorted, operands, operands-none, o
 use Rattle.sort_reader.specs.Selects.{operand_of, stores_then}
 use Rattle.script_decls.specs.Tails.{word-less}
 use Rattle.script_heads.specs.HeadLaws.{no-sort}
-use Rattle.script_terms.specs.declared.Code.{Code}
-use Rattle.script_terms.specs.declared.Code.TheVariants.{Comparison, Connective}
-use Rattle.script_terms.specs.declared.Coded.{Coded}
-use Rattle.script_terms.specs.States.{State, done, waits, index, value, stored, own, widths, rest, after_index, after, state_of, enough, Asking, SortedTo, SortedBy}
+use Rattle.std.specs.Prelude.{None}
+use Rattle.script_terms.specs.declared.TermState.{TermState}
+use Rattle.script_terms.specs.declared.TermState.TheVariants.{Comparison, Connective}
+use Rattle.script_terms.specs.States.{State, done, waits, index, value, stored, own, widths, rest, after_index, after, state_of, Asking, SortAt, SortedBy}
 use Rattle.script_terms.specs.SortLaws.{of-sort}
 use Rattle.script_terms.specs.Turns.{BeforeIs}
 
@@ -142,9 +142,9 @@ module _ (D : Declarations) where
       let q = stores-takes n (suc f) a r τ z p in
       omega arith
 
-  own-takes : (f i v : ℕ) (b : List ℕ) (τ : TreeSort) (z : List ℕ) → rest f D (own i v) b ≡ took τ z → length z < length b
+  own-takes : (f v : ℕ) (b : List ℕ) (τ : TreeSort) (z : List ℕ) → rest f D (own v) b ≡ took τ z → length z < length b
   unfolding rest
-  own-takes f i v b τ z e =
+  own-takes f v b τ z e =
       let (u, y, g, h) = and-then (expect (bytes ")") b) (λ _ z. of_sort (if_proper (bits v)) z) τ z e in
       let m = word-takes b u y g in
       let k = ap length (sort-rest (if_proper (bits v)) y τ z h) in
@@ -180,7 +180,7 @@ module _ (D : Declarations) where
 
   index-takes : (g i v n : ℕ) (r : List ℕ) (τ : TreeSort) (z : List ℕ) → rest g D (after_index i v n) r ≡ took τ z → length z < length r
   unfolding after_index
-  index-takes g i v zero r τ z e = own-takes g i v r τ z e
+  index-takes g i v zero r τ z e = own-takes g v r τ z e
   index-takes g i v (suc n) r τ z e = value-takes g i v n r τ z e
 
   -- whatever the state before the operand was
@@ -199,7 +199,7 @@ module _ (D : Declarations) where
       by-sort true k = stored-takes g i v n r τ z k
       by-sort false k = wait-takes g stuck r τ z k
   after-takes (stored i v n) σ g r τ z e = wait-takes g stuck r τ z e
-  after-takes (own i v) σ g r τ z e = wait-takes g stuck r τ z e
+  after-takes (own v) σ g r τ z e = wait-takes g stuck r τ z e
 
   comparison-takes : (σ : TreeSort) (g : ℕ) (r : List ℕ) (τ : TreeSort) (z : List ℕ) → rest g D (after (waits (first comparison [])) σ) r ≡ took τ z → 3 + length z ≤ length r
   unfolding after step after_vector after_bool close
@@ -211,54 +211,42 @@ module _ (D : Declarations) where
   connective-takes bool g r τ z e = wait-more g _ r τ z refl e
   connective-takes (bits m) g r τ z e = wait-more g stuck r τ z refl e
 
--- ---------------------------------------------------------------- by code
+-- ---------------------------------------------------------------- by state
 
-pub before-comparison : {c : Code} {l r : ℕ} → c ≡ Comparison → l ≤ r + 3 → BeforeIs c l r
+pub before-comparison : {w : TermState} {l r : ℕ} → w ≡ Comparison → l ≤ r + 3 → BeforeIs w l r
 unfolding state_of
-before-comparison {c} {l} {r} e h = subst (λ (k : Code). BeforeIs k l r) (sym e) (record { takes = λ D ws x y u σ g b τ z q. let n = comparison-takes D σ g b τ z q in omega arith })
+before-comparison {w} {l} {r} e h = subst (λ (k : TermState). BeforeIs k l r) (sym e) (record { takes = λ D ws σ g b τ z q. let n = comparison-takes D σ g b τ z q in omega arith })
 
-pub before-connective : {c : Code} {l r : ℕ} → c ≡ Connective → l ≤ r + 3 → BeforeIs c l r
+pub before-connective : {w : TermState} {l r : ℕ} → w ≡ Connective → l ≤ r + 3 → BeforeIs w l r
 unfolding state_of
-before-connective {c} {l} {r} e h = subst (λ (k : Code). BeforeIs k l r) (sym e) (record { takes = λ D ws x y u σ g b τ z q. let n = connective-takes D σ g b τ z q in omega arith })
+before-connective {w} {l} {r} e h = subst (λ (k : TermState). BeforeIs k l r) (sym e) (record { takes = λ D ws σ g b τ z q. let n = connective-takes D σ g b τ z q in omega arith })
 
-pub before-any : (c : Code) {l r : ℕ} → l ≤ r + 1 → BeforeIs c l r
-before-any c h = record { takes = λ D ws x y u σ g b τ z q. let n = after-takes D (state_of ws c x y u) σ g b τ z q in omega arith }
+pub before-any : (w : TermState) {l r : ℕ} → l ≤ r + 1 → BeforeIs w l r
+before-any w h = record { takes = λ D ws σ g b τ z q. let n = after-takes D (state_of ws w) σ g b τ z q in omega arith }
 
 -- ---------------------------------------------------------------- terms
 
-module _ {s : List ℕ} {D : Declarations} {a : ℕ} where
-  pub exact-by : {n e l : ℕ} → SortedTo s D a n e → SortedBy s D a n e l
-  exact-by x = record { none-sorted = λ k f i σ z q. absurd (impossible (sym (x.none-sorted k f i) ∙ q)); low = x.low; high = x.high; is_sorted = x.is_sorted }
+-- a term without a sort
+pub none-by : (s : List ℕ) (D : Declarations) (a l : ℕ) → SortAt s D a None → SortedBy s D a None 0 l
+none-by s D a l x f i σ z q = absurd (impossible (sym (x f i) ∙ q))
 
-  -- no bytes are left for it
-  pub early-by : {n l : ℕ} → l ≤ a → a ≤ length s → SortedBy s D a n 0 l
-  early-by {n} {l} h i = record {
-    none-sorted = λ k f j σ z q. let m = sorted-takes D f (drop a s) σ z q in let u = length-drop a s in omega arith;
-    low = λ k. absurd (omega arith);
-    high = omega arith;
-    is_sorted = λ k. absurd (omega arith);
-  }
+-- no bytes are left for it
+pub early-by : (s : List ℕ) (D : Declarations) (a l : ℕ) → l ≤ a → a ≤ length s → SortedBy s D a None 0 l
+early-by s D a l h i f j σ z q = let m = sorted-takes D f (drop a s) σ z q in let u = length-drop a s in omega arith
 
-  pub gone-by : {w : Coded} {p n e l r : ℕ} → Asking s D a w p → SortedBy s D p n e r → BeforeIs w.code l r → e ≡ 0 → (m : ℕ) → SortedBy s D a m e l
-  gone-by {w} {p} {n} {e} {l} {r} x y b k m = record {
-    none-sorted = λ _ f i σ z q. told f i σ z q;
-    low = λ h. absurd (omega arith);
-    high = y.high;
-    is_sorted = λ h. absurd (omega arith);
-  }
-    where
-      told : (f : ℕ) → enough s a ≤ f → (σ : TreeSort) (z : List ℕ) → sorted f D (drop a s) ≡ took σ z → l + length z < length s
-      told f i σ z q =
-          let (g, j, t) = x.reads f i in
-          let (ρ, v, h, o) = and-then (sorted g D (drop p s)) (λ σ r. rest g D (after x.state σ) r) σ z (sym t ∙ q) in
-          let c = y.none-sorted k g j ρ v h in
-          let d = b.takes D x.held.sorts w.x w.y w.z ρ g v σ z (ap (λ (st : State). rest g D (after st ρ) v) (sym x.held.is) ∙ o) in
-          omega arith
+-- an operand that is told to have no sort
+pub gone-by : {s : List ℕ} {D : Declarations} {a : ℕ} {w : TermState} {p l r : ℕ} → Asking s D a w p → SortedBy s D p None 0 r → BeforeIs w l r → SortedBy s D a None 0 l
+gone-by {s} {D} {a} {w} {p} {l} {r} x y b f i σ z q =
+    let (g, j, t) = x.reads f i in
+    let (ρ, v, h, o) = and-then (sorted g D (drop p s)) (λ σ r. rest g D (after x.state σ) r) σ z (sym t ∙ q) in
+    let c = y g j ρ v h in
+    let d = b.takes D x.held.sorts ρ g v σ z (ap (λ (st : State). rest g D (after st ρ) v) (sym x.held.is) ∙ o) in
+    omega arith
 
 -- the end of the script is no bound
-pub none-whole : {s : List ℕ} {D : Declarations} {a n e : ℕ} → SortedBy s D a n e (length s) → e ≡ 0 → (f : ℕ) → enough s a ≤ f → sorted f D (drop a s) ≡ none
-none-whole {s} {D} {a} {n} {e} x k f h = by-sort (sorted f D (drop a s)) refl
+pub none-whole : (s : List ℕ) (D : Declarations) (a : ℕ) → SortedBy s D a None 0 (length s) → SortAt s D a None
+none-whole s D a x f h = by-sort (sorted f D (drop a s)) refl
   where
     by-sort : (o : Option (Took TreeSort)) → sorted f D (drop a s) ≡ o → o ≡ none
     by-sort none q = refl
-    by-sort (some t) q = absurd (let m = x.none-sorted k f h t.value t.rest q in omega arith)
+    by-sort (some t) q = absurd (let m = x f h t.value t.rest q in omega arith)

@@ -1,8 +1,8 @@
 -- From the head of a term to its first state.
 use Prim.Native.Nat.{ℕ, zero, suc, ◌+◌, ◌-◌, ◌≤◌, ◌<◌}
-use Rattle.std.specs.Prelude.{◌≡◌, refl, ◌⊎◌, ltb, length, drop}
+use Rattle.std.specs.Prelude.{◌≡◌, refl, ltb, length, drop}
 use Rattle.std.proofs.Math.Path.{ap, sym, subst}
-use Rattle.std.proofs.Common.{◌∙◌, inl, inr, ⊎_elim, ltb→lt}
+use Rattle.std.proofs.Common.{◌∙◌, ltb→lt}
 use mathlib.Core.List.{List, [], ◌∷◌}
 use Rattle.std.specs.Prelude.{Some, None}
 use Rattle.std.proofs.Math.Option.{Option, none, some}
@@ -24,6 +24,7 @@ use Rattle.sort_reader.specs.WaitLaws.{stuck-finish}
 use Rattle.sort_reader.specs.Sorted.{of_sort, sorted, operands, operator-read}
 use Rattle.sort_reader.specs.Leaves.{argued, called_by, call-read}
 use Rattle.sort_reader.specs.Selects.{operand_of, stores_then, opened, raised, raised_by, and_same, and-nothing, select-sorted}
+use Rattle.script_entries.specs.Entries.{ArgumentsAt}
 use Rattle.script_entries.specs.Named.{array-named, function-named}
 use Rattle.script_heads.specs.Heads.{numerals_of, name_to, NothingAt, ConstantAt, VariableAt, NullaryAt, OperatorAt, CallAt, select_name, SelectAt, HeadAt}
 use Rattle.script_heads.specs.HeadLaws.{opened-long}
@@ -31,10 +32,9 @@ use Rattle.script_heads.specs.declared.Head.{Head}
 use Rattle.script_heads.specs.declared.Head.TheVariants.{Constant, Variable, Nullary, Operator, Call, Select}
 use Rattle.script_terms.specs.States.{sort_from, done, waits, index, widths, rest, state_of, enough, Going}
 use Rattle.script_terms.specs.StateLaws.{stuck-rest}
-use Rattle.script_terms.specs.Turns.{Ends, numeral_count, code_from, CodeIs, OpenedIs}
-use Rattle.script_terms.specs.declared.Code.{Code}
-use Rattle.script_terms.specs.declared.Code.TheVariants.{Failed, Done, Arguments, Index}
-use Rattle.script_terms.specs.declared.Coded.{Coded}
+use Rattle.script_terms.specs.Turns.{numeral_count, state_from, StateIs, OpenedIs}
+use Rattle.script_terms.specs.declared.TermState.{TermState}
+use Rattle.script_terms.specs.declared.TermState.TheVariants.{Failed, Done, Arguments, Index}
 use Rattle.script_terms.specs.OperandLaws.{width-sort}
 
 -- ---------------------------------------------------------------- nothing
@@ -53,13 +53,13 @@ module _ (s : List ℕ) (D : Declarations) (a e : ℕ) (t : Tree) (w : ℕ) (low
   unfolding sorted and_then of_sort
   leaf-sorted f = rw (read f, sort) (ap (λ (σ : TreeSort). took σ (drop e s)) (sym leaf-width))
 
-  leaf-going : Going s D a (record { code = Done; x = w; y = 0; z = 0 }) e
+  leaf-going : Going s D a (Done w) e
   unfolding state_of rest
   leaf-going = record {
     state = done (sort_from w);
-    held = record { sorts = []; is = refl; call = λ k. absurd (let z : ⊥ = cc in z) };
+    held = record { sorts = []; is = refl; call = λ p m k. absurd (let z : ⊥ = cc in z) };
     low = omega arith;
-    moved = λ _. low;
+    moved = λ n k. low;
     high = high;
     reads = λ f l.
         let z : f ≡ suc (f - 1) = omega arith in
@@ -68,13 +68,13 @@ module _ (s : List ℕ) (D : Declarations) (a e : ℕ) (t : Tree) (w : ℕ) (low
         (f, omega arith, ap (λ (k : ℕ). sorted k D (drop a s)) z ∙ leaf-sorted (f - 1));
   }
 
-pub constant-going : {s : List ℕ} {D : Declarations} {a e : ℕ} → ConstantAt s D a e → Going s D a (record { code = Done; x = (e - (a + 2)); y = 0; z = 0 }) e
+pub constant-going : {s : List ℕ} {D : Declarations} {a e : ℕ} → ConstantAt s D a e → Going s D a (Done (e - (a + 2))) e
 constant-going {s} {D} {a} {e} x = leaf-going s D a e _ (e - (a + 2)) (let l = x.low in omega arith) x.high x.read x.sort
 
-pub variable-going : {s : List ℕ} {D : Declarations} {a k w e : ℕ} → VariableAt s D a k w e → Going s D a (record { code = Done; x = w; y = 0; z = 0 }) e
+pub variable-going : {s : List ℕ} {D : Declarations} {a k w e : ℕ} → VariableAt s D a k w e → Going s D a (Done w) e
 variable-going {s} {D} {a} {k} {w} {e} x = leaf-going s D a e _ w (let l = x.low in omega arith) x.high x.read x.sort
 
-pub nullary-going : {s : List ℕ} {D : Declarations} {a g w e : ℕ} → NullaryAt s D a g w e → Going s D a (record { code = Done; x = w; y = 0; z = 0 }) e
+pub nullary-going : {s : List ℕ} {D : Declarations} {a g w e : ℕ} → NullaryAt s D a g w e → Going s D a (Done w) e
 nullary-going {s} {D} {a} {g} {w} {e} x = leaf-going s D a e _ w (let l = x.low in omega arith) x.high x.read x.sort
 
 -- ---------------------------------------------------------------- operators
@@ -278,74 +278,74 @@ no-operands : (D : Declarations) (h : Shape) (ks : List ℕ) → ((os : List (Op
 unfolding operands of_sort
 no-operands D h ks n f b = and-nothing (read_terms f D b) _ (λ ts r. ap (λ (o : Option TreeSort). of_sort o r) (n (tree_sorts D ts)))
 
-fits : (h : Shape) (m : ℕ) → m ≡ numeral_count h → (D : Declarations) (ws : List ℕ) (i j z f : ℕ) (b : List ℕ) → operands f D (first h (numerals_of m i j)) b ≡ rest f D (state_of ws (code_from h) i j z) b
+fits : (h : Shape) (m : ℕ) → m ≡ numeral_count h → (D : Declarations) (ws : List ℕ) (i j f : ℕ) (b : List ℕ) → operands f D (first h (numerals_of m i j)) b ≡ rest f D (state_of ws (state_from h i j)) b
 unfolding state_of numerals_of rest
-fits var m e D ws i j z f b = no-operands D var (numerals_of m i j) (outside var tt (numerals_of m i j)) f b ∙ sym (stuck-rest D f b)
-fits const m e D ws i j z f b = no-operands D const (numerals_of m i j) (outside const tt (numerals_of m i j)) f b ∙ sym (stuck-rest D f b)
-fits binary m e D ws i j z f b = ap (λ (k : ℕ). operands f D (first binary (numerals_of k i j)) b) e
-fits rotation m e D ws i j z f b = ap (λ (k : ℕ). operands f D (first rotation (numerals_of k i j)) b) e
-fits extraction m e D ws i j z f b = ap (λ (k : ℕ). operands f D (first extraction (numerals_of k i j)) b) e
-fits concat m e D ws i j z f b = ap (λ (k : ℕ). operands f D (first concat (numerals_of k i j)) b) e
-fits extension m e D ws i j z f b = ap (λ (k : ℕ). operands f D (first extension (numerals_of k i j)) b) e
-fits ite m e D ws i j z f b = ap (λ (k : ℕ). operands f D (first ite (numerals_of k i j)) b) e
-fits comparison m e D ws i j z f b = ap (λ (k : ℕ). operands f D (first comparison (numerals_of k i j)) b) e
-fits negation m e D ws i j z f b = ap (λ (k : ℕ). operands f D (first negation (numerals_of k i j)) b) e
-fits connective m e D ws i j z f b = ap (λ (k : ℕ). operands f D (first connective (numerals_of k i j)) b) e
-fits unary m e D ws i j z f b = ap (λ (k : ℕ). operands f D (first unary (numerals_of k i j)) b) e
-fits Shape.select m e D ws i j z f b = no-operands D Shape.select (numerals_of m i j) (outside Shape.select tt (numerals_of m i j)) f b ∙ sym (stuck-rest D f b)
-fits Shape.call m e D ws i j z f b = no-operands D Shape.call (numerals_of m i j) (outside Shape.call tt (numerals_of m i j)) f b ∙ sym (stuck-rest D f b)
-fits unknown m e D ws i j z f b = no-operands D unknown (numerals_of m i j) (outside unknown tt (numerals_of m i j)) f b ∙ sym (stuck-rest D f b)
+fits var m e D ws i j f b = no-operands D var (numerals_of m i j) (outside var tt (numerals_of m i j)) f b ∙ sym (stuck-rest D f b)
+fits const m e D ws i j f b = no-operands D const (numerals_of m i j) (outside const tt (numerals_of m i j)) f b ∙ sym (stuck-rest D f b)
+fits binary m e D ws i j f b = ap (λ (k : ℕ). operands f D (first binary (numerals_of k i j)) b) e
+fits rotation m e D ws i j f b = ap (λ (k : ℕ). operands f D (first rotation (numerals_of k i j)) b) e
+fits extraction m e D ws i j f b = ap (λ (k : ℕ). operands f D (first extraction (numerals_of k i j)) b) e
+fits concat m e D ws i j f b = ap (λ (k : ℕ). operands f D (first concat (numerals_of k i j)) b) e
+fits extension m e D ws i j f b = ap (λ (k : ℕ). operands f D (first extension (numerals_of k i j)) b) e
+fits ite m e D ws i j f b = ap (λ (k : ℕ). operands f D (first ite (numerals_of k i j)) b) e
+fits comparison m e D ws i j f b = ap (λ (k : ℕ). operands f D (first comparison (numerals_of k i j)) b) e
+fits negation m e D ws i j f b = ap (λ (k : ℕ). operands f D (first negation (numerals_of k i j)) b) e
+fits connective m e D ws i j f b = ap (λ (k : ℕ). operands f D (first connective (numerals_of k i j)) b) e
+fits unary m e D ws i j f b = ap (λ (k : ℕ). operands f D (first unary (numerals_of k i j)) b) e
+fits Shape.select m e D ws i j f b = no-operands D Shape.select (numerals_of m i j) (outside Shape.select tt (numerals_of m i j)) f b ∙ sym (stuck-rest D f b)
+fits Shape.call m e D ws i j f b = no-operands D Shape.call (numerals_of m i j) (outside Shape.call tt (numerals_of m i j)) f b ∙ sym (stuck-rest D f b)
+fits unknown m e D ws i j f b = no-operands D unknown (numerals_of m i j) (outside unknown tt (numerals_of m i j)) f b ∙ sym (stuck-rest D f b)
 
-plain-code : (h : Shape) → code_from h ≡ Arguments → ⊥
-plain-code var q = cc
-plain-code const q = cc
-plain-code binary q = cc
-plain-code rotation q = cc
-plain-code extraction q = cc
-plain-code concat q = cc
-plain-code extension q = cc
-plain-code ite q = cc
-plain-code comparison q = cc
-plain-code negation q = cc
-plain-code connective q = cc
-plain-code unary q = cc
-plain-code Shape.select q = cc
-plain-code Shape.call q = cc
-plain-code unknown q = cc
+plain-state : (h : Shape) (i j p m : ℕ) → state_from h i j ≡ Arguments p m → ⊥
+plain-state var i j p m q = cc
+plain-state const i j p m q = cc
+plain-state binary i j p m q = cc
+plain-state rotation i j p m q = cc
+plain-state extraction i j p m q = cc
+plain-state concat i j p m q = cc
+plain-state extension i j p m q = cc
+plain-state ite i j p m q = cc
+plain-state comparison i j p m q = cc
+plain-state negation i j p m q = cc
+plain-state connective i j p m q = cc
+plain-state unary i j p m q = cc
+plain-state Shape.select i j p m q = cc
+plain-state Shape.call i j p m q = cc
+plain-state unknown i j p m q = cc
 
-other-code : (h : Shape) → code_from h ≡ Done → ⊥
-other-code var q = cc
-other-code const q = cc
-other-code binary q = cc
-other-code rotation q = cc
-other-code extraction q = cc
-other-code concat q = cc
-other-code extension q = cc
-other-code ite q = cc
-other-code comparison q = cc
-other-code negation q = cc
-other-code connective q = cc
-other-code unary q = cc
-other-code Shape.select q = cc
-other-code Shape.call q = cc
-other-code unknown q = cc
+other-state : (h : Shape) (i j n : ℕ) → state_from h i j ≡ Done n → ⊥
+other-state var i j n q = cc
+other-state const i j n q = cc
+other-state binary i j n q = cc
+other-state rotation i j n q = cc
+other-state extraction i j n q = cc
+other-state concat i j n q = cc
+other-state extension i j n q = cc
+other-state ite i j n q = cc
+other-state comparison i j n q = cc
+other-state negation i j n q = cc
+other-state connective i j n q = cc
+other-state unary i j n q = cc
+other-state Shape.select i j n q = cc
+other-state Shape.call i j n q = cc
+other-state unknown i j n q = cc
 
-module _ (k m : ℕ) (s : code.Shape) {n : ℕ} (e : shape_in s ≡ shape_of k) (g : n ≡ numeral_count (shape_in s)) where
-  pub code-unfit : (m ≡ n → ⊥) → CodeIs k m Failed
+module _ (k m i j : ℕ) (s : code.Shape) {n : ℕ} (e : shape_in s ≡ shape_of k) (g : n ≡ numeral_count (shape_in s)) where
+  pub state-unfit : (m ≡ n → ⊥) → StateIs k m i j Failed
   unfolding state_of
-  code-unfit d = record {
-    state = λ l D i j z ws f b. no-operands D (shape_of k) (numerals_of m i j) (unfit (shape_of k) m (λ q. d (q ∙ sym (g ∙ ap numeral_count e))) l i j) f b ∙ sym (stuck-rest D f b);
-    plain = λ q. cc;
-    other = λ q. cc;
+  state-unfit d = record {
+    state = λ l D ws f b. no-operands D (shape_of k) (numerals_of m i j) (unfit (shape_of k) m (λ q. d (q ∙ sym (g ∙ ap numeral_count e))) l i j) f b ∙ sym (stuck-rest D f b);
+    plain = λ p m q. cc;
+    other = λ n q. cc;
   }
 
-  pub code_fits : m ≡ n → {r : Code} → r ≡ code_from (shape_in s) → CodeIs k m r
-  code_fits d {r} q =
-      let u : r ≡ code_from (shape_of k) = q ∙ ap code_from e in
+  pub state_fits : m ≡ n → {r : TermState} → r ≡ state_from (shape_in s) i j → StateIs k m i j r
+  state_fits d {r} q =
+      let u : r ≡ state_from (shape_of k) i j = q ∙ ap (λ (h : Shape). state_from h i j) e in
       record {
-        state = λ _ D i j z ws f b. fits (shape_of k) m (d ∙ g ∙ ap numeral_count e) D ws i j z f b ∙ ap (λ (o : Code). rest f D (state_of ws o i j z) b) (sym u);
-        plain = λ v. plain-code (shape_of k) (sym u ∙ v);
-        other = λ v. other-code (shape_of k) (sym u ∙ v);
+        state = λ _ D ws f b. fits (shape_of k) m (d ∙ g ∙ ap numeral_count e) D ws i j f b ∙ ap (λ (o : TermState). rest f D (state_of ws o) b) (sym u);
+        plain = λ p q v. plain-state (shape_of k) i j p q (sym u ∙ v);
+        other = λ q v. other-state (shape_of k) i j q (sym u ∙ v);
       }
 
 -- the term begins with what follows its head
@@ -353,12 +353,12 @@ operator-sorted : (D : Declarations) (f k : ℕ) (ks b r : List ℕ) → read_te
 unfolding sorted operands applied
 operator-sorted D f k ks b r e = ap (λ (o : Option (Took Tree)). and_then o (λ t r. of_sort (tree_sort D t) r)) e ∙ operator-read D (some k) ks (read_terms f D r)
 
-pub operator-going : {s : List ℕ} {D : Declarations} {a k m i j e : ℕ} {c : Code} → OperatorAt s D a k m i j e → CodeIs k m c → Going s D a (record { code = c; x = i; y = j; z = 0 }) e
-operator-going {s} {D} {a} {k} {m} {i} {j} {e} {c} x y = record {
-  state = state_of [] c i j 0;
-  held = record { sorts = []; is = refl; call = λ q. absurd (y.plain q) };
+pub operator-going : {s : List ℕ} {D : Declarations} {a k m i j e : ℕ} {w : TermState} → OperatorAt s D a k m i j e → StateIs k m i j w → Going s D a w e
+operator-going {s} {D} {a} {k} {m} {i} {j} {e} {w} x y = record {
+  state = state_of [] w;
+  held = record { sorts = []; is = refl; call = λ p n q. absurd (y.plain p n q) };
   low = let l = x.low in omega arith;
-  moved = λ q. absurd (y.other q);
+  moved = λ n q. absurd (y.other n q);
   high = x.high;
   reads = λ f l.
       let z : f ≡ suc (suc (f - 2)) = omega arith in
@@ -369,7 +369,7 @@ operator-going {s} {D} {a} {k} {m} {i} {j} {e} {c} x y = record {
         f - 2,
         omega arith,
         ap (λ (k : ℕ). sorted k D (drop a s)) z ∙ operator-sorted D (f - 2) k (numerals_of m i j) (drop a s) (drop e s) (x.read (f - 2) (omega arith))
-            ∙ y.state x.few D i j 0 [] (f - 2) (drop e s),
+            ∙ y.state x.few D [] (f - 2) (drop e s),
       );
 }
 
@@ -386,13 +386,13 @@ unfolding sorted called_by
 call-sorted-by D f n g b r e l q =
     ap (λ (o : Option (Took Tree)). and_then o (λ t r. of_sort (tree_sort D t) r)) q ∙ call-read D f n (some g) e r ∙ argued-is D f g.arguments g.width r l
 
-pub call-going : {s : List ℕ} {D : Declarations} {a g p w e : ℕ} → CallAt s D a g p w e → Going s D a (record { code = Arguments; x = p; y = w; z = 0 }) e
+pub call-going : {s : List ℕ} {D : Declarations} {a g p w e : ℕ} → CallAt s D a g p w e → Going s D a (Arguments p w) e
 unfolding state_of rest
 call-going {s} {D} {a} {g} {p} {w} {e} x = record {
   state = waits (arguments (function_at D g).arguments w);
-  held = record { sorts = (function_at D g).arguments; is = refl; call = λ _. x.entry.arguments };
+  held = record { sorts = (function_at D g).arguments; is = refl; call = λ q m k. let z : p ≡ q = cc in subst (λ (u : ℕ). ArgumentsAt s u (function_at D g).arguments) z x.entry.arguments };
   low = let l = x.low in omega arith;
-  moved = λ q. absurd (let z : ⊥ = cc in z);
+  moved = λ n q. absurd (let z : ⊥ = cc in z);
   high = x.high;
   reads = λ f l.
       let z : f ≡ suc (suc (f - 2)) = omega arith in
@@ -418,13 +418,13 @@ same-widths D a i v p q (suc n) g b =
     (λ k. and_then (operand_of g D (p k) b) (λ _ y. and_then (operand_of g D (q k) y) (λ _ x. and_then (expect (bytes ")") x) (λ _ z. stores_then (suc g) D a n z))))
     ∙ and_same (operand_of g D i b) _ _ (λ _ y. and_same (operand_of g D v y) _ _ (λ _ x. and_same (expect (bytes ")") x) _ _ (λ _ z. same-widths D a i v p q n (suc g) z)))
 
-pub select-going : {s : List ℕ} {D : Declarations} {a k i v n e : ℕ} → SelectAt s D a k i v n e → Going s D a (record { code = Index; x = n; y = i; z = v }) e
+pub select-going : {s : List ℕ} {D : Declarations} {a k i v n e : ℕ} → SelectAt s D a k i v n e → Going s D a (Index (record { index = i; value = v; left = n })) e
 unfolding state_of rest bytes
 select-going {s} {D} {a} {k} {i} {v} {n} {e} x = record {
   state = index i v n;
-  held = record { sorts = []; is = refl; call = λ q. absurd (let z : ⊥ = cc in z) };
+  held = record { sorts = []; is = refl; call = λ p m q. absurd (let z : ⊥ = cc in z) };
   low = let l = x.name.low in omega arith;
-  moved = λ q. absurd (let z : ⊥ = cc in z);
+  moved = λ n q. absurd (let z : ⊥ = cc in z);
   high = x.name.high;
   reads = λ f l.
       let o : length (drop a s) ≡ suc (suc (suc (suc (suc (suc (suc (suc (length (opened n (124 ∷ drop (select_name a n) s)))))))))) = ap length x.begins in
@@ -467,15 +467,15 @@ module _ (s : List ℕ) (D : Declarations) (a : ℕ) {r : Head} (x : HeadAt s D 
   pub head-select : {k i v n e : ℕ} → r ≡ Select k i v n e → SelectAt s D a k i v n e
   head-select q = told q
 
--- ---------------------------------------------------------------- the numbers of a term that is begun
+-- ---------------------------------------------------------------- a term that is begun
 
-pub failed-going : {s : List ℕ} {D : Declarations} {a : ℕ} (r : Coded) → OpenedIs s D a None → Ends r Failed 0 → a ≤ length s → Going s D a r a
+pub failed-going : {s : List ℕ} {D : Declarations} {a : ℕ} → OpenedIs s D a None → a ≤ length s → Going s D a Failed a
 unfolding state_of
-failed-going {s} {D} {a} r x f l = record {
+failed-going {s} {D} {a} x l = record {
   state = waits stuck;
-  held = record { sorts = []; is = sym (λ i. state_of [] (f.code i) r.x r.y r.z); call = λ k. absurd (let j = f.code in let z : ⊥ = cc in z) };
+  held = record { sorts = []; is = refl; call = λ p m k. absurd (let z : ⊥ = cc in z) };
   low = omega arith;
-  moved = λ k. absurd (let j = f.code in let z : ⊥ = cc in z);
+  moved = λ n k. absurd (let z : ⊥ = cc in z);
   high = l;
   reads = λ g m. (g, omega arith, x g m ∙ sym (stuck-rest D g (drop a s)));
 }

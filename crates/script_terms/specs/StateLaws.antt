@@ -30,7 +30,7 @@ module _ (D : Declarations) where
   Asks (index i v n) = Unit
   Asks (value i v n) = Unit
   Asks (stored i v n) = ⊥
-  Asks (own i v) = ⊥
+  Asks (own v) = ⊥
 
   -- the steps that are left for the operand
   abbrev pub left : State → ℕ → ℕ
@@ -39,7 +39,7 @@ module _ (D : Declarations) where
   left (index i v n) g = suc g
   left (value i v n) g = suc g
   left (stored i v n) g = suc g
-  left (own i v) g = suc g
+  left (own v) g = suc g
 
   pub left-high : (q : State) (g : ℕ) → g ≤ left q g
   left-high (done σ) g = omega arith
@@ -47,7 +47,7 @@ module _ (D : Declarations) where
   left-high (index i v n) g = omega arith
   left-high (value i v n) g = omega arith
   left-high (stored i v n) g = omega arith
-  left-high (own i v) g = omega arith
+  left-high (own v) g = omega arith
 
   operand-then : (g w : ℕ) (b : List ℕ) (L : List ℕ → Option (Took TreeSort)) (Q : State) → ((r : List ℕ) → rest g D Q r ≡ L r)
       → and_then (operand_of g D w (32 ∷ b)) (λ _ y. L y) ≡ and_then (sorted g D b) (λ σ r. rest g D (cond (has_sort (some σ) (bits w)) Q (waits stuck)) r)
@@ -62,9 +62,9 @@ module _ (D : Declarations) where
       by_read none = refl
       by_read (some t) = by-sort (has_sort (some t.value) (bits w)) t.rest
 
-  own-rest : (g i v : ℕ) (r : List ℕ) → rest g D (own i v) r ≡ and_then (expect (bytes ")") r) (λ _ z. of_sort (if_proper (bits v)) z)
+  own-rest : (g v : ℕ) (r : List ℕ) → rest g D (own v) r ≡ and_then (expect (bytes ")") r) (λ _ z. of_sort (if_proper (bits v)) z)
   unfolding rest
-  own-rest g i v r = refl
+  own-rest g v r = refl
 
   value-rest : (g i v n : ℕ) (r : List ℕ) → rest g D (value i v n) r ≡ and_then (operand_of g D v r) (λ _ x. and_then (expect (bytes ")") x) (λ _ z. stores_then (suc g) D (widths i v) n z))
   unfolding rest
@@ -76,7 +76,7 @@ module _ (D : Declarations) where
 
   index-next : (g i v n : ℕ) (b : List ℕ) → stores_then g D (widths i v) n (32 ∷ b) ≡ and_then (sorted g D b) (λ σ r. rest g D (cond (has_sort (some σ) (bits i)) (after_index i v n) (waits stuck)) r)
   unfolding stores_then after_index
-  index-next g i v zero b = operand-then g i b (λ y. and_then (expect (bytes ")") y) (λ _ z. of_sort (if_proper (bits v)) z)) (own i v) (own-rest g i v)
+  index-next g i v zero b = operand-then g i b (λ y. and_then (expect (bytes ")") y) (λ _ z. of_sort (if_proper (bits v)) z)) (own v) (own-rest g v)
   index-next g i v (suc n) b =
       operand-then g i b (λ y. and_then (operand_of g D v y) (λ _ x. and_then (expect (bytes ")") x) (λ _ z. stores_then (suc g) D (widths i v) n z))) (value i v n) (value-rest g i v n)
 
@@ -88,7 +88,7 @@ module _ (D : Declarations) where
   rest-next (index i v n) h g b = index-next (suc g) i v n b
   rest-next (value i v n) h g b = operand-then (suc g) v b (λ x. and_then (expect (bytes ")") x) (λ _ z. stores_then (suc (suc g)) D (widths i v) n z)) (stored i v n) (stored-rest (suc g) i v n)
   rest-next (stored i v n) h g b = absurd h
-  rest-next (own i v) h g b = absurd h
+  rest-next (own v) h g b = absurd h
 
   -- ---------------------------------------------------------------- brackets
 
@@ -96,9 +96,9 @@ module _ (D : Declarations) where
   unfolding rest
   close-rest w g b = operands_end D g w b
 
-  pub own-close : (g i v : ℕ) (b : List ℕ) → rest g D (own i v) (41 ∷ b) ≡ of_sort (if_proper (bits v)) b
+  pub own-close : (g v : ℕ) (b : List ℕ) → rest g D (own v) (41 ∷ b) ≡ of_sort (if_proper (bits v)) b
   unfolding rest and_then expect bytes
-  own-close g i v b = refl
+  own-close g v b = refl
 
   pub stored-close : (g i v n : ℕ) (b : List ℕ) → rest g D (stored i v n) (41 ∷ b) ≡ rest (suc g) D (index i v n) b
   unfolding rest and_then expect bytes
@@ -132,9 +132,9 @@ module _ (D : Declarations) where
   unfolding rest
   stored-else f i v n b e = bracket-none b (λ z. stores_then (suc f) D (widths i v) n z) e
 
-  pub own-else : (f i v : ℕ) (b : List ℕ) → expect (bytes ")") b ≡ none → rest f D (own i v) b ≡ none
+  pub own-else : (f v : ℕ) (b : List ℕ) → expect (bytes ")") b ≡ none → rest f D (own v) b ≡ none
   unfolding rest
-  own-else f i v b e = bracket-none b (λ z. of_sort (if_proper (bits v)) z) e
+  own-else f v b e = bracket-none b (λ z. of_sort (if_proper (bits v)) z) e
 
   pub waits-empty : (f : ℕ) (w : Wait) → rest f D (waits w) [] ≡ none
   unfolding rest

@@ -1,4 +1,4 @@
--- The state of a term whose operands are being read, as four numbers, and what is read from it on.
+-- The state of a term whose operands are being read, and what is read from it on.
 use Rattle.std.specs.Prelude.{ℕ, zero, suc, ◌+◌, ◌*◌, ◌≤◌, ◌<◌, ◌≡◌, List, [], ◌∷◌, cond, length, drop}
 use Rattle.std.specs.Prelude.{Option as Maybe, Some, None}
 use Rattle.std.proofs.Math.Option.{Option, none, some}
@@ -11,9 +11,8 @@ use Rattle.sort_reader.specs.Waits.{Wait, first, equal, joins, chosen, truth, en
 use Rattle.sort_reader.specs.Sorted.{of_sort, sorted, operands}
 use Rattle.sort_reader.specs.Selects.{operand_of, stores_then}
 use Rattle.script_entries.specs.Entries.{ArgumentsAt}
-use Rattle.script_terms.specs.declared.Code.{Code}
-use Rattle.script_terms.specs.declared.Code.TheVariants.{Failed, Done, Binary, Rotation, Extraction, Concat, Extension, Ite, Comparison, Negation, Connective, Unary, Same, Joins, Chosen, Truth, Bracket, Arguments, Index, Value, Stored, Own, Fresh}
-use Rattle.script_terms.specs.declared.Coded.{Coded}
+use Rattle.script_terms.specs.declared.TermState.{TermState}
+use Rattle.script_terms.specs.declared.TermState.TheVariants.{Failed, Done, Binary, Rotation, Extraction, Concat, Extension, Ite, Comparison, Negation, Connective, Unary, Same, Joins, Chosen, Truth, Bracket, Arguments, Index, Value, Stored, Own}
 use Rattle.script_terms.specs.declared.Sorted.{Sorted}
 
 -- ---------------------------------------------------------------- sorts as numbers
@@ -37,7 +36,7 @@ pub data State : Type 0 where
   -- the bracket of a store, with so many left after it;
   stored : ℕ → ℕ → ℕ → State
   -- the select's own bracket.
-  own : ℕ → ℕ → State
+  own : ℕ → State
 
 -- an array of these widths
 abbrev pub widths : ℕ → ℕ → Array
@@ -50,11 +49,11 @@ rest f D (waits w) b = operands f D w b
 rest f D (index i v n) b = stores_then f D (widths i v) n b
 rest f D (value i v n) b = and_then (operand_of f D v b) (λ _ x. and_then (expect (bytes ")") x) (λ _ z. stores_then (suc f) D (widths i v) n z))
 rest f D (stored i v n) b = and_then (expect (bytes ")") b) (λ _ z. stores_then (suc f) D (widths i v) n z)
-rest f D (own i v) b = and_then (expect (bytes ")") b) (λ _ z. of_sort (if_proper (bits v)) z)
+rest f D (own v) b = and_then (expect (bytes ")") b) (λ _ z. of_sort (if_proper (bits v)) z)
 
 -- after an index: the select's own bracket, or the value
 unfoldable pub after_index : ℕ → ℕ → ℕ → State
-after_index i v zero = own i v
+after_index i v zero = own v
 after_index i v (suc n) = value i v n
 
 -- one operand more, of this sort
@@ -64,49 +63,44 @@ after (waits w) τ = waits (step w τ)
 after (index i v n) τ = cond (has_sort (some τ) (bits i)) (after_index i v n) (waits stuck)
 after (value i v n) τ = cond (has_sort (some τ) (bits v)) (stored i v n) (waits stuck)
 after (stored i v n) τ = waits stuck
-after (own i v) τ = waits stuck
+after (own v) τ = waits stuck
 
--- ---------------------------------------------------------------- states as numbers
+-- ---------------------------------------------------------------- states of the enum
 
--- The code of a state and its three numbers; a call's argument sorts ws stand in the script.
-unfoldable pub state_of : List ℕ → Code → ℕ → ℕ → ℕ → State
-state_of ws Failed x y z = waits stuck
-state_of ws Done x y z = done (sort_from x)
-state_of ws Binary x y z = waits (first binary [])
-state_of ws Rotation x y z = waits (first rotation (x ∷ []))
-state_of ws Extraction x y z = waits (first extraction (x ∷ y ∷ []))
-state_of ws Concat x y z = waits (first concat [])
-state_of ws Extension x y z = waits (first extension (x ∷ []))
-state_of ws Ite x y z = waits (first ite [])
-state_of ws Comparison x y z = waits (first comparison [])
-state_of ws Negation x y z = waits (first negation [])
-state_of ws Connective x y z = waits (first connective [])
-state_of ws Unary x y z = waits (first unary [])
-state_of ws Same x y z = waits (equal x (sort_from y))
-state_of ws Joins x y z = waits (joins x)
-state_of ws Chosen x y z = waits chosen
-state_of ws Truth x y z = waits truth
-state_of ws Bracket x y z = waits (ends (sort_from x))
-state_of ws Arguments x y z = waits (arguments ws y)
-state_of ws Index x y z = index y z x
-state_of ws Value x y z = value y z x
-state_of ws Stored x y z = stored y z x
-state_of ws Own x y z = own y z
-state_of ws Fresh x y z = waits stuck
+-- The state that a value of the enum is; a call's argument sorts ws stand in the script.
+unfoldable pub state_of : List ℕ → TermState → State
+state_of ws Failed = waits stuck
+state_of ws (Done n) = done (sort_from n)
+state_of ws Binary = waits (first binary [])
+state_of ws (Rotation i) = waits (first rotation (i ∷ []))
+state_of ws (Extraction i j) = waits (first extraction (i ∷ j ∷ []))
+state_of ws Concat = waits (first concat [])
+state_of ws (Extension n) = waits (first extension (n ∷ []))
+state_of ws Ite = waits (first ite [])
+state_of ws Comparison = waits (first comparison [])
+state_of ws Negation = waits (first negation [])
+state_of ws Connective = waits (first connective [])
+state_of ws Unary = waits (first unary [])
+state_of ws (Same m n) = waits (equal m (sort_from n))
+state_of ws (Joins m) = waits (joins m)
+state_of ws Chosen = waits chosen
+state_of ws Truth = waits truth
+state_of ws (Bracket n) = waits (ends (sort_from n))
+state_of ws (Arguments p m) = waits (arguments ws m)
+state_of ws (Index x) = index x.index x.value x.left
+state_of ws (Value x) = value x.index x.value x.left
+state_of ws (Stored x) = stored x.index x.value x.left
+state_of ws (Own v) = own v
 
--- the code of a call
-abbrev pub call_code : Code
-call_code = Arguments
-
--- the four numbers w are the state q
-pub record Held (s : List ℕ) (w : Coded) (q : State) : Type 0 where
+-- w is the state q
+pub record Held (s : List ℕ) (w : TermState) (q : State) : Type 0 where
   pub sorts : List ℕ
-  pub is : q ≡ state_of sorts w.code w.x w.y w.z
-  pub call : w.code ≡ call_code → ArgumentsAt s w.x sorts
+  pub is : q ≡ state_of sorts w
+  pub call : (p m : ℕ) → w ≡ Arguments p m → ArgumentsAt s p sorts
 
--- what the code needs of the numbers
-pub record Usable (s : List ℕ) (w : Coded) : Type 0 where
-  pub call : w.code ≡ call_code → w.x ≤ length s
+-- a call's argument sorts stand within the script
+pub record Usable (s : List ℕ) (w : TermState) : Type 0 where
+  pub call : (p m : ℕ) → w ≡ Arguments p m → p ≤ length s
 
 -- ---------------------------------------------------------------- a term from place a on
 
@@ -114,38 +108,34 @@ pub record Usable (s : List ℕ) (w : Coded) : Type 0 where
 abbrev pub enough : List ℕ → ℕ → ℕ
 enough s a = 2 * length (drop a s) + 2
 
--- the term from place a on was read up to place p, and is in a state that the numbers w are
-pub record Going (s : List ℕ) (D : Declarations) (a : ℕ) (w : Coded) (p : ℕ) : Type 0 where
+-- the term from place a on was read up to place p, and is in the state w
+pub record Going (s : List ℕ) (D : Declarations) (a : ℕ) (w : TermState) (p : ℕ) : Type 0 where
   pub state : State
   pub held : Held s w state
   pub low : a ≤ p
-  pub moved : w.code ≡ Done → a < p
+  pub moved : (n : ℕ) → w ≡ Done n → a < p
   pub high : p ≤ length s
   pub reads : (f : ℕ) → enough s a ≤ f → (g : ℕ) × (2 * length (drop p s) < g) × (sorted f D (drop a s) ≡ rest g D state (drop p s))
 
 -- an operand begins at place p
-pub record Asking (s : List ℕ) (D : Declarations) (a : ℕ) (w : Coded) (p : ℕ) : Type 0 where
+pub record Asking (s : List ℕ) (D : Declarations) (a : ℕ) (w : TermState) (p : ℕ) : Type 0 where
   pub state : State
   pub held : Held s w state
-  pub begun : w.code ≡ Fresh → ⊥
   pub low : a < p
   pub high : p ≤ length s
   pub reads : (f : ℕ) → enough s a ≤ f → (g : ℕ) × (enough s p ≤ g) × (sorted f D (drop a s) ≡ and_then (sorted g D (drop p s)) (λ σ r. rest g D (after state σ) r))
 
--- THE SORT of the term from place a on: it has none where e is 0, and else that of the number n, up to place e.
-pub record SortedTo (s : List ℕ) (D : Declarations) (a n e : ℕ) : Type 0 where
-  pub none-sorted : e ≡ 0 → (f : ℕ) → enough s a ≤ f → sorted f D (drop a s) ≡ none
-  pub low : 0 < e → a < e
-  pub high : e ≤ length s
-  pub is_sorted : 0 < e → (f : ℕ) → enough s a ≤ f → sorted f D (drop a s) ≡ took (sort_from n) (drop e s)
-
--- The same, where a term that ends after place l need not be told from one without a sort.
-pub record SortedBy (s : List ℕ) (D : Declarations) (a n e l : ℕ) : Type 0 where
-  pub none-sorted : e ≡ 0 → (f : ℕ) → enough s a ≤ f → (σ : TreeSort) (z : List ℕ) → sorted f D (drop a s) ≡ took σ z → l + length z < length s
-  pub low : 0 < e → a < e
-  pub high : e ≤ length s
-  pub is_sorted : 0 < e → (f : ℕ) → enough s a ≤ f → sorted f D (drop a s) ≡ took (sort_from n) (drop e s)
-
+-- THE SORT of the term from place a on, and the place after it; or it has none.
 abbrev pub SortAt : List ℕ → Declarations → ℕ → Maybe Sorted → Type 0
 SortAt s D a None = (f : ℕ) → enough s a ≤ f → sorted f D (drop a s) ≡ none
 SortAt s D a (Some r) = (a < r.end) × (r.end ≤ length s) × ((f : ℕ) → enough s a ≤ f → sorted f D (drop a s) ≡ took (sort_from r.sort) (drop r.end s))
+
+-- what a state tells of the whole term, where it was read up to place p
+abbrev pub told_at : TermState → ℕ → Maybe Sorted
+told_at (Done n) p = Some (record { sort = n; end = p })
+told_at w p = None
+
+-- The same, where a term that ends after place l need not be told from one without a sort: its sort and the place e after it.
+abbrev pub SortedBy : List ℕ → Declarations → ℕ → Maybe ℕ → ℕ → ℕ → Type 0
+SortedBy s D a None e l = (f : ℕ) → enough s a ≤ f → (σ : TreeSort) (z : List ℕ) → sorted f D (drop a s) ≡ took σ z → l + length z < length s
+SortedBy s D a (Some n) e l = SortAt s D a (Some (record { sort = n; end = e }))

@@ -1,5 +1,5 @@
 -- What the functions that go from state to state say.
-use Rattle.std.specs.Prelude.{ℕ, suc, ◌+◌, ◌*◌, ◌≤◌, ◌<◌, ◌≡◌, List, [], ◌∷◌, Bool, true, false, ◌⊎◌, length, drop, get_or}
+use Rattle.std.specs.Prelude.{ℕ, suc, ◌+◌, ◌*◌, ◌≤◌, ◌<◌, ◌≡◌, List, ◌∷◌, Bool, true, false, ◌⊎◌, length, drop, get_or}
 use Rattle.std.specs.Prelude.{Option as Maybe, Some, None}
 use Rattle.std.proofs.Math.Option.{Option, none}
 use Rattle.reading.specs.Trees.{Declarations}
@@ -13,33 +13,29 @@ use Rattle.script_entries.specs.Entries.{ArgumentsAt}
 use Rattle.script_heads.specs.declared.Head.{Head}
 use Rattle.script_heads.specs.declared.Head.TheVariants.{Constant, Variable, Nullary, Operator, Call, Select}
 use Rattle.script_heads.specs.Heads.{numerals_of}
-use Rattle.script_terms.specs.States.{sort_from, State, waits, rest, after, state_of, call_code, Held, enough, Going, Asking, SortedTo}
-use Rattle.script_terms.specs.declared.Code.{Code}
-use Rattle.script_terms.specs.declared.Code.TheVariants.{Failed, Done, Binary, Rotation, Extraction, Concat, Extension, Ite, Comparison, Negation, Connective, Unary, Stored, Fresh}
-use Rattle.script_terms.specs.declared.Coded.{Coded}
+use Rattle.script_terms.specs.States.{sort_from, State, waits, rest, after, state_of, Held, enough, Going, Asking, SortAt, told_at}
+use Rattle.script_terms.specs.declared.TermState.{TermState}
+use Rattle.script_terms.specs.declared.TermState.TheVariants.{Failed, Done, Binary, Rotation, Extraction, Concat, Extension, Ite, Comparison, Negation, Connective, Unary, Arguments, Stored}
+use Rattle.script_terms.specs.declared.Stores.{Stores}
 use Rattle.script_terms.specs.declared.Next.{Next}
 use Rattle.script_terms.specs.declared.Next.TheVariants.{Done as Whole, Operand}
 use Rattle.script_terms.specs.declared.Opened.{Opened}
 
 -- ---------------------------------------------------------------- one operand more
 
--- the code and the first number
-pub record Ends (r : Coded) (c : Code) (n : ℕ) : Type 0 where
-  pub code : r.code ≡ c
-  pub number : r.x ≡ n
+-- w is no call's
+abbrev pub Plain : TermState → Type 0
+Plain w = (p m : ℕ) → w ≡ Arguments p m → ⊥
 
-abbrev pub state_in : List ℕ → Coded → State
-state_in ws r = state_of ws r.code r.x r.y r.z
-
--- the state after an operand of the sort τ; it is no call's
-pub record AfterIs (c : Code) (x y z : ℕ) (τ : TreeSort) (r : Coded) : Type 0 where
-  pub state : (ws : List ℕ) → state_in ws r ≡ after (state_of ws c x y z) τ
-  pub plain : r.code ≡ call_code → ⊥
+-- the state after an operand of the sort τ
+pub record AfterIs (w : TermState) (τ : TreeSort) (r : TermState) : Type 0 where
+  pub state : (ws : List ℕ) → state_of ws r ≡ after (state_of ws w) τ
+  pub plain : Plain r
 
 -- the end with the sum of two widths
-pub record JoinedIs (a b : ℕ) (r : Coded) : Type 0 where
-  pub state : (ws : List ℕ) → state_in ws r ≡ waits (ends_with (if_proper (bits (a + b))))
-  pub plain : r.code ≡ call_code → ⊥
+pub record JoinedIs (a b : ℕ) (r : TermState) : Type 0 where
+  pub state : (ws : List ℕ) → state_of ws r ≡ waits (ends_with (if_proper (bits (a + b))))
+  pub plain : Plain r
 
 -- ---------------------------------------------------------------- what follows
 
@@ -49,9 +45,9 @@ closed_as None b = none
 closed_as (Some n) b = took (sort_from n) b
 
 -- the state is neither that of a whole term nor that of a store to close
-pub record ClosedIs (s : List ℕ) (c : Code) (x y z : ℕ) (r : Maybe ℕ) : Type 0 where
-  pub closes : (D : Declarations) (ws : List ℕ) → (c ≡ call_code → ArgumentsAt s x ws) → (c ≡ Done → ⊥) → (c ≡ Stored → ⊥) → (g : ℕ) (b : List ℕ)
-      → rest (suc g) D (state_of ws c x y z) (41 ∷ b) ≡ closed_as r b
+pub record ClosedIs (s : List ℕ) (w : TermState) (r : Maybe ℕ) : Type 0 where
+  pub closes : (D : Declarations) (ws : List ℕ) → ((p m : ℕ) → w ≡ Arguments p m → ArgumentsAt s p ws) → ((n : ℕ) → w ≡ Done n → ⊥) → ((x : Stores) → w ≡ Stored x → ⊥) → (g : ℕ) (b : List ℕ)
+      → rest (suc g) D (state_of ws w) (41 ∷ b) ≡ closed_as r b
 
 -- from place p on, in state q: nothing that has a sort
 pub record NoneFrom (s : List ℕ) (D : Declarations) (p : ℕ) (q : State) : Type 0 where
@@ -68,13 +64,13 @@ pub record OperandFrom (s : List ℕ) (D : Declarations) (p : ℕ) (q o : State)
   pub high : e ≤ length s
   pub reads : (g : ℕ) → 2 * length (drop p s) < g → (k : ℕ) × (enough s e ≤ k) × (rest g D q (drop p s) ≡ and_then (sorted k D (drop e s)) (λ σ r. rest k D (after o σ) r))
 
-abbrev pub NextSays : List ℕ → Declarations → ℕ → Code → ℕ → ℕ → ℕ → List ℕ → Maybe Next → Type 0
-NextSays s D p c x y z ws None = NoneFrom s D p (state_of ws c x y z)
-NextSays s D p c x y z ws (Some (Whole n e)) = (p ≤ e) × ((c ≡ Done → ⊥) → p < e) × DoneFrom s D p (state_of ws c x y z) n e
-NextSays s D p c x y z ws (Some (Operand d e)) = (d ≡ Fresh → ⊥) × (d ≡ call_code → c ≡ call_code) × OperandFrom s D p (state_of ws c x y z) (state_of ws d x y z) e
+abbrev pub NextSays : List ℕ → Declarations → ℕ → TermState → List ℕ → Maybe Next → Type 0
+NextSays s D p w ws None = NoneFrom s D p (state_of ws w)
+NextSays s D p w ws (Some (Whole n e)) = (p ≤ e) × (((m : ℕ) → w ≡ Done m → ⊥) → p < e) × DoneFrom s D p (state_of ws w) n e
+NextSays s D p w ws (Some (Operand d e)) = ((q m : ℕ) → d ≡ Arguments q m → w ≡ Arguments q m) × OperandFrom s D p (state_of ws w) (state_of ws d) e
 
-abbrev pub NextIs : List ℕ → ℕ → Code → ℕ → ℕ → ℕ → Maybe Next → Type 0
-NextIs s p c x y z r = (D : Declarations) (ws : List ℕ) → (c ≡ call_code → ArgumentsAt s x ws) → NextSays s D p c x y z ws r
+abbrev pub NextIs : List ℕ → ℕ → TermState → Maybe Next → Type 0
+NextIs s p w r = (D : Declarations) (ws : List ℕ) → ((q m : ℕ) → w ≡ Arguments q m → ArgumentsAt s q ws) → NextSays s D p w ws r
 
 -- an operand that begins at place e: after a blank at place p; or after the bracket of a store there, and a blank
 abbrev pub Begun : List ℕ → ℕ → ℕ → Type 0
@@ -89,22 +85,22 @@ StandsAt s p None = Unit
 StandsAt s p (Some (Whole n e)) = Ended s p e
 StandsAt s p (Some (Operand d e)) = Begun s p e
 
--- the bytes from place p to place e
-abbrev pub MovedTo : List ℕ → ℕ → ℕ → Bool → Type 0
-MovedTo s p e true = Begun s p e
-MovedTo s p e false = 0 < e → Ended s p e
+-- the bytes from place p to place e, where an operand follows or the whole term was read
+abbrev pub MovedTo : List ℕ → ℕ → ℕ → TermState → Bool → Type 0
+MovedTo s p e w true = Begun s p e
+MovedTo s p e w false = (n : ℕ) → w ≡ Done n → Ended s p e
 
 -- an operand of the term from place a on follows; or the term was read, or has no sort
-abbrev pub Turned : List ℕ → Declarations → ℕ → ℕ → Coded → Bool → Type 0
+abbrev pub Turned : List ℕ → Declarations → ℕ → ℕ → TermState → Bool → Type 0
 Turned s D a p w true = Asking s D a w p
-Turned s D a p w false = SortedTo s D a w.x p
+Turned s D a p w false = SortAt s D a (told_at w p)
 
 -- one turn from place p to place p': an operand that follows is further on
-pub record Turn (s : List ℕ) (D : Declarations) (a p p' : ℕ) (w' : Coded) (r : Bool) : Type 0 where
+pub record Turn (s : List ℕ) (D : Declarations) (a p p' : ℕ) (w' : TermState) (r : Bool) : Type 0 where
   pub turned : Turned s D a p' w' r
   pub further : r ≡ true → p < p'
 
-abbrev pub NextTo : List ℕ → ℕ → Coded → ℕ → Coded → Bool → Type 0
+abbrev pub NextTo : List ℕ → ℕ → TermState → ℕ → TermState → Bool → Type 0
 NextTo s p w p' w' r = (D : Declarations) (a : ℕ) → Going s D a w p → Turn s D a p p' w' r
 
 -- ---------------------------------------------------------------- heads
@@ -127,29 +123,29 @@ numeral_count shapes.select = 0
 numeral_count shapes.call = 0
 numeral_count shapes.unknown = 0
 
--- the code of an operator of the shape, or that of a term that has no sort
-abbrev pub code_from : Shape → Code
-code_from shapes.var = Failed
-code_from shapes.const = Failed
-code_from shapes.binary = Binary
-code_from shapes.rotation = Rotation
-code_from shapes.extraction = Extraction
-code_from shapes.concat = Concat
-code_from shapes.extension = Extension
-code_from shapes.ite = Ite
-code_from shapes.comparison = Comparison
-code_from shapes.negation = Negation
-code_from shapes.connective = Connective
-code_from shapes.unary = Unary
-code_from shapes.select = Failed
-code_from shapes.call = Failed
-code_from shapes.unknown = Failed
+-- the state of an operator of the shape with these numerals, or that of a term that has no sort
+abbrev pub state_from : Shape → ℕ → ℕ → TermState
+state_from shapes.var i j = Failed
+state_from shapes.const i j = Failed
+state_from shapes.binary i j = Binary
+state_from shapes.rotation i j = Rotation i
+state_from shapes.extraction i j = Extraction i j
+state_from shapes.concat i j = Concat
+state_from shapes.extension i j = Extension i
+state_from shapes.ite i j = Ite
+state_from shapes.comparison i j = Comparison
+state_from shapes.negation i j = Negation
+state_from shapes.connective i j = Connective
+state_from shapes.unary i j = Unary
+state_from shapes.select i j = Failed
+state_from shapes.call i j = Failed
+state_from shapes.unknown i j = Failed
 
--- the code c is that of an operator of kind k with m numerals, or such an operator has no sort
-pub record CodeIs (k m : ℕ) (c : Code) : Type 0 where
-  pub state : m ≤ 2 → (D : Declarations) (i j z : ℕ) (ws : List ℕ) (f : ℕ) (b : List ℕ) → operands f D (first (shape_of k) (numerals_of m i j)) b ≡ rest f D (state_of ws c i j z) b
-  pub plain : c ≡ call_code → ⊥
-  pub other : c ≡ Done → ⊥
+-- w is the state of an operator of kind k with m of the numerals i and j, or such an operator has no sort
+pub record StateIs (k m i j : ℕ) (w : TermState) : Type 0 where
+  pub state : m ≤ 2 → (D : Declarations) (ws : List ℕ) (f : ℕ) (b : List ℕ) → operands f D (first (shape_of k) (numerals_of m i j)) b ≡ rest f D (state_of ws w) b
+  pub plain : Plain w
+  pub other : (n : ℕ) → w ≡ Done n → ⊥
 
 abbrev pub OpenedIs : List ℕ → Declarations → ℕ → Maybe Opened → Type 0
 OpenedIs s D a None = (f : ℕ) → enough s a ≤ f → sorted f D (drop a s) ≡ none
@@ -166,20 +162,15 @@ head_end (Select a i v n e) = e
 
 -- ---------------------------------------------------------------- turns
 
--- an operand of the sort n came, up to place p, for the state that the numbers w are
-pub record Came (s : List ℕ) (D : Declarations) (a : ℕ) (w : Coded) (n p : ℕ) : Type 0 where
+-- an operand of the sort n came, up to place p, for the state w
+pub record Came (s : List ℕ) (D : Declarations) (a : ℕ) (w : TermState) (n p : ℕ) : Type 0 where
   pub state : State
   pub held : Held s w state
   pub low : a < p
   pub high : p ≤ length s
   pub reads : (f : ℕ) → enough s a ≤ f → (g : ℕ) × (2 * length (drop p s) < g) × (sorted f D (drop a s) ≡ rest g D (after state (sort_from n)) (drop p s))
 
--- where no term was begun
-pub record TurnTo (s : List ℕ) (D : Declarations) (p : ℕ) (w : Coded) (n p' : ℕ) (w' : Coded) (r : Bool) : Type 0 where
-  pub begun : w.code ≡ Fresh → Turn s D p p p' w' r
-  pub gone_on : (w.code ≡ Fresh → ⊥) → (a : ℕ) → Came s D a w n p → Turn s D a p p' w' r
-
--- an operand of a term in a state of code c, where the term must not end after place l, must not end after place r
-pub record BeforeIs (c : Code) (l r : ℕ) : Type 0 where
-  pub takes : (D : Declarations) (ws : List ℕ) (x y u : ℕ) (σ : TreeSort) (g : ℕ) (b : List ℕ) (τ : TreeSort) (z : List ℕ)
-      → rest g D (after (state_of ws c x y u) σ) b ≡ took τ z → l + length z ≤ r + length b
+-- an operand of a term in the state w, where the term must not end after place l, must not end after place r
+pub record BeforeIs (w : TermState) (l r : ℕ) : Type 0 where
+  pub takes : (D : Declarations) (ws : List ℕ) (σ : TreeSort) (g : ℕ) (b : List ℕ) (τ : TreeSort) (z : List ℕ)
+      → rest g D (after (state_of ws w) σ) b ≡ took τ z → l + length z ≤ r + length b

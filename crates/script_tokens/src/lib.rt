@@ -1,5 +1,7 @@
 // The tokens of a script in the printer's own spelling, each read at a place of the script: a word that must stand there, a name up to its
 // bar, a numeral, the digits of a constant, the head of a term. Nothing is copied: a token is two places.
+// Kept: a text and a place in it are two parameters. Callers keep places, compare them and go back to them, so a struct of both would be taken
+// apart at each call.
 // Under "Ruled out" stand wrong programs that a public function's contract refuses.
 #![tactic(auto)]
 
@@ -10,11 +12,16 @@ ghost use Rattle.script_tokens.specs.Stretches.{Runs, Within};
 ghost use Rattle.script_tokens.specs.Numerals.{Digits};
 
 // A number and the place after it.
+// Kept: what is read and the place after it are a struct four more times, in `script_decls` and `script_terms`. A generic one would name none of
+// them, and each has definitions of its own.
 #[derive(Clone, Copy, Debug, PartialEq, Eq)]
 pub struct Number {
     pub value: u64,
     pub end: usize,
 }
+
+// So many bytes are looked at together.
+const BLOCK: usize = 16;
 
 // The byte at a place, and 0, which no script has, past the end. Ruled out: the last byte past the end; the byte after the place.
 pub fn byte_at(s: &[u8], at: usize) -> u8
@@ -28,11 +35,7 @@ pub fn literal(s: &[u8], at: usize, w: &[u8]) -> Option<usize>
     requires { at ≤ length s.now }
     ensures { Reached s.now (expect w.now (drop at s.now)) result }
 {
-    if s[at..].starts_with(w) {
-        Some(at + w.len())
-    } else {
-        None
-    }
+    s[at..].starts_with(w).then_some(at + w.len())
 }
 
 // ---------------------------------------------------------------- stretches of bytes
@@ -46,7 +49,7 @@ pub trait Ending {
 }
 
 // The bar after a name.
-pub struct Bar;
+struct Bar;
 
 impl Ending for Bar {
     ghost ends = { ends_name };
@@ -57,7 +60,7 @@ impl Ending for Bar {
 }
 
 // A byte that is no binary digit.
-pub struct NoDigit;
+struct NoDigit;
 
 impl Ending for NoDigit {
     ghost ends = { ends_digits };
@@ -68,7 +71,7 @@ impl Ending for NoDigit {
 }
 
 // A blank or a closing bracket, where the head of a term ends.
-pub struct WordEnd;
+struct WordEnd;
 
 impl Ending for WordEnd {
     ghost ends = { ends_word };
@@ -78,14 +81,15 @@ impl Ending for WordEnd {
     }
 }
 
-// Does none of the sixteen bytes from place e on end a stretch? (All are looked at: a loop that is not left midway is done at once.)
+// Does none of the bytes of the block from place e on end a stretch?
 fn none_ends<E: Ending>(s: &[u8], e: usize) -> bool
-    requires { e + 16 ≤ length s.now }
-    ensures { result ≡ true → Runs E.ends s.now e (e + 16) }
+    requires { e + BLOCK ≤ length s.now }
+    ensures { result ≡ true → Runs E.ends s.now e (e + BLOCK) }
 {
     let mut ok = true;
-    for k in 0..16 {
-        if E::ends(s[e + k]) {
+    // Kept: `any` would leave the loop midway, and one that looks at all sixteen is done at once.
+    for c in &s[e..e + BLOCK] {
+        if E::ends(*c) {
             ok = false;
         }
     }
@@ -97,6 +101,7 @@ fn end_from<E: Ending>(s: &[u8], at: usize, from: usize) -> usize
     requires { Within E.ends s.now at from }
     ensures { Stretch E.ends s.now at result }
 {
+    // Kept: `position` would tell its byte by its place in the rest of the script, and each law of stretches is about places of the whole.
     for e in from..s.len() {
         if E::ends(s[e]) {
             return e;
@@ -105,18 +110,18 @@ fn end_from<E: Ending>(s: &[u8], at: usize, from: usize) -> usize
     s.len()
 }
 
-// The same, sixteen bytes at a time.
+// The same, a block at a time.
 fn far_end<E: Ending>(s: &[u8], at: usize, from: usize) -> usize
     requires { Within E.ends s.now at from }
     ensures { Stretch E.ends s.now at result }
 {
     let mut e = from;
     // Kept: an iterator over parts of sixteen would have to be asked for the place where it stopped.
-    while s.len() - e >= 16 {
+    while s.len() - e >= BLOCK {
         if !none_ends::<E>(s, e) {
             return end_from::<E>(s, at, e);
         }
-        e += 16;
+        e += BLOCK;
     }
     end_from::<E>(s, at, e)
 }
@@ -134,7 +139,8 @@ pub fn bar_at(s: &[u8], at: usize) -> usize
     requires { at ≤ length s.now }
     ensures { Stretch ends_name s.now at result }
 {
-    let near = at + (s.len() - at).min(16);
+    let near = at + (s.len() - at).min(BLOCK);
+    // Kept: as in `end_from`.
     for e in at..near {
         if Bar::ends(s[e]) {
             return e;
@@ -149,7 +155,7 @@ pub fn name_end(s: &[u8], at: usize) -> Option<usize>
     ensures { NameTo s.now at (name_read (drop at s.now)) result }
 {
     let e = bar_at(s, at);
-    if e < s.len() { Some(e + 1) } else { None }
+    (e < s.len()).then_some(e + 1)
 }
 
 // The place of the first byte from here on that is no binary digit, or the end. Ruled out: a 2 taken for a digit; a place past the byte.
@@ -177,6 +183,7 @@ fn more_digits(s: &[u8], at: usize, from: usize, v: u64) -> Option<Number>
     ensures { Numbered s.now (numeral64 (drop at s.now)) result }
 {
     let mut n = v;
+    // Kept: a fold over the digits would have to answer the place of the first byte that is none.
     for e in from..s.len() {
         let c = s[e];
         if !c.is_ascii_digit() {

@@ -1,6 +1,6 @@
 -- What each way out of a conversion answers. Assumes nothing.
 use Prim.Native.Nat.{ℕ, suc, ◌-◌, ◌≤◌, ◌<◌}
-use mathlib.Core.Path.{◌≡◌, refl, subst}
+use mathlib.Core.Path.{◌≡◌, refl}
 use mathlib.Core.List.{List, []}
 use mathlib.Core.Bool.{true, false}
 use borrow.Author.Tests.{le-leb, lt-leb}
@@ -10,9 +10,9 @@ use Rattle.echo_spec.specs.Answers.{at_front, zeroed, text_refusal, echo_answer,
 use Rattle.refusals.specs.declared.EchoError.{EchoError}
 use Rattle.refusals.specs.declared.EchoError.TheVariants.{Room}
 use Rattle.refusals.specs.Numbers.{error_number, error-number}
-use Rattle.std.specs.Prelude.{Result, Ok, Err}
-use Rattle.short_records.specs.Short.{old_refusal, new_refusal}
-use Rattle.short_records.specs.Outcomes.{answered, Tells, Told}
+use Rattle.std.specs.Prelude.{Ok, Err}
+use Rattle.short_records.specs.Short.{old_refusal}
+use Rattle.short_records.specs.Outcomes.{answered}
 
 -- of any result, with its number with endless room
 module _ (number : ℕ) (text lent : List ℕ) {out : List ℕ} where
@@ -47,12 +47,3 @@ module _ (old : List ℕ) where
   pub passed : length old ≤ 34816 → encoded old [] ≡ true → old_refusal old ≡ 0
   unfolding old_refusal
   passed l e = rw (le-leb (length old) 34816 l, e) refl
-
--- ---------------------------------------------------------------- the arms over what was counted
-
-module _ {new : List ℕ} {r : Result ℕ EchoError} (h : Told new r) where
-  pub told-whole : {n : ℕ} → r ≡ Ok n → Tells new (Ok n)
-  told-whole {n} e = subst (λ (x : Result ℕ EchoError). Tells new x) e h.told
-
-  pub told-refused : {e : EchoError} → r ≡ Err e → new_refusal new ≡ error_number e
-  told-refused {e} f = subst (λ (x : Result ℕ EchoError). Tells new x) f h.told

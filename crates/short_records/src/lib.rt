@@ -1,5 +1,5 @@
 // Shorter node records and back: `shorten` and `lengthen`. Both look at all of their input before they write, so that what writes cannot
-// fail. The sizes of records come from the table of operand counts that refusal 8 goes by.
+// fail. The sizes of records come from the table of operand counts that `Encoding` goes by.
 // Under "Ruled out" stand wrong programs that a public function's contract refuses.
 #![tactic(auto)]
 
@@ -7,16 +7,17 @@ pub mod numbers;
 
 ghost use Rattle.std.specs.Prelude.{◌≡◌, [], ◌+◌, ◌*◌, ◌/◌, ◌≤◌, length, drop};
 ghost use Rattle.echo_spec.specs.Answers.{at_front};
-ghost use Rattle.short_records.specs.Short.{short_size, short_form, short_refusal, long_form, shorten_answer, lengthen_answer};
+ghost use Rattle.lent.specs.Clearing.{left};
+ghost use Rattle.short_records.specs.Short.{short_size, shortened, new_refusal, lengthened, shorten_answer, lengthen_answer};
 ghost use Rattle.short_records.specs.Outcomes.{answered, Told};
 
 use blast_kernel::{KINDS, Shape, encoded};
-use lent::clear;
+use lent::clear_on_refusal;
 use refusals::{EchoError, MAX_NODE_BYTES, MAX_NODES, RECORD};
 
 // The bytes of a record of this kind in the new form. Ruled out: a record without its kind byte; one with all four operands.
 pub fn short_size(kind: u8) -> usize
-    ensures { (result ≡ short_size kind) × (result ≤ 17) }
+    ensures { (result ≡ short_size kind) × (result ≤ RECORD) }
 {
     1 + 4 * Shape::from(kind).operand_count()
 }
@@ -24,8 +25,9 @@ pub fn short_size(kind: u8) -> usize
 // ---------------------------------------------------------------- old to new
 
 // The length of the new form.
+// Kept: by the record's number; of a part of `chunks_exact` it would have to be shown that it has a first byte.
 fn short_length(old: &[u8]) -> usize
-    ensures { result ≡ length (short_form (length old.now / 17) old.now) }
+    ensures { result ≡ length (shortened old.now) }
 {
     let mut total = 0;
     for i in 0..old.len() / RECORD {
@@ -35,9 +37,10 @@ fn short_length(old: &[u8]) -> usize
 }
 
 // The new form to the front of what was lent.
+// Kept: as in `short_length`.
 fn write_short(old: &[u8], out: &mut [u8])
-    requires { length (short_form (length old.now / 17) old.now) ≤ length out.old }
-    ensures { out.new ≡ at_front (short_form (length old.now / 17) old.now) out.old }
+    requires { length (shortened old.now) ≤ length out.old }
+    ensures { out.new ≡ at_front (shortened old.now) out.old }
 {
     let mut at = 0;
     for i in 0..old.len() / RECORD {
@@ -48,31 +51,36 @@ fn write_short(old: &[u8], out: &mut [u8])
     }
 }
 
-// OLD TO NEW: the length of the result, which is written. Ruled out: 9 for 34,816 bytes; 10 before 8.
-pub fn shorten(old: &[u8], out: &mut [u8]) -> Result<usize, EchoError>
-    ensures { answered result out.new ≡ shorten_answer old.now out.old }
+// The conversion, without what a refusal does to what was lent. (There are no bits to be encoded.)
+fn shorten_into(old: &[u8], out: &mut [u8]) -> Result<usize, EchoError>
+    ensures { answered result (left 0 result out.new) ≡ shorten_answer old.now out.old }
 {
     if old.len() > MAX_NODE_BYTES {
-        clear(out);
         return Err(EchoError::Limit);
     }
-    // (There are no bits to be encoded.)
     if !encoded(old, &[]) {
-        clear(out);
         return Err(EchoError::Encoding);
     }
     let n = short_length(old);
     if n > out.len() {
-        clear(out);
         return Err(EchoError::Room);
     }
     write_short(old, out);
     Ok(n)
 }
 
+// OLD TO NEW: the length of the result, which is written. Ruled out: `Limit` for 34,816 bytes; `Room` before `Encoding`.
+pub fn shorten(old: &[u8], out: &mut [u8]) -> Result<usize, EchoError>
+    ensures { answered result out.new ≡ shorten_answer old.now out.old }
+{
+    let told = shorten_into(old, out);
+    clear_on_refusal(&told, out);
+    told
+}
+
 // ---------------------------------------------------------------- new to old
 
-// How many records new bytes are, all of them whole. Ruled out: 16 for what follows 2,048 records; a last record of which a byte is missing taken as whole.
+// How many records new bytes are, all of them whole. Ruled out: `ShortRecord` for what follows 2,048 records; a last record of which a byte is missing taken as whole.
 pub fn count_records(new: &[u8]) -> Result<usize, EchoError>
     ensures { Told new.now result }
 {
@@ -99,8 +107,8 @@ pub fn count_records(new: &[u8]) -> Result<usize, EchoError>
 
 // The old form to the front of what was lent: each record, and 0 for the operands that its kind does not have.
 fn write_long(new: &[u8], out: &mut [u8])
-    requires { (short_refusal 2048 new.now ≡ 0) × (length (long_form 2048 new.now) ≤ length out.old) }
-    ensures { out.new ≡ at_front (long_form 2048 new.now) out.old }
+    requires { (new_refusal new.now ≡ 0) × (length (lengthened new.now) ≤ length out.old) }
+    ensures { out.new ≡ at_front (lengthened new.now) out.old }
 {
     let mut from = 0;
     let mut at = 0;
@@ -114,23 +122,23 @@ fn write_long(new: &[u8], out: &mut [u8])
     }
 }
 
+// The conversion, without what a refusal does to what was lent.
+fn lengthen_into(new: &[u8], out: &mut [u8]) -> Result<usize, EchoError>
+    ensures { answered result (left 0 result out.new) ≡ lengthen_answer new.now out.old }
+{
+    let size = RECORD * count_records(new)?;
+    if size > out.len() {
+        return Err(EchoError::Room);
+    }
+    write_long(new, out);
+    Ok(size)
+}
+
 // NEW TO OLD: the length of the result, which is written. Ruled out: a buffer of just the length of the old form refused; a refusal that leaves what was there.
 pub fn lengthen(new: &[u8], out: &mut [u8]) -> Result<usize, EchoError>
     ensures { answered result out.new ≡ lengthen_answer new.now out.old }
 {
-    match count_records(new) {
-        Err(e) => {
-            clear(out);
-            Err(e)
-        }
-        Ok(n) => {
-            let size = RECORD * n;
-            if size > out.len() {
-                clear(out);
-                return Err(EchoError::Room);
-            }
-            write_long(new, out);
-            Ok(size)
-        }
-    }
+    let told = lengthen_into(new, out);
+    clear_on_refusal(&told, out);
+    told
 }

@@ -12,7 +12,7 @@ use Rattle.echo_spec.specs.Input.{ArrayWidths, nodes_of, nodes_within, pass_with
 use Rattle.echo_spec.specs.Widths.{array_widths_ok}
 use Rattle.echo_spec.specs.Tables.{one_length}
 use Rattle.echo_spec.specs.Answers.{at_front, zeroed, width_refusal, refused_node, width_answer, ext_wf_answer}
-use Rattle.std.specs.Prelude.{Result, Ok, Err}
+use Rattle.std.specs.Prelude.{Ok, Err}
 use Rattle.sliver_kernel.specs.declared.WidthError.TheVariants.{Malformed, Encoding, Limit, Room, ArrayWidth}
 use Rattle.sliver_kernel.specs.Outcomes.{answered, Ready, AllFormed}
 use Rattle.sliver_kernel.specs.Pass.{Passed, ext-wf-short}

@@ -2,13 +2,13 @@
 use Prim.Native.Nat.{ℕ, suc, ◌+◌, ◌≤◌, ◌<◌}
 use mathlib.Core.Path.{◌≡◌, refl, ap, sym, ◌∙◌}
 use mathlib.Core.List.{List, ◌∷◌}
-use mathlib.Core.Bool.{Bool, true, false}
+use mathlib.Core.Bool.{true, false}
 use native.Mathlib.Omega.{arith}
 use native.Mathlib.Numerals.{add-one}
 use lib.ListN.{length, take, drop, get_or, set, length-set, drop_of_length-le}
 use lib.Seq.{drop-cons, take-suc-set, length-take-le}
-use Rattle.echo_spec.specs.Input.{ArrayWidths, Node, no_node, shape}
-use Rattle.echo_spec.specs.Widths.{wf_as, width_as, node_wf, node_width, ext_wf_from, ext_wf_of}
+use Rattle.echo_spec.specs.Input.{ArrayWidths, Node, no_node}
+use Rattle.echo_spec.specs.Widths.{node_wf, node_width, ext_wf_from, ext_wf_of}
 use Rattle.sliver_kernel.specs.Pass.{Passed, from-formed, from-refused}
 
 -- ---------------------------------------------------------------- the loop

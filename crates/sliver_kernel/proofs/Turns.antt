@@ -1,6 +1,8 @@
--- One pair or one argument more of the side entries that are left. Assumes nothing.
-use Rattle.std.proofs.Common.{ℕ, zero, suc, ◌≤◌, ◌<◌, ◌≡◌, List, [], ◌∷◌, Bool, false, ◌&&◌, ◌-◌, length, take, drop, get_or, refl, arith}
+-- One pair more of the side entries that are left, and the arguments among them. Assumes nothing.
+use Rattle.std.proofs.Common.{ℕ, zero, suc, ◌≤◌, ◌<◌, ◌≡◌, List, [], ◌∷◌, false, ◌&&◌, ◌-◌, length, take, drop, get_or, refl, arith}
+use Rattle.std.proofs.Math.Bool.{and-false}
 use Rattle.std.proofs.Math.Seq.{take-length}
+use Rattle.lists.specs.Tests.{every}
 use Rattle.echo_spec.specs.Widths.{earlier, earlier_of, chain_wf, args_wf}
 
 module _ (index value : ℕ) (ws : List ℕ) where
@@ -20,15 +22,14 @@ module _ (index value : ℕ) (ws : List ℕ) where
       rw (e, n, take-length) refl
 
 module _ (ws : List ℕ) where
-  pub args-short : {m k : ℕ} → m ≡ suc k → (l : List ℕ) → length l < 1 → args_wf ws m l ≡ false
+  pub args-short : (n : ℕ) (l : List ℕ) → length l < n → args_wf ws n l ≡ false
   unfolding args_wf
-  args-short e [] h = rw e refl
-  args-short e (x ∷ l) h = absurd (omega arith)
+  args-short zero l h = absurd (omega arith)
+  args-short (suc n) [] h = refl
+  args-short (suc n) (x ∷ l) h = rw (args-short n l (omega arith)) (and-false (earlier ws x))
 
-  pub args-one : {m k : ℕ} → m ≡ suc k → (l : List ℕ) → 1 ≤ length l
-      → args_wf ws m l ≡ (earlier ws (get_or l 0 0) && args_wf ws k (take (length l - 1) (drop 1 l)))
+  pub args-every : (n : ℕ) (l : List ℕ) → n ≤ length l → args_wf ws n l ≡ every (earlier ws) (take n l)
   unfolding args_wf
-  args-one e [] h = absurd (omega arith)
-  args-one e (x ∷ l) h =
-      let n : length (x ∷ l) - 1 ≡ length l = omega arith in
-      rw (e, n, take-length) refl
+  args-every zero l h = refl
+  args-every (suc n) [] h = absurd (omega arith)
+  args-every (suc n) (x ∷ l) h = rw (args-every n l (omega arith)) refl

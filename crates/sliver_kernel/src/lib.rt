@@ -3,20 +3,23 @@
 // contract refuses.
 #![tactic(auto)]
 
-ghost use Rattle.std.specs.Prelude.{◌≡◌, ◌&&◌, ◌≤◌, ltb, length, drop, get_or};
+ghost use Rattle.std.specs.Prelude.{◌≡◌, ◌&&◌, ◌≤◌, ltb, length, drop};
 ghost use Rattle.lists.specs.Tests.{every};
 ghost use Rattle.echo_spec.specs.Input.{array_columns, pass_within, nodes_of, fits64};
 ghost use Rattle.echo_spec.specs.Widths as widths;
 ghost use Rattle.lent.specs.Records.{node_of};
-ghost use Rattle.echo_spec.specs.Answers.{at_front, ext_wf_answer};
+ghost use Rattle.lent.specs.Clearing.{left};
+ghost use Rattle.echo_spec.specs.Answers.{ext_wf_answer};
 ghost use Rattle.sliver_kernel.specs.Arrays.{columns_of};
 ghost use Rattle.sliver_kernel.specs.Pass.{ExtFormed, Passed};
 ghost use Rattle.sliver_kernel.specs.Outcomes.{Measured, answered};
+ghost use Rattle.sliver_kernel.specs.Outcomes as outcomes;
+ghost use Rattle.refusals.specs.Numbers.{error_number};
 
 use blast_kernel::Shape;
 use kernel::{earlier, earlier_of};
-use lent::{Node, clear, node_at, node_count};
-use refusals::{MAX_ARRAY_WIDTH, MAX_ENTRIES, MAX_NODES};
+use lent::{Node, Problem, at, clear_on_refusal, node_at, node_count};
+use refusals::{EchoError, MAX_ARRAY_WIDTH, MAX_ENTRIES, MAX_NODES};
 
 // ---------------------------------------------------------------- the array table
 
@@ -31,47 +34,45 @@ pub struct ArrayWidths<'a> {
 fn allowed(w: u64) -> bool
     ensures { result ≡ widths.array_width_ok w }
 {
-    w > 0 && w <= MAX_ARRAY_WIDTH
+    (1..=MAX_ARRAY_WIDTH).contains(&w)
 }
 
 // Every width of a column.
 fn column_allowed(column: &[u64]) -> bool
     ensures { result ≡ every widths.array_width_ok column.now }
 {
-    for w in column {
-        if !allowed(*w) {
-            return false;
-        }
-    }
-    true
-}
-
-// What a column has for an array, or what stands past its end.
-fn entry(column: &[u64], array: u64, past: u64) -> u64
-    ensures { result ≡ get_or column.now array past }
-{
-    column.get(array as usize).copied().unwrap_or(past)
+    column.iter().all(|w| allowed(*w))
 }
 
 impl<'a> ArrayWidths<'a> {
-    // The width of an array's index, by its number: the column's, or the Rust's past its end. Ruled out: 64; the array's number; the first
+    // Those of a problem. Ruled out: the two columns exchanged; the columns of the functions.
+    pub fn of(problem: &Problem<'a>) -> ArrayWidths<'a>
+        ensures { result ≡ record { index = problem.now.index_width; value = problem.now.value_width } }
+    {
+        ArrayWidths {
+            index: problem.index_width,
+            value: problem.value_width,
+        }
+    }
+
+    // The width of an array's index, by its number: the column's, or 32 past its end, as the Rust has it. Ruled out: 64; the array's number; the first
     // entry for all.
     #[tactic(auto, unfolding(echo_spec::specs::Widths::index_width_of))]
     pub fn index_of(&self, array: u64) -> u64
         ensures { result ≡ widths.index_width_of self.now.index.now array }
     {
-        entry(self.index, array, 32)
+        at(self.index, array, 32)
     }
 
-    // The width of an array's value. Ruled out: the index's; 1; 0 past the column's end.
+    // The width of an array's value, 8 past the column's end. Ruled out: the index's; 1; 0 past the column's end.
     #[tactic(auto, unfolding(echo_spec::specs::Widths::value_width_of))]
     pub fn value_of(&self, array: u64) -> u64
         ensures { result ≡ widths.value_width_of self.now.value.now array }
     {
-        entry(self.value, array, 8)
+        at(self.value, array, 8)
     }
 
-    // 12: the widths of every array, used or not. Ruled out: the first array's alone; the values' unchecked.
+    // `ArrayWidth` is where this is false: the widths of every array, used or not. Ruled out: the first array's alone; the values' unchecked.
     #[tactic(auto, unfolding(echo_spec::specs::Widths::array_widths_ok))]
     pub fn allowed(&self) -> bool
         ensures { result ≡ widths.array_widths_ok (columns_of self.now) }
@@ -80,7 +81,7 @@ impl<'a> ArrayWidths<'a> {
     }
 }
 
-// 9 of the width pass. Ruled out: the two columns without a limit; 512 entries refused.
+// `Limit` of the width pass is where this is false. Ruled out: the two columns without a limit; 512 entries refused.
 #[tactic(auto, unfolding(echo_spec::specs::Input::pass_within, echo_spec::specs::Input::column_within))]
 fn pass_within(nodes: &[u8], bits: &[u8], side: &[u64], arrays: &ArrayWidths) -> bool
     ensures { result ≡ pass_within nodes.now bits.now side.now (columns_of arrays.now) }
@@ -93,19 +94,16 @@ fn pass_within(nodes: &[u8], bits: &[u8], side: &[u64], arrays: &ArrayWidths) ->
 // ---------------------------------------------------------------- selects and calls
 
 // The entries from place s on, of which there are none past the last.
+// Kept: private, beside the line of echo_sharing's `stretch` that says the same: shared, one line would be a public function with edits.
 fn entries_from<'a>(side: &'a [u64], s: u64) -> &'a [u64]
     ensures { result.now ≡ drop s side.now }
 {
-    let at = s as usize;
-    if at <= side.len() {
-        &side[at..]
-    } else {
-        &side[side.len()..]
-    }
+    side.get(s as usize..).unwrap_or(&[])
 }
 
 // n pairs of an index and a value from place s of the side entries on. (The Rust's `chain_wf`, with the two widths as parameters.) Ruled
 // out: value before index; a last pair of which only the index lies within the entries.
+// Kept: a loop, whose pattern takes a pair apart and tells where the entries end; with `chunks_exact` both would be said beside it.
 pub fn chain_wf(ws: &[u64], side: &[u64], index: u64, value: u64, s: u64, n: u64) -> bool
     ensures { result ≡ widths.chain_wf index value ws.now n (drop s side.now) }
 {
@@ -129,17 +127,10 @@ pub fn chain_wf(ws: &[u64], side: &[u64], index: u64, value: u64, s: u64, n: u64
 pub fn args_wf(ws: &[u64], side: &[u64], s: u64, n: u64) -> bool
     ensures { result ≡ widths.args_wf ws.now n (drop s side.now) }
 {
-    let mut rest = entries_from(side, s);
-    for _argument in 0..n {
-        let [x, others @ ..] = rest else {
-            return false;
-        };
-        if !earlier(ws, *x) {
-            return false;
-        }
-        rest = others;
-    }
-    true
+    let rest = entries_from(side, s);
+    // Kept: a test and then a cut; in `get(..count).is_some_and(..)` a closure would stand inside a closure.
+    let count = n as usize;
+    count <= rest.len() && rest[..count].iter().all(|x| earlier(ws, *x))
 }
 
 // ---------------------------------------------------------------- the pass
@@ -153,6 +144,19 @@ pub struct Pass<'a> {
 }
 
 impl<'a> Pass<'a> {
+    // The pass over a problem's nodes. Ruled out: as many bits as there are nodes; the roots for the side entries.
+    pub fn of(problem: &Problem<'a>) -> Pass<'a>
+        ensures bits { result.nbits ≡ length problem.now.bits.now }
+        ensures side { result.side ≡ problem.now.side }
+        ensures arrays { result.arrays ≡ record { index = problem.now.index_width; value = problem.now.value_width } }
+    {
+        Pass {
+            nbits: problem.bits.len(),
+            side: problem.side,
+            arrays: ArrayWidths::of(problem),
+        }
+    }
+
     // Array number, index, side start and number of stores.
     fn select_wf(&self, ws: &[u64], array: u64, i: u64, s: u64, n: u64) -> bool
         ensures { result ≡ (widths.earlier_of ws.now (widths.index_width_of self.now.arrays.index.now array) i
@@ -209,6 +213,7 @@ impl<'a> Pass<'a> {
         ensures { Passed self.now.nbits (columns_of self.now.arrays) self.now.side.now (nodes_of nodes.now) result ws.new }
     {
         let count = node_count(nodes);
+        // Kept: by places, since a width is made from those before; and the answer is a count, which is what the definition `Passed` tells.
         for i in 0..count {
             let node = node_at(nodes, i);
             if !self.node_wf(&ws[..i], node) {
@@ -223,7 +228,7 @@ impl<'a> Pass<'a> {
 
 // ---------------------------------------------------------------- the entry point
 
-// Why the width pass refuses: the numbers are `answered`'s.
+// Why the width pass refuses.
 #[derive(Clone, Copy, Debug, PartialEq, Eq)]
 pub enum WidthError {
     // The number of the first node that is not well formed, or the node count where the two columns differ in length.
@@ -238,7 +243,25 @@ pub enum WidthError {
     ArrayWidth,
 }
 
+// A refusal of the width pass as the printer has it: its number is the same. Ruled out: every one as a node that is not well formed; a
+// wrong array width told as a wrong encoding.
+impl From<WidthError> for EchoError {
+    ghost from_gives = { λ w e. error_number e ≡ outcomes.error_number w };
+
+    fn from(e: WidthError) -> EchoError {
+        match e {
+            WidthError::Malformed(_) => EchoError::Malformed,
+            WidthError::Encoding => EchoError::Encoding,
+            WidthError::Limit => EchoError::Limit,
+            WidthError::Room => EchoError::Room,
+            WidthError::ArrayWidth => EchoError::ArrayWidth,
+        }
+    }
+}
+
 // Every check but the one for room, in order, and the widths of all nodes in a table of the pass's own; or the first refusal.
+// Kept: nodes, bits, side entries and arrays as four parameters, here and in `written`: the entry point for C has them one by one, and
+// a struct of them would be made for one call.
 fn measured(
     nodes: &[u8],
     bits: &[u8],
@@ -273,13 +296,23 @@ fn measured(
     Ok(n)
 }
 
-// The widths to the front of what was lent.
-fn copy(ws: &[u64], out: &mut [u64])
-    requires { length ws.now ≤ length out.old }
-    ensures { out.new ≡ at_front ws.now out.old }
+// The pass, without what a refusal does to the lent slice.
+fn written(
+    nodes: &[u8],
+    bits: &[u8],
+    side: &[u64],
+    arrays: &ArrayWidths,
+    out: &mut [u64],
+) -> Result<usize, WidthError>
+    ensures { answered result (left 0 result out.new) ≡ ext_wf_answer nodes.now bits.now side.now (columns_of arrays.now) out.old }
 {
-    let n = ws.len();
-    out[..n].copy_from_slice(ws);
+    let mut ws = [0u64; MAX_NODES];
+    let n = measured(nodes, bits, side, arrays, &mut ws)?;
+    if n > out.len() {
+        return Err(WidthError::Room);
+    }
+    out[..n].copy_from_slice(&ws[..n]);
+    Ok(n)
 }
 
 // THE WIDTH PASS. With a slice that is too short every node is still looked at, in a table of the pass's own, so that a node that
@@ -300,19 +333,7 @@ pub fn ext_wf(
         index: index_width,
         value: value_width,
     };
-    let mut ws = [0u64; MAX_NODES];
-    match measured(nodes, bits, side, &arrays, &mut ws) {
-        Err(e) => {
-            clear(out);
-            Err(e)
-        }
-        Ok(n) => {
-            if n > out.len() {
-                clear(out);
-                return Err(WidthError::Room);
-            }
-            copy(&ws[..n], out);
-            Ok(n)
-        }
-    }
+    let told = written(nodes, bits, side, &arrays, out);
+    clear_on_refusal(&told, out);
+    told
 }

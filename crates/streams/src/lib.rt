@@ -31,6 +31,7 @@ pub fn read_full<R: Read>(reader: &mut R, buf: &mut [u8]) -> io::Result<usize>
     ensures err { OnErr result ((n : ℕ) × (n ≤ length buf.new) × Consumes (R.remaining reader.old) (R.remaining reader.new) (take n buf.new)) }
 {
     let mut done = 0;
+    // Kept: each read tells how many bytes it gave.
     while done < buf.len() {
         let n = reader.read(&mut buf[done..])?;
         if n == 0 {

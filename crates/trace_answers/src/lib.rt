@@ -14,7 +14,7 @@ pub struct TraceAnswer {
     pub rows: u64,
 }
 
-// Ruled out: the rows of an acceptance left out; 14 and 15 the other way about.
+// Ruled out: the rows of an acceptance left out; the numbers of `Wide` and `Values` the other way about.
 impl From<Result<usize, TraceError>> for TraceAnswer {
     ghost from_gives = { λ r a. (a.number ≡ traced.number r) × (a.rows ≡ traced.rows r) };
 

@@ -12,6 +12,12 @@ use Rattle.lists.specs.Tests.{every, T→true, true→T}
 use Rattle.lists.specs.Build.{upto, upto-below}
 use Rattle.echo_spec.specs.Shapes.{Shape, shapes}
 use Rattle.blast_kernel.specs.Kinds.{shape_in}
+use Rattle.blast_kernel.specs.declared.Binary as binaries
+use Rattle.blast_kernel.specs.declared.Comparison as comparisons
+use Rattle.blast_kernel.specs.declared.Connective as connectives
+use Rattle.blast_kernel.specs.declared.Extension as extensions
+use Rattle.blast_kernel.specs.declared.Rotation as rotations
+use Rattle.blast_kernel.specs.declared.Unary as unaries
 use Rattle.blast_kernel.specs.declared.Shape as code
 use Rattle.blast_kernel.specs.declared.Shape.TheVariants as codes
 use Rattle.echo_spec.specs.Input.{Node, shape, no_node, nodes_of, Dag}
@@ -75,21 +81,21 @@ module _ (d : Dag) (marks : List Bool) (m : Node) where
   leaf-passed k (inl e) = rw e refl
   leaf-passed k (inr e) = rw e refl
 
-  pub two-passed : (k : code.Shape) → (k ≡ codes.Binary) ⊎ ((k ≡ codes.Concat) ⊎ ((k ≡ codes.Comparison) ⊎ (k ≡ codes.Connective)))
+  pub two-passed : (k : code.Shape) → ((o : binaries.Binary) × (k ≡ codes.Binary o)) ⊎ ((k ≡ codes.Concat) ⊎ (((o : comparisons.Comparison) × (k ≡ codes.Comparison o)) ⊎ ((o : connectives.Connective) × (k ≡ codes.Connective o))))
       → every (marking marks) (m.a ∷ m.b ∷ []) ≡ passed (shape_in k)
   unfolding plain operands_as
-  two-passed k (inl e) = rw e refl
+  two-passed k (inl (o, e)) = rw e refl
   two-passed k (inr (inl e)) = rw e refl
-  two-passed k (inr (inr (inl e))) = rw e refl
-  two-passed k (inr (inr (inr e))) = rw e refl
+  two-passed k (inr (inr (inl (o, e)))) = rw e refl
+  two-passed k (inr (inr (inr (o, e)))) = rw e refl
 
-  pub one-passed : (k : code.Shape) → (k ≡ codes.Rotation) ⊎ ((k ≡ codes.Extension) ⊎ ((k ≡ codes.Negation) ⊎ (k ≡ codes.Unary)))
+  pub one-passed : (k : code.Shape) → ((o : rotations.Rotation) × (k ≡ codes.Rotation o)) ⊎ (((o : extensions.Extension) × (k ≡ codes.Extension o)) ⊎ ((k ≡ codes.Negation) ⊎ ((o : unaries.Unary) × (k ≡ codes.Unary o))))
       → every (marking marks) (m.a ∷ []) ≡ passed (shape_in k)
   unfolding plain operands_as
-  one-passed k (inl e) = rw e refl
-  one-passed k (inr (inl e)) = rw e refl
+  one-passed k (inl (o, e)) = rw e refl
+  one-passed k (inr (inl (o, e))) = rw e refl
   one-passed k (inr (inr (inl e))) = rw e refl
-  one-passed k (inr (inr (inr e))) = rw e refl
+  one-passed k (inr (inr (inr (o, e)))) = rw e refl
 
   pub extraction-passed : (k : code.Shape) → k ≡ codes.Extraction → every (marking marks) (m.c ∷ []) ≡ passed (shape_in k)
   unfolding plain operands_as

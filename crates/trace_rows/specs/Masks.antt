@@ -1,6 +1,6 @@
 -- A row's mask: bit k is 1 where assertion k holds; and how many of its bits are ones.
 use Prim.Native.Nat.{ℕ, suc, ◌+◌, ◌-◌, ◌*◌, ◌/◌, ◌%◌, ◌^◌, ◌≤◌, ◌<◌}
-use Rattle.std.specs.Prelude.{◌≡◌, Bool, true, false, T, eqb, Option}
+use Rattle.std.specs.Prelude.{◌≡◌, reverse, Bool, true, false, T, eqb, Option}
 use Rattle.std.proofs.Math.Path.{refl, ap}
 use Rattle.std.proofs.Common.{sym, ◌∙◌, subst, pow_mono, drop-cons}
 use mathlib.Core.List.{List, [], ◌∷◌, map}
@@ -16,7 +16,8 @@ use Rattle.vectors.specs.Values.{Value, truth, holds, mask, count}
 use Rattle.values.specs.NodeValues.{value_at}
 use Rattle.vectors.specs.VectorLaws.{by_two}
 use Rattle.trace_terms.specs.Ready.{bool_at, ready, held, Agree, ValuedOn}
-use Rattle.trace_tables.specs.Fixed.{Lent}
+use Rattle.trace_tables.specs.Fixed.{Usable}
+use Rattle.trace_tables.specs.Digits.{from-back}
 use Rattle.trace_terms.specs.Arms.{whole}
 use Rattle.trace_terms.specs.declared.Evaluation.{Evaluation}
 
@@ -82,7 +83,7 @@ one-wide arrays tws n select e = absurd (subst T (sym e) tt)
 one-wide arrays tws n call e = absurd (subst T (sym e) tt)
 one-wide arrays tws n unknown e = absurd (subst T (sym e) tt)
 
-module _ {nodes bits ws vw : List ℕ} {entry : List (Option ℕ)} {row roots : List ℕ} (l : Lent nodes bits ws) (rs : Roots nodes ws vw entry row roots) where
+module _ {nodes bits ws vw : List ℕ} {entry : List (Option ℕ)} {row roots : List ℕ} (l : Usable nodes bits ws) (rs : Roots nodes ws vw entry row roots) where
   pub root-bit : (i x : ℕ) → Root nodes ws vw entry row i → ValuedOn nodes bits ws vw entry row i x → x < 2
   root-bit i x r v =
       let w : width_at ws i ≡ 1 =
@@ -124,6 +125,22 @@ module _ {nodes bits ws vw : List ℕ} {entry : List (Option ℕ)} {row roots : 
             omega (arith, q, o);
         below = rw (pow-suc 2 (length (drop k roots))) (omega arith);
       })
+
+  -- the root that a walk from the last one back comes to, after n
+  module _ (n i : ℕ) (t : (n < length (reverse roots)) × (i ≡ get_or (reverse roots) n i)) where
+    pub root-turn : Root nodes ws vw entry row i
+    root-turn =
+        let f = from-back roots n i t in
+        let l : n < length roots = f.0 in
+        rw f.1 (rs.at (length roots - n - 1) (omega arith))
+
+    pub mask-turn : (m x : ℕ) → ValuedOn nodes bits ws vw entry row i x → From (length roots - n) m → From (length roots - (n + 1)) (2 * m + x)
+    mask-turn m x v u =
+        let f = from-back roots n i t in
+        let l : n < length roots = f.0 in
+        let z : length roots - (n + 1) ≡ length roots - n - 1 = omega arith in
+        let v' : ValuedOn nodes bits ws vw entry row (get_or roots (length roots - n - 1) 0) x = subst (λ (k : ℕ). ValuedOn nodes bits ws vw entry row k x) f.1 v in
+        rw z (mask_next (length roots - n) m x (omega arith) (omega arith) v' u)
 
   pub mask-whole : (k m : ℕ) → k ≡ 0 → From k m → Masked nodes bits ws vw entry row roots m
   mask-whole k m e u = subst (λ (j : ℕ). From j m) e u

@@ -14,15 +14,16 @@ pub fn mask(evaluation: &Evaluation, row: &[u64], roots: &[u64]) -> u64
     ensures { MaskOf evaluation.now row.now roots.now result }
 {
     let mut m: u64 = 0;
-    for k in (0..roots.len()).rev() {
-        m = 2 * m + evaluation.value(row, roots[k]).number;
+    for i in roots.iter().rev() {
+        m = 2 * m + evaluation.value(row, *i).number;
     }
     m
 }
 
 // The masks of n rows, and beside each mask, at the same place, its count.
 // Ruled out: the count of the row before; a row that starts one value late.
-// Kept: masks and counts are two slices, as the C interface lends them.
+// Kept: masks and counts are two slices, as the C interface lends them, written by index at once, since of what a `zip` of two `iter_mut` goes over a
+// proof knows no element; a row may have no values, which `chunks_exact` does not take.
 pub fn rows(
     evaluation: &Evaluation,
     values: &[u64],

@@ -11,11 +11,15 @@ use lib.Dec.{T, leb, ltb, eqb, leb→le, ltb→lt, eqb→eq, eqb_refl, le→leb,
 use lib.ListN.{length, take, drop, get_or}
 use borrow.Author.Tests.{lt-ltb, le-leb}
 use Rattle.trace_tables.specs.Digits.{number_lt}
+use Rattle.std.proofs.Math.Logic.{∥∥₁_elim}
+use Rattle.std.proofs.Math.Dec.{T_prop}
+use Rattle.std.specs.Coded.{×_prop}
+use Rattle.std.proofs.Math.Nat.{ℕ_set}
 use Rattle.lists.specs.Tests.{every, and_0, and-1, T→true, not→false}
 use Rattle.lists.specs.Build.{upto-below}
 use Rattle.reading.specs.Kinds.{Const}
 use Rattle.echo_spec.specs.Shapes.{Shape, var, const, binary, rotation, extraction, concat, extension, ite, comparison, negation, connective, unary, select, call, unknown, is_bool, shapes}
-use Rattle.echo_spec.specs.Input.{Node, shape, no_node, nodes_of, ArrayWidths, fits64}
+use Rattle.echo_spec.specs.Input.{Node, shape, no_node, nodes_of, ArrayWidths, array_columns, fits64}
 use Rattle.echo_spec.specs.Widths.{width_at, wf_as, width_as, node_wf, node_width, un_wf, extend_wf, earlier, bin_wf, bool_bin_wf, earlier_of}
 use Rattle.echo_spec.specs.WidthLaws.{Sized, bin-operands, un-operand, earlier-width, earlier-below, width-before}
 use Rattle.echo_spec.specs.Walk.{Operand, vector, formula, operands_as, sort_ok}
@@ -30,7 +34,7 @@ use Rattle.blast_kernel.specs.declared.Shape.TheVariants as codes
 use Rattle.bv.specs.declared.Vector.{Vector}
 use Rattle.vectors.specs.Vectors as smt
 use Rattle.trace_terms.specs.Ready.{variable_ready, own_as, bool_at, operand_ready, ready_step, ready_below, ready, held, Agree}
-use Rattle.trace_tables.specs.Fixed.{Lent, Fixed, fixed_as, fixed_of, place_in}
+use Rattle.trace_tables.specs.Fixed.{Lent, Usable, widths-all, Fixed, fixed_as, fixed_of, place_in}
 use Rattle.trace_terms.specs.Ready as on
 
 -- the shapes of one kind
@@ -75,35 +79,62 @@ module _ (nodes bits ws vw : List ℕ) (entry : List (Option ℕ)) (row : List �
     pub narrow : width_at ws i ≤ 64
     pub own : T (own_as (nodes_of nodes) ws vw entry row i n (shape n))
     pub operands : T (every (operand_ready (nodes_of nodes) (ready_below (nodes_of nodes) ws vw entry row i)) (operands_as [] n (shape n)))
-    pub arrays : ArrayWidths
-    pub side : List ℕ
-    pub wf : T (wf_as (length bits) arrays side (take i ws) n (shape n))
-    pub width : width_at ws i ≡ width_as arrays (take i ws) n (shape n)
+    pub wf : T (wf_as (length bits) (array_columns [] []) [] (take i ws) n (shape n))
+    pub width : width_at ws i ≡ width_as (array_columns [] []) (take i ws) n (shape n)
+
+  -- a node that can be evaluated is sized by no array and no side entry
+  apart : (nbits : ℕ) (arrays : ArrayWidths) (side tws : List ℕ) (i : ℕ) (n : Node) (s : Shape) → T (own_as (nodes_of nodes) ws vw entry row i n s)
+      → T (wf_as nbits arrays side tws n s) → T (wf_as nbits (array_columns [] []) [] tws n s) × (width_as arrays tws n s ≡ width_as (array_columns [] []) tws n s)
+  unfolding own_as wf_as width_as
+  apart nbits arrays side tws i n var o t = (t, refl)
+  apart nbits arrays side tws i n const o t = (t, refl)
+  apart nbits arrays side tws i n binary o t = (t, refl)
+  apart nbits arrays side tws i n rotation o t = (t, refl)
+  apart nbits arrays side tws i n extraction o t = (t, refl)
+  apart nbits arrays side tws i n concat o t = (t, refl)
+  apart nbits arrays side tws i n extension o t = (t, refl)
+  apart nbits arrays side tws i n ite o t = (t, refl)
+  apart nbits arrays side tws i n comparison o t = (t, refl)
+  apart nbits arrays side tws i n negation o t = (t, refl)
+  apart nbits arrays side tws i n connective o t = (t, refl)
+  apart nbits arrays side tws i n unary o t = (t, refl)
+  apart nbits arrays side tws i n select o t = absurd o
+  apart nbits arrays side tws i n call o t = absurd o
+  apart nbits arrays side tws i n unknown o t = absurd o
+
+  sized-apart : (u : Usable nodes bits ws) (i : ℕ) → i < length ws → (n : Node) → n ≡ get_or (nodes_of nodes) i no_node → T (own_as (nodes_of nodes) ws vw entry row i n (shape n))
+      → T (wf_as (length bits) (array_columns [] []) [] (take i ws) n (shape n)) × (width_at ws i ≡ width_as (array_columns [] []) (take i ws) n (shape n))
+  unfolding node_wf node_width
+  sized-apart u i h n at o =
+      ∥∥₁_elim u (×_prop (T_prop (wf_as (length bits) (array_columns [] []) [] (take i ws) n (shape n))) (ℕ_set _ _))
+      (λ (l : Lent nodes bits ws).
+      let s : Sized (length bits) l.arrays l.side ws i n = subst (λ (x : Node). Sized (length bits) l.arrays l.side ws i x) (sym at) (l.sized i h) in
+      let a = apart (length bits) l.arrays l.side (take i ws) i n (shape n) o s.wf in
+      (a.0, s.width ∙ a.1))
 
   -- all that is known of node n at i
-  pub whole : (l : Lent nodes bits ws) (i : ℕ) → T (ready (nodes_of nodes) ws vw entry row i) → (n : Node) → n ≡ get_or (nodes_of nodes) i no_node → Whole i n
-  unfolding ready ready_step node_wf node_width
-  whole l i h n at =
+  pub whole : (u : Usable nodes bits ws) (i : ℕ) → T (ready (nodes_of nodes) ws vw entry row i) → (n : Node) → n ≡ get_or (nodes_of nodes) i no_node → Whole i n
+  unfolding ready ready_step
+  whole u i h n at =
       let ns : List Node = nodes_of nodes in
       let m : Node = get_or ns i no_node in
       let h₁ = and-1 (ltb i (length ns)) _ h in
       let h₂ = and-1 (leb (width_at ws i) 64) _ h₁ in
       let inside : i < length ns = ltb→lt i (length ns) (and_0 (ltb i (length ns)) _ h) in
-      let short : i < length ws = omega (arith, inside, l.widths) in
-      let s : Sized (length bits) l.arrays l.side ws i m = l.sized i short in
+      let short : i < length ws = omega (arith, inside, widths-all u) in
+      let o : T (own_as ns ws vw entry row i n (shape n)) = subst (λ (x : Node). T (own_as ns ws vw entry row i x (shape x))) (sym at) (and_0 (own_as ns ws vw entry row i m (shape m)) _ h₂) in
+      let s = sized-apart u i short n at o in
       record {
         at = at;
         node = inside;
         exists = short;
         narrow = leb→le (width_at ws i) 64 (and_0 (leb (width_at ws i) 64) _ h₁);
-        own = subst (λ (x : Node). T (own_as ns ws vw entry row i x (shape x))) (sym at) (and_0 (own_as ns ws vw entry row i m (shape m)) _ h₂);
+        own = o;
         operands =
             subst (λ (x : Node). T (every (operand_ready ns (ready_below ns ws vw entry row i)) (operands_as [] x (shape x)))) (sym at)
             (and-1 (own_as ns ws vw entry row i m (shape m)) _ h₂);
-        arrays = l.arrays;
-        side = l.side;
-        wf = subst (λ (x : Node). T (wf_as (length bits) l.arrays l.side (take i ws) x (shape x))) (sym at) s.wf;
-        width = subst (λ (x : Node). width_at ws i ≡ width_as l.arrays (take i ws) x (shape x)) (sym at) s.width;
+        wf = s.0;
+        width = s.1;
       }
 
   sort-is : (wanted has : Bool) → T (sort_ok wanted has) → has ≡ wanted
@@ -139,11 +170,11 @@ module _ {nodes bits ws vw : List ℕ} {entry : List (Option ℕ)} {row : List �
   open-operands : (s : Shape) → shape n ≡ s → T (every (operand_ready ns below) (operands_as [] n s))
   open-operands s e = subst (λ (x : Shape). T (every (operand_ready ns below) (operands_as [] n x))) e k.operands
 
-  open-wf : (s : Shape) → shape n ≡ s → T (wf_as (length bits) k.arrays k.side (take i ws) n s)
-  open-wf s e = subst (λ (x : Shape). T (wf_as (length bits) k.arrays k.side (take i ws) n x)) e k.wf
+  open-wf : (s : Shape) → shape n ≡ s → T (wf_as (length bits) (array_columns [] []) [] (take i ws) n s)
+  open-wf s e = subst (λ (x : Shape). T (wf_as (length bits) (array_columns [] []) [] (take i ws) n x)) e k.wf
 
-  open-width : (s : Shape) → shape n ≡ s → width_at ws i ≡ width_as k.arrays (take i ws) n s
-  open-width s e = subst (λ (x : Shape). width_at ws i ≡ width_as k.arrays (take i ws) n x) e k.width
+  open-width : (s : Shape) → shape n ≡ s → width_at ws i ≡ width_as (array_columns [] []) (take i ws) n s
+  open-width s e = subst (λ (x : Shape). width_at ws i ≡ width_as (array_columns [] []) (take i ws) n x) e k.width
 
   open_own : (s : Shape) → shape n ≡ s → T (own_as ns ws vw entry row i n s)
   open_own s e = subst (λ (x : Shape). T (own_as ns ws vw entry row i n x)) e k.own
@@ -179,7 +210,7 @@ module _ {nodes bits ws vw : List ℕ} {entry : List (Option ℕ)} {row : List �
     value = record {
       value = λ vars ag.
           open-value vars s e ∙ q vars ag ∙ ap (λ (x : ℕ). values.vector x r.number) z ∙ ap (λ (x : Bool). held x (width_at ws i) r.number) (sym (bool_is s e ∙ b));
-      below = subst (λ (x : ℕ). r.number < 2 ^ x) z r.below;
+      below = subst (λ (x : ℕ). r.number < 2 ^ x) z r.one.below;
     };
     width = z;
   }
@@ -190,7 +221,7 @@ module _ {nodes bits ws vw : List ℕ} {entry : List (Option ℕ)} {row : List �
   to-truth s e b r q z = record {
     value = record {
       value = λ vars ag. open-value vars s e ∙ q vars ag ∙ ap (λ (x : Bool). held x (width_at ws i) r.number) (sym (bool_is s e ∙ b));
-      below = subst (λ (x : ℕ). r.number < 2 ^ x) z r.below;
+      below = subst (λ (x : ℕ). r.number < 2 ^ x) z r.one.below;
     };
     width = z;
   }

@@ -6,7 +6,6 @@ use Rattle.lists.specs.Tests.{and_0}
 use Rattle.lent.specs.Records.{nodes-length, nodes-at}
 use Rattle.echo_spec.specs.Input.{Node, no_node, node_at, nodes_of}
 use Rattle.bv.specs.declared.Vector.{Vector}
-use Rattle.trace_tables.specs.Fixed.{measured-lent}
 use Rattle.trace_terms.specs.declared.Evaluation.{Evaluation}
 use Rattle.trace_terms.specs.Ready.{ready, ready_step}
 use Rattle.trace_terms.specs.Arms.{Held, Whole, whole}
@@ -34,5 +33,5 @@ module _ (e : Evaluation) (row : List ℕ) (i : ℕ) (g : Good e row i) where
       → Whole e.terms.problem.nodes.now e.terms.problem.bits.now e.terms.widths.now e.terms.problem.var_width.now e.entries.now row i m
   known m q =
       whole e.terms.problem.nodes.now e.terms.problem.bits.now e.terms.widths.now e.terms.problem.var_width.now e.entries.now row
-      (measured-lent e.terms.measured) i g m
+      e.terms.usable i g m
       (q ∙ sym (nodes-at e.terms.problem.nodes.now no_node i (omega (arith, inside, nodes-length e.terms.problem.nodes.now))))

@@ -7,19 +7,20 @@ ghost use Rattle.trace_tables.specs.Fixed.{Fixed};
 use blast_kernel::Shape;
 use bv::Vector;
 use lent::{get, node_at};
-use operators::{Binary, Comparison, Connective, Extension, Rotation, Unary};
 use trace_tables::Terms;
 
 // What rows are evaluated with, worked out once before them: the entries of the variables, and of each node what `trace_tables` fills in.
 #[derive(Clone, Copy)]
 pub struct Evaluation<'a> {
     pub terms: Terms<'a>,
+    // Kept: no code reads it, but the contracts say by it where a row has a variable's value; a ghost field holds a fact, and no list.
     pub entries: &'a [Option<usize>],
     pub fixed: &'a [u64],
     pub ghost filled: { Fixed terms.problem.nodes.now terms.problem.bits.now terms.widths.now entries.now fixed.now },
 }
 
 // A Bool as a vector of one place.
+// Kept: an enum of Bools and vectors would have an arm in each shape that cannot come.
 fn bit(b: bool) -> Vector
     ensures width { result.width ≡ 1 }
     ensures number { eqb result.number 1 ≡ b }
@@ -28,6 +29,13 @@ fn bit(b: bool) -> Vector
         width: 1,
         number: u64::from(b),
     }
+}
+
+// Is the Bool true.
+fn holds(v: Vector) -> bool
+    ensures { result ≡ eqb v.number 1 }
+{
+    v.number == 1
 }
 
 impl<'a> Evaluation<'a> {
@@ -44,14 +52,14 @@ impl<'a> Evaluation<'a> {
         match Shape::from(n.kind) {
             Shape::Var => Vector::new(get(self.terms.widths, i), get(row, get(self.fixed, i))),
             Shape::Const => Vector::new(get(self.terms.widths, i), get(self.fixed, i)),
-            Shape::Binary => {
+            Shape::Binary(o) => {
                 let x = self.value(row, n.a);
                 let y = self.value(row, n.b);
-                Binary::of(n.kind).on(x, y)
+                operators::binary(o, x, y)
             }
-            Shape::Rotation => {
+            Shape::Rotation(o) => {
                 let x = self.value(row, n.a);
-                Rotation::of(n.kind).on(x, get(self.fixed, i))
+                operators::rotation(o, x, get(self.fixed, i))
             }
             Shape::Extraction => {
                 let x = self.value(row, n.c);
@@ -62,35 +70,35 @@ impl<'a> Evaluation<'a> {
                 let y = self.value(row, n.b);
                 x.concat(y)
             }
-            Shape::Extension => {
+            Shape::Extension(o) => {
                 let x = self.value(row, n.a);
-                Extension::of(n.kind).on(x, n.b)
+                operators::extension(o, x, n.b)
             }
             Shape::Ite => {
                 let x = self.value(row, n.a);
-                if x.number == 1 {
+                if holds(x) {
                     self.value(row, n.b)
                 } else {
                     self.value(row, n.c)
                 }
             }
-            Shape::Comparison => {
+            Shape::Comparison(o) => {
                 let x = self.value(row, n.a);
                 let y = self.value(row, n.b);
-                bit(Comparison::of(n.kind).on(x, y))
+                bit(operators::comparison(o, x, y))
             }
             Shape::Negation => {
                 let x = self.value(row, n.a);
-                bit(x.number != 1)
+                bit(!holds(x))
             }
-            Shape::Connective => {
+            Shape::Connective(o) => {
                 let x = self.value(row, n.a);
                 let y = self.value(row, n.b);
-                bit(Connective::of(n.kind).on(x.number == 1, y.number == 1))
+                bit(operators::connective(o, holds(x), holds(y)))
             }
-            Shape::Unary => {
+            Shape::Unary(o) => {
                 let x = self.value(row, n.a);
-                Unary::of(n.kind).on(x)
+                operators::unary(o, x)
             }
             Shape::Select | Shape::Call | Shape::Unknown => bit(false),
         }

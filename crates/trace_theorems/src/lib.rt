@@ -1,2 +1,3 @@
-// No code: `specs/` proves that what printing and 14 and 15 have passed can be evaluated, and that a mask is that of the assertions of the reading.
+// No code: `specs/` proves that what printing, `Wide` and `Values` do not refuse can be evaluated, and that a mask is that of the assertions of
+// the reading.
 #![tactic(auto)]

@@ -3,11 +3,12 @@ use Prim.Native.Nat.{ℕ, zero, suc, ◌+◌, ◌*◌, ◌/◌, ◌%◌, ◌^◌
 use Rattle.std.specs.Prelude.{◌≡◌, Bool, true, false, ◌&&◌, length, get_or, Option, Some, None}
 use Rattle.std.specs.Option.{SomeIff, unwrap_or}
 use Rattle.std.proofs.Math.Path.{refl, sym, subst}
-use Rattle.std.proofs.Common.{◌∙◌, mod-lt, mod-eq_of_lt, div-add-mod', mul-le-mul_right, zero-mul, arith, pow_pos}
-use mathlib.Core.List.{List, [], ◌∷◌}
-use Rattle.std.proofs.Math.Nat.{mul-add-mod_self_right, div-eq_of_lt}
+use Rattle.std.specs.Prelude.{◌↔◌}
+use Rattle.std.proofs.Common.{◌∙◌, mod-lt, div-add-mod', zero-mul, arith, pow_pos}
+use mathlib.Core.List.{List}
+use Rattle.std.proofs.Math.Nat.{div-eq_of_lt}
 use borrow.Author.Tests.{lt-ltb, le-ltb, le-leb, lt-leb, eq-eqb, ne_eqb}
-use lib.Dec.{T, leb, ltb, eqb}
+use lib.Dec.{T, ltb, eqb}
 use Rattle.lists.specs.Tests.{every_from, every-at, every-from, and-1, and_T, T→true, true→T, no→false}
 use Rattle.traces.specs.Trace.{fits, whole_rows, values_fit, row_count}
 
@@ -31,17 +32,6 @@ pub fits-wide : (w x : ℕ) → 64 ≤ w → true ≡ fits w x
 unfolding fits
 fits-wide w x h = rw (le-leb 64 w h) refl
 
--- the column of a value by its row
-pub column-in : (row v c : ℕ) → c < v → c ≡ (row * v + c) % v
-column-in row v c h = sym (mul-add-mod_self_right row v c ∙ mod-eq_of_lt h)
-
--- the rows have every value
-pub rows_end : (v len row : ℕ) → len % v ≡ 0 → len / v ≤ row → len ≤ row * v
-rows_end v len row e h =
-    let q : len / v * v + len % v ≡ len = div-add-mod' len v in
-    let l : len / v * v ≤ row * v = mul-le-mul_right v h in
-    omega arith
-
 -- the quotient, where there is one
 pub rows-by : (v len : ℕ) (q : Option ℕ) → SomeIff q (0 < v) (len / v) → unwrap_or q 1 ≡ row_count v len
 unfolding row_count
@@ -56,22 +46,14 @@ module _ (widths values : List ℕ) where
   abbrev fitting : ℕ → Bool
   fitting k = fits (get_or widths (k % length widths) 0) (get_or values k 0)
 
-  whole_is : (v len : ℕ) → (v ≡ 0 → ⊥) → whole_rows v len ≡ eqb (len % v) 0
+  whole_is : (v len : ℕ) → whole_rows v len ≡ eqb (len % v) 0
   unfolding whole_rows
-  whole_is zero len h = absurd (h refl)
-  whole_is (suc v) len h = refl
+  whole_is zero len = let e : len % 0 ≡ len = omega arith in rw e refl
+  whole_is (suc v) len = refl
 
-  pub no-column : length widths ≡ 0 → eqb (length values) 0 ≡ values_fit widths values
-  unfolding values_fit whole_rows
-  no-column e = rw e (by_values values)
-    where
-      by_values : (xs : List ℕ) → eqb (length xs) 0 ≡ (eqb (length xs) 0 && every_from (λ k. fits (get_or widths (k % 0) 0) (get_or xs k 0)) 0 (length xs))
-      by_values [] = refl
-      by_values (x ∷ xs) = rw (lib.Dec.eqb-suc-zero (length xs)) refl
-
-  pub part-row : (length widths ≡ 0 → ⊥) → (length values % length widths ≡ 0 → ⊥) → false ≡ values_fit widths values
+  pub part-row : {b : Bool} → (b ≡ true) ↔ (length values % length widths ≡ 0) → b ≡ false → false ≡ values_fit widths values
   unfolding values_fit
-  part-row h n = rw (whole_is (length widths) (length values) h, ne_eqb _ _ n) refl
+  part-row t f = rw (whole_is (length widths) (length values), ne_eqb _ _ (λ e. let q : ◌≡◌ {A = Bool} false true = sym f ∙ t.1 e in cc)) refl
 
   -- the first k values fit
   pub record FitTo (k : ℕ) : Type 0 where
@@ -91,9 +73,9 @@ module _ (widths values : List ℕ) where
       (λ y. let z : T (fitting k) = every-at fitting 0 (length values) (and-1 (whole_rows (length widths) (length values)) _ y) k (omega arith) (omega arith) in
       subst T (sym q ∙ t) (rw e z)))
 
-  pub fit-whole : (length widths ≡ 0 → ⊥) → length values % length widths ≡ 0 → (k : ℕ) → length values ≤ k → FitTo k → true ≡ values_fit widths values
+  pub fit-whole : length values % length widths ≡ 0 → (k : ℕ) → length values ≤ k → FitTo k → true ≡ values_fit widths values
   unfolding values_fit
-  fit-whole h w k l f =
+  fit-whole w k l f =
       sym (T→true (whole_rows (length widths) (length values) && every_from fitting 0 (length values))
-      (and_T (whole_rows (length widths) (length values)) _ (rw (whole_is (length widths) (length values) h, w) tt)
+      (and_T (whole_rows (length widths) (length values)) _ (rw (whole_is (length widths) (length values), w) tt)
       (every-from fitting 0 (length values) (λ j a b. f.at j (omega arith)))))

@@ -1,5 +1,5 @@
 -- `blast_kernel::nodes_encoded` meets its contract: the whole list passes where what is left of it does. Assumes nothing.
-use Rattle.std.proofs.Common.{◌≡◌, ◌<◌, ◌∙◌, Bool, ap, sym, arith, length, get_or}
+use Rattle.std.proofs.Common.{◌≡◌, ◌<◌, ◌∙◌, ap, sym, arith, length, get_or}
 use Rattle.echo_spec.specs.Input.{no_node, node_encoded, nodes_of}
 use Rattle.lent.specs.Records.{nodes-length, nodes-at}
 use Rattle.blast_kernel.specs.Every.{left-next, left-fails}

@@ -2,7 +2,9 @@ use Prim.Native.Nat.{◌-◌}
 use mathlib.Core.Path.{◌≡◌}
 use native.Mathlib.Omega.{arith}
 use Rattle.echo_walk.proofs.Laws.{lower, fewer, begun, leaf-found, term_found}
-use Rattle.echo_formula.proofs.Writing.{leaf-done, node-inside, both_under, own-low, infix-done, entry_at, chain_next, chain-done, args_none, args-next, args-done, chain-all, args-all, count_fits, wanted_at, next-written, all-written, level-fits, level-low, form-inside, form-under, other-done}
+use Rattle.echo_pieces.specs.Signs.{level_of}
+use Rattle.echo_openings.specs.NodeText.{level-bound}
+use Rattle.echo_formula.proofs.Writing.{leaf-done, node-inside, both_under, own-low, infix-done, entry_at, chain_next, chain-done, args_none, args-next, args-done, chain-all, args-all, count_fits, wanted_at, next-written, all-written, level-low, form-inside, form-under, other-done}
 use Rattle.echo_formula.proofs.+formula.Goals as goal
 
 -- ---------------------------------------------------------------- operators between their operands
@@ -22,7 +24,7 @@ formula_infix-formula_node-d-requires t c =
 
 pub formula_infix-returns : goal.formula_infix-returns
 formula_infix-returns t c =
-    infix-done c.args.walk.now c.args.i c.requires.0 c.node-n.ensures c.requires.1 c.level-own.ensures _ _ c.sign.ensures c.push_bracket-a.ensures c.formula_node-b.ensures c.word-c.ensures c.formula_node-d.ensures c.push_bracket.ensures
+    infix-done c.args.walk.now c.args.i c.requires.0 c.node-n.ensures c.requires.1 c.level-own.ensures _ _ c.push_bracket-a.ensures c.formula_node-b.ensures c.push_sign-c.ensures c.formula_node-d.ensures c.push_bracket.ensures
 
 -- ---------------------------------------------------------------- stores and arguments
 
@@ -88,21 +90,21 @@ formula_operands-loop-k-init t c = begun _ (omega arith)
 
 pub formula_operands-formula_node-a-requires : goal.formula_operands-formula_node-a-requires
 formula_operands-formula_node-a-requires t c =
-    let x = wanted_at c.args.walk.now c.args.kind c.args.own c.args.form (omega arith) c.operand-x.ensures c.requires.2 c.requires.0 in
+    let x = wanted_at c.args.walk.now c.args.kind (level_of c.args.kind) c.args.form (omega arith) c.operand-x.ensures (level-bound c.args.kind) c.requires.0 in
     (lower _ _ _ _ c.decreases x.node_is.below (omega arith), (x.node_is.fine, x.level_is))
 
 pub formula_operands-loop-k-preserved : goal.formula_operands-loop-k-preserved
 formula_operands-loop-k-preserved t c =
-    next-written c.args.walk.now c.args.kind c.args.own c.args.form (omega arith) c.operand-x.ensures c.loop-k.invariant c.formula_node-a.ensures c.push_behind-b.ensures
+    next-written c.args.walk.now c.args.kind (level_of c.args.kind) c.args.form (omega arith) c.operand-x.ensures c.loop-k.invariant c.formula_node-a.ensures c.push_behind-b.ensures
 
 pub formula_operands-returns-in-Chain : goal.formula_operands-returns-in-Chain
-formula_operands-returns-in-Chain t c = chain-all c.args.walk.now c.args.kind c.args.own c.args.form c.in-Chain.is _ c.formula_chain.ensures
+formula_operands-returns-in-Chain t c = chain-all c.args.walk.now c.args.kind (level_of c.args.kind) c.args.form c.in-Chain.is _ c.formula_chain.ensures
 
 pub formula_operands-returns-in-Arguments : goal.formula_operands-returns-in-Arguments
-formula_operands-returns-in-Arguments t c = args-all c.args.walk.now c.args.kind c.args.own c.args.form c.in-Arguments.is _ c.formula_args.ensures
+formula_operands-returns-in-Arguments t c = args-all c.args.walk.now c.args.kind (level_of c.args.kind) c.args.form c.in-Arguments.is _ c.formula_args.ensures
 
 pub formula_operands-returns-after-loop-k : goal.formula_operands-returns-after-loop-k
-formula_operands-returns-after-loop-k t c = all-written c.args.walk.now c.args.kind c.args.own c.args.form (omega arith) c.loop-k.invariant
+formula_operands-returns-after-loop-k t c = all-written c.args.walk.now c.args.kind (level_of c.args.kind) c.args.form (omega arith) c.loop-k.invariant
 
 -- ---------------------------------------------------------------- nodes
 
@@ -111,11 +113,11 @@ formula_other-node-n-requires t c = node-inside c.args.walk.now c.args.i c.requi
 
 pub formula_other-formula_operands-c-requires : goal.formula_other-formula_operands-c-requires
 formula_other-formula_operands-c-requires t c =
-    (fewer _ _ _ c.decreases (omega arith), (form-under c.args.walk.now c.args.i c.requires.0 c.node-n.ensures c.operands-form.ensures, form-inside c.args.walk.now c.args.i c.requires.0 c.node-n.ensures c.operands-form.ensures, level-fits c.args.walk.now c.args.i c.requires.0 c.node-n.ensures c.level-own.ensures))
+    (fewer _ _ _ c.decreases (omega arith), (form-under c.args.walk.now c.args.i c.requires.0 c.node-n.ensures c.operands.ensures, form-inside c.args.walk.now c.args.i c.requires.0 c.node-n.ensures c.operands.ensures))
 
 pub formula_other-returns : goal.formula_other-returns
 formula_other-returns t c =
-    other-done c.args.walk.now c.args.i c.requires.0 c.node-n.ensures c.operands-form.ensures c.level-own.ensures c.args.l _ c.push_bracket-a.ensures c.open_term-b.ensures c.formula_operands-c.ensures c.push_bracket.ensures
+    other-done c.args.walk.now c.args.i c.requires.0 c.node-n.ensures c.operands.ensures c.level-own.ensures c.args.l _ c.push_bracket-a.ensures c.open_term-b.ensures c.formula_operands-c.ensures c.push_bracket.ensures
 
 pub formula_node-open_leaf-requires : goal.formula_node-open_leaf-requires
 formula_node-open_leaf-requires t c = leaf-found c.args.walk.now c.args.i c.requires.0 c.is_leaf.ensures c.if-is_leaf.true
@@ -129,7 +131,7 @@ formula_node-node-n-requires t c = node-inside c.args.walk.now c.args.i c.requir
 
 pub formula_node-formula_infix-requires : goal.formula_node-formula_infix-requires
 formula_node-formula_infix-requires t c =
-    (fewer _ _ _ c.decreases (omega arith), (c.requires.0, level-low c.args.walk.now c.args.i c.requires.0 c.node-n.ensures c.level.ensures c.if-level-lt10.true))
+    (fewer _ _ _ c.decreases (omega arith), (c.requires.0, level-low c.args.walk.now c.args.i c.requires.0 c.node-n.ensures c.in-Between.ensures.between))
 
 pub formula_node-formula_other-requires : goal.formula_node-formula_other-requires
 formula_node-formula_other-requires t c =

@@ -2,6 +2,7 @@ use lib.ListN.{drop}
 use Rattle.echo_bytes.specs.Page.{page}
 use Rattle.echo_walk.specs.Walks.{problem_in}
 use Rattle.echo_walk.proofs.Laws.{μ, Begun}
+use Rattle.echo_pieces.specs.Signs.{level_of}
 use Rattle.echo_pieces.specs.Pieces.{chain_pieces, arg_pieces, pieces_of}
 use Rattle.echo_formula.specs.Texts.{list_text, operands_text}
 use Rattle.echo_formula.proofs.+formula.Given as goal
@@ -31,4 +32,4 @@ abbrev pub invariant-formula_args-loop-k : goal.invariant-formula_args-loop-k
 invariant-formula_args-loop-k l = Begun (list_text l.walk (arg_pieces (problem_in l.walk).side l.s l.n)) (list_text l.walk (drop l.k (arg_pieces (problem_in l.walk).side l.s l.n))) (page l.initial.q l.initial.out) (page l.q l.out)
 
 abbrev pub invariant-formula_operands-loop-k : goal.invariant-formula_operands-loop-k
-invariant-formula_operands-loop-k l = Begun (operands_text l.walk l.kind (pieces_of l.own (problem_in l.walk).side l.form)) (operands_text l.walk l.kind (drop l.k (pieces_of l.own (problem_in l.walk).side l.form))) (page l.initial.q l.initial.out) (page l.q l.out)
+invariant-formula_operands-loop-k l = Begun (operands_text l.walk l.kind (pieces_of (level_of l.kind) (problem_in l.walk).side l.form)) (operands_text l.walk l.kind (drop l.k (pieces_of (level_of l.kind) (problem_in l.walk).side l.form))) (page l.initial.q l.initial.out) (page l.q l.out)

@@ -18,6 +18,6 @@ lines-requires c = all-fine _ (c.in_ok-prepare.ensures.prepared (omega arith)).w
 pub returns : goal.returns
 unfolding dag_of
 returns c =
-    let p = problem_at c.args.problem.now in
+    let p = problem_at c.args.formed.now.problem.now in
     wrote-done (c.in_ok-prepare.ensures.passed (omega arith))
-    (rw c.start.ensures at c.lines.ensures ∙ ap (written _) (lines_are (dag_at c.args.problem.now) c.args.ws.now p.bits p.roots))
+    (rw c.start.ensures at c.lines.ensures ∙ ap (written _) (lines_are (dag_at c.args.formed.now.problem.now) c.args.formed.now.widths.now p.bits p.roots))

@@ -7,4 +7,4 @@ pub returns : goal.returns
 unfolding bytes
 returns c =
     written_then _ _ _ c.word-opened.ensures
-    (written_then _ _ _ c.push_stores.ensures c.name.ensures)
+    (written_then _ _ _ c.push_repeated.ensures c.name.ensures)

@@ -11,12 +11,12 @@ use Rattle.echo_openings.proofs.open_numbered.Goals as goal
 
 pub loop-k-init : goal.loop-k-init
 unfolding numbered
-loop-k-init c = c.word-q.ensures ∙ ap (written _) (c.sign.ensures ∙ sym (append-nil _))
+loop-k-init c = c.push_sign-q.ensures ∙ ap (written _) (sym (append-nil _))
 
 pub loop-k-preserved : goal.loop-k-preserved
 unfolding bytes
 loop-k-preserved c =
-    written_then _ _ _ c.loop-k.invariant (written_then _ _ _ c.number.ensures c.word-q-in-loop-k.ensures)
+    written_then _ _ _ c.loop-k.invariant (written_then _ _ _ c.number.ensures c.word-q.ensures)
     ∙ ap (written _) (numbered-more _ _ _ (omega arith))
 
 pub returns : goal.returns

@@ -6,4 +6,4 @@ pub returns : goal.returns
 unfolding bytes
 returns c =
     written_then _ _ _ c.word-opened.ensures
-    (written_then _ _ _ c.push_stores.ensures (written_then _ _ _ c.name.ensures c.word.ensures))
+    (written_then _ _ _ c.push_repeated.ensures (written_then _ _ _ c.name.ensures c.word.ensures))

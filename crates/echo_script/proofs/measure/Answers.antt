@@ -12,5 +12,8 @@ widths-n-requires c =
 
 pub returns : goal.returns
 returns c =
+    let of = c.of-pass.ensures in
+    let allowed = rw of.arrays at c.allowed.ensures in
+    let passed = rw (of.bits, of.side, of.arrays) at c.widths-n.ensures in
     measured (problem_at c.args.problem.now) (sym c.within_limits.ensures ∙ c.if-not-within_limits.false) (sym c.encoded.ensures ∙ c.if-not-encoded.false)
-    (sym c.columns_ok.ensures ∙ c.if-not-columns_ok.false) (sym c.allowed.ensures ∙ c.if-not-allowed.false) c.widths-n.ensures (omega arith)
+    (sym c.columns_ok.ensures ∙ c.if-not-columns_ok.false) (sym allowed ∙ c.if-not-allowed.false) passed (omega arith)

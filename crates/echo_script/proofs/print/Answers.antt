@@ -10,5 +10,5 @@ echo_roots-asserted-requires c = (all-fine _ c.requires.walked, opened_inside _ 
 
 pub returns : goal.returns
 returns c =
-    print-in (walk_over c.args.problem c.args.ws c.args.tables c.requires.filled) c.requires.walked (record { plan = λ i. c.requires.filled.marked.unnamed i })
+    print-in (walk_over c.args.formed.now.problem c.args.formed.now.widths c.args.tables c.requires.filled) c.requires.walked (record { plan = λ i. c.requires.filled.marked.unnamed i })
     c.args.out.now c.declare-declared.ensures c.echo_roots-asserted.ensures c.check_sat.ensures

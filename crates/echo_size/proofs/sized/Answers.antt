@@ -8,12 +8,12 @@ use Rattle.echo_size.proofs.sized.Goals as goal
 pub returns-in_err-prepare : goal.returns-in_err-prepare
 returns-in_err-prepare c =
     let p = err_from_is_err_and c.from_residual.result c.from_residual.ensures.1 in
-    rw (p.1, p.2) (prepare-told (problem_at c.args.problem.now) c.requires _ c.in_err-prepare.ensures.refused)
+    rw (p.1, p.2) (prepare-told (problem_at c.args.formed.now.problem.now) c.args.formed.now.formed _ c.in_err-prepare.ensures.refused)
 
 pub count_terms-requires : goal.count_terms-requires
-count_terms-requires c = countable (problem_at c.args.problem.now) c.requires
+count_terms-requires c = countable (problem_at c.args.formed.now.problem.now) c.args.formed.now.formed
 
 pub returns : goal.returns
 returns c =
-    let p = problem_at c.args.problem.now in
-    size-told p c.requires (c.in_ok-prepare.ensures.passed (omega arith)) (full-widths p c.fits.ensures c.fits-2.ensures) c.script_length.ensures c.count_terms.ensures
+    let p = problem_at c.args.formed.now.problem.now in
+    size-told p c.args.formed.now.formed (c.in_ok-prepare.ensures.passed (omega arith)) (full-widths p c.fits.ensures c.fits-2.ensures) c.script_length.ensures c.count_terms.ensures

@@ -1,5 +1,5 @@
 -- `echo_tables::pairs_told` meets its contract: the first k pairs decide the answer. Assumes nothing.
-use Rattle.std.proofs.Common.{arith, length-drop, refl}
+use Rattle.std.proofs.Common.{arith}
 use Rattle.std.proofs.lemmas.Result.{err_from_is_err_and}
 use Rattle.refusals.specs.Numbers.{error-number}
 use Rattle.echo_tables.specs.Marks.{use_of}

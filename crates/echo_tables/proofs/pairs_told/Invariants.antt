@@ -1,5 +1,5 @@
 -- `echo_tables::pairs_told` meets its contract: the first k pairs decide the answer. Assumes nothing.
-use Rattle.std.proofs.Common.{◌≡◌, ◌+◌, ◌≤◌, length, drop}
+use Rattle.std.proofs.Common.{◌≡◌, drop}
 use Rattle.echo_spec.specs.Walk.{levels, walk_all}
 use Rattle.echo_tables.specs.Marks.{use_of}
 use Rattle.echo_tables.proofs.pairs_told.Given as goal

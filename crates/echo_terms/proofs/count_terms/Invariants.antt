@@ -3,4 +3,4 @@ use Rattle.echo_terms.specs.TermTable.{Filled}
 use Rattle.echo_terms.proofs.count_terms.Given as goal
 
 abbrev pub invariant-loop-i : goal.invariant-loop-i
-invariant-loop-i l = Filled l.t l.side l.nodes l.i
+invariant-loop-i l = Filled l.t l.problem.side.now l.problem.nodes.now l.i

@@ -10,7 +10,7 @@ use Rattle.fewest_roots.proofs.from_declared.Goals as goal
 
 pub returns-in_err-fill : goal.returns-in_err-fill
 returns-in_err-fill c =
-    let p = problem_at c.args.problem.now in
+    let p = problem_at c.args.formed.now.problem.now in
     let q = err_from_is_err_and c.from_residual.result c.from_residual.ensures.1 in
     rw (q.1, q.2) (bad-declaration p _ (numbered p _ c.requires.formed) c.requires.named c.requires.apart (c.in_err-fill.ensures.refused (omega (arith, error-number c.in_err-fill.field-0.0))))
 
@@ -22,10 +22,10 @@ first_refused-requires c =
 
 pub returns-in-None : goal.returns-in-None
 returns-in-None c =
-    let p = problem_at c.args.problem.now in
+    let p = problem_at c.args.formed.now.problem.now in
     accepted p _ (numbered p _ c.requires.formed) c.requires.named c.requires.apart (c.in_ok-fill.ensures.passed (omega arith)) c.in-None.ensures
 
 pub returns-in-Some : goal.returns-in-Some
 returns-in-Some c =
-    let p = problem_at c.args.problem.now in
-    rw c.because.ensures (refused-root p _ (numbered p _ c.requires.formed) c.requires.named c.requires.apart (c.in_ok-fill.ensures.passed (omega arith)) c.in-Some.ensures)
+    let p = problem_at c.args.formed.now.problem.now in
+    refused-root p _ (numbered p _ c.requires.formed) c.requires.named c.requires.apart (c.in_ok-fill.ensures.passed (omega arith)) c.in-Some.ensures

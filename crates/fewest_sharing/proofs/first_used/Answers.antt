@@ -1,10 +1,10 @@
--- `fewest_sharing::first_used` meets its contract. Assumes nothing.
-use Rattle.std.proofs.Common.{arith, sym, ◌∙◌}
-use Rattle.fewest_sharing.specs.Found.{below_more}
+-- `fewest_sharing::first_used` meets its contract: what `position` answers. Assumes nothing.
+use Rattle.std.proofs.Common.{rules}
+use Rattle.std.proofs.iter.runs.Made.{chains}
+use Rattle.fewest_sharing.specs.Found.{used_too, first-told}
 use Rattle.fewest_sharing.proofs.first_used.Goals as goal
 
-pub returns-then-used_too : goal.returns-then-used_too
-returns-then-used_too c = record { inside = omega arith; before = c.loop-k.invariant; here = sym c.used_too.ensures ∙ c.if-used_too.true }
-
-pub loop-k-preserved : goal.loop-k-preserved
-loop-k-preserved c = below_more c.loop-k.invariant (sym c.used_too.ensures ∙ c.if-used_too.false)
+pub returns : goal.returns
+returns c =
+    let t = used_too c.args.shared.now c.args.uses.now in
+    first-told t c.args.roots.now c.position.result (search (rules, chains)) (search (rules, chains)) (search (rules, chains))

@@ -1,6 +1,5 @@
 -- `fewest_sharing::partner` meets its contract. Assumes nothing.
-use Rattle.std.proofs.Common.{arith, sym, ◌∙◌}
-use Rattle.fewest_sharing.specs.Found.{below_more}
+use Rattle.std.proofs.Common.{arith, sym, ◌∙◌, ◌<◌, ◌≡◌, get_or, below_more}
 use Rattle.fewest_sharing.proofs.partner.Goals as goal
 
 pub loop-k-init : goal.loop-k-init
@@ -16,7 +15,9 @@ returns-then-roots-k c = record {
 }
 
 pub loop-k-preserved : goal.loop-k-preserved
-loop-k-preserved c = below_more c.loop-k.invariant (λ l e. c.if-roots-k.false (sym e))
+loop-k-preserved c =
+    below_more (λ b. c.args.j < b → get_or c.args.roots.now c.args.j 0 ≡ get_or c.args.roots.now b 0 → ⊥) _ c.loop-k.invariant
+    (λ l e. c.if-roots-k.false (sym e))
 
 pub returns : goal.returns
 returns c = λ b x y f e. c.loop-k.invariant b (omega arith) x e

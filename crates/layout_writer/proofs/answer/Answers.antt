@@ -4,11 +4,11 @@ use native.Mathlib.Omega.{arith}
 use Rattle.layout_writer.proofs.Saying.{says-too-large, says-too-deep, says-read}
 use Rattle.layout_writer.proofs.answer.Goals as goal
 
-pub returns-then-input-gt-LONGEST : goal.returns-then-input-gt-LONGEST
-returns-then-input-gt-LONGEST c = says-too-large _ _ (omega (arith, c.if-input-gt-LONGEST.true))
+pub returns-then-input-gt-LONGEST_SCRIPT : goal.returns-then-input-gt-LONGEST_SCRIPT
+returns-then-input-gt-LONGEST_SCRIPT c = says-too-large _ _ (omega (arith, c.if-input-gt-LONGEST_SCRIPT.true))
 
 pub returns-then-too_deep : goal.returns-then-too_deep
-returns-then-too_deep c = says-too-deep _ _ (omega (arith, c.if-input-gt-LONGEST.false)) (sym c.too_deep.ensures ∙ c.if-too_deep.true)
+returns-then-too_deep c = says-too-deep _ _ (omega (arith, c.if-input-gt-LONGEST_SCRIPT.false)) (sym c.too_deep.ensures ∙ c.if-too_deep.true)
 
 pub returns : goal.returns
-returns c = says-read _ (omega (arith, c.if-input-gt-LONGEST.false)) (sym c.too_deep.ensures ∙ c.if-too_deep.false) c.read_back.ensures
+returns c = says-read _ (omega (arith, c.if-input-gt-LONGEST_SCRIPT.false)) (sym c.too_deep.ensures ∙ c.if-too_deep.false) c.read_back.ensures

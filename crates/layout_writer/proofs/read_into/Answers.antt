@@ -2,7 +2,7 @@
 use Rattle.std.proofs.Common.{arith, ap}
 use Rattle.std.specs.Prelude.{Err}
 use Rattle.std.proofs.lemmas.Result.{err_from_is_err_and}
-use Rattle.layout_writer.specs.declared.Unread.{Unread}
+use Rattle.layout_writer.specs.declared.Unwritten.{Unwritten}
 use Rattle.layout_writer.proofs.Reading.{accepts-as, refuses-as}
 use Rattle.layout_writer.proofs.Saying.{reads-written, reads-room}
 use Rattle.layout_writer.proofs.read_into.Goals as goal
@@ -10,7 +10,7 @@ use Rattle.layout_writer.proofs.read_into.Goals as goal
 pub returns-in_err-sizes : goal.returns-in_err-sizes
 returns-in_err-sizes c =
     let p = err_from_is_err_and c.from_residual.result c.from_residual.ensures.1 in
-    rw (p.1) (refuses-as c.args.script.now _ _ c.requires _ c.read_script.ensures.answer c.args.out.now _ c.in_err-sizes.was (ap (λ (u : Unread). Err u) p.2))
+    rw (p.1) (refuses-as c.args.script.now _ _ c.requires _ c.read_script.ensures.answer c.args.out.now _ c.in_err-sizes.was (ap (λ (u : Unwritten). Err u) p.2))
 
 pub first-problem-requires : goal.first-problem-requires
 first-problem-requires c = (accepts-as c.args.script.now _ _ c.requires _ c.read_script.ensures.answer _ c.in_ok-sizes.was).lies

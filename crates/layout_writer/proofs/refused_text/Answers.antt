@@ -2,7 +2,7 @@
 use Rattle.std.proofs.Common.{sym, ap}
 use Rattle.lists.specs.Bytes.{bytes}
 use Rattle.script_rebuild.specs.declared.ReadError.{ReadError}
-use Rattle.layout_writer.specs.declared.Unread.TheVariants.{Refused}
+use Rattle.layout_writer.specs.declared.Unwritten.TheVariants.{Refused}
 use Rattle.layout_writer.specs.Lines.{no_script_line, limit_line, room_line}
 use Rattle.layout_writer.specs.Telling.{line_of}
 use Rattle.layout_writer.proofs.refused_text.Goals as goal

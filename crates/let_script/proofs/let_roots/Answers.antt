@@ -12,11 +12,11 @@ pub echo_assertion-r-requires : goal.echo_assertion-r-requires
 echo_assertion-r-requires c =
     record { told = told-over c.loop-root.invariant.1 c.requires.told; here = c.requires.free.here c.loop-root.root-index (omega arith); free = c.requires.free.free c.loop-root.root-index (omega arith) }
 
-pub place_after-q-requires : goal.place_after-q-requires
+pub moved-q-requires : goal.moved-q-requires
 unfolding root_text
-place_after-q-requires c = omega (arith, roots-size c.loop-root.invariant.0, root-inside c.loop-root.invariant.0 c.echo_assertion-r.ensures.text)
+moved-q-requires c = omega (arith, roots-size c.loop-root.invariant.0, root-inside c.loop-root.invariant.0 c.echo_assertion-r.ensures.text)
 
 pub loop-root-preserved : goal.loop-root-preserved
 unfolding root_text
 loop-root-preserved c =
-    (root-done c.loop-root.invariant.0 c.echo_assertion-r.ensures.text (omega arith) c.place_after-q.ensures, c.echo_assertion-r.ensures.told ∙ c.loop-root.invariant.1)
+    (root-done c.loop-root.invariant.0 c.echo_assertion-r.ensures.text (omega arith) c.moved-q.ensures, c.echo_assertion-r.ensures.told ∙ c.loop-root.invariant.1)

@@ -1,28 +1,17 @@
 -- `place_uncalled` meets its contract: at each turn the first g functions are through.
 use Rattle.std.proofs.Common.{refl, arith}
+use Rattle.std.proofs.lemmas.Result.{err_from_is_err_and}
 use Rattle.rebuilt.specs.Built.{function_at}
-use Rattle.place_script.specs.Uncalled.{uncalling-start, uncalling-end, function-called, function-zeros, function-over}
+use Rattle.place_script.specs.Uncalled.{uncalling-end, function-called, function-zeros, function-over}
 use Rattle.place_script.proofs.place_uncalled.Goals as goal
-
-pub overflow_sub-n : goal.overflow_sub-n
-overflow_sub-n c = omega (arith, c.requires.2.functions)
-
-pub loop-g-init : goal.loop-g-init
-loop-g-init c = λ D first κ h k. uncalling-start D h k
-
-pub bounds-called-g : goal.bounds-called-g
-bounds-called-g c = omega (arith, c.requires.2.functions, c.requires.4, c.loop-g-test.true)
-
-pub function_at-f-requires : goal.function_at-f-requires
-function_at-f-requires c = ((c.requires.0, c.requires.2), c.requires.3, omega (arith, c.requires.2.functions, c.loop-g-test.true))
 
 pub call_on_zeros-requires : goal.call_on_zeros-requires
 call_on_zeros-requires c = ((function_at c.requires.0 c.loop-g.g).arguments, ((c.loop-g.invariant c.requires.0 c.requires.1 c.requires.2 c.requires.5 c.requires.6).now, (c.function_at-f.ensures c.requires.0 c.requires.2).0, (c.loop-g.invariant c.requires.0 c.requires.1 c.requires.2 c.requires.5 c.requires.6).held, (c.loop-g.invariant c.requires.0 c.requires.1 c.requires.2 c.requires.5 c.requires.6).stacked))
 
 pub returns-in_err-call_on_zeros : goal.returns-in_err-call_on_zeros
 returns-in_err-call_on_zeros c =
-    λ D first κ h k. rw c.from_residual.ensures (function-over (c.loop-g.invariant D first κ h k) (omega (arith, κ.functions, c.loop-g-test.true)) c.if-called-g.false (function_at D c.loop-g.g).arguments c.function_at-f.result.width refl (c.function_at-f.ensures D κ).1
-    c.call_on_zeros.new.heap c.call_on_zeros.result c.in_err-call_on_zeros.was (c.call_on_zeros.ensures (function_at D c.loop-g.g).arguments (c.loop-g.invariant D first κ h k).now (c.function_at-f.ensures D κ).0 (c.loop-g.invariant D first κ h k).held (c.loop-g.invariant D first κ h k).stacked))
+    λ D first κ h k. rw (err_from_is_err_and c.from_residual.result c.from_residual.ensures.1).1 (function-over (c.loop-g.invariant D first κ h k) (omega (arith, κ.functions, c.loop-g-test.true)) c.if-called-g.false (function_at D c.loop-g.g).arguments c.function_at-f.result.width refl (c.function_at-f.ensures D κ).1
+    c.call_on_zeros.new.heap c.call_on_zeros.result _ c.in_err-call_on_zeros.was (c.call_on_zeros.ensures (function_at D c.loop-g.g).arguments (c.loop-g.invariant D first κ h k).now (c.function_at-f.ensures D κ).0 (c.loop-g.invariant D first κ h k).held (c.loop-g.invariant D first κ h k).stacked))
 
 pub loop-g-preserved-then-called-g : goal.loop-g-preserved-then-called-g
 loop-g-preserved-then-called-g c = λ D first κ h k. function-called (c.loop-g.invariant D first κ h k) (omega (arith, κ.functions, c.loop-g-test.true)) c.if-called-g.true

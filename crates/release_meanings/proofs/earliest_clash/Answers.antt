@@ -28,8 +28,8 @@ overflow_add-q c = omega (arith, feed-in c.args.file.now c.loop-n.names.places c
 pub enter_script-requires : goal.enter_script-requires
 enter_script-requires c = to-enter c.args.file.now c.loop-n.names.places c.loop-n.names.links c.loop-n.names.heads c.loop-n.names.count c.loop-n.at c.loop-n.k c.loop-n.invariant _ (stepped c.args.file.now c.loop-n.at c.next_script.result c.loop-n.invariant.inside c.next_script.ensures c.in-Some.is) c.line_feed-q.result c.line_feed-q.ensures
 
-pub returns-in-Err : goal.returns-in-Err
-returns-in-Err c = met-clash c.args.file.now c.loop-n.names.places c.loop-n.names.links c.loop-n.names.heads c.loop-n.names.count c.loop-n.at c.loop-n.k c.loop-n.invariant _ (stepped c.args.file.now c.loop-n.at c.next_script.result c.loop-n.invariant.inside c.next_script.ensures c.in-Some.is) c.line_feed-q.result c.line_feed-q.ensures c.in-Err.ensures
+pub returns-in_default-enter_script : goal.returns-in_default-enter_script
+returns-in_default-enter_script c = met-clash c.args.file.now c.loop-n.names.places c.loop-n.names.links c.loop-n.names.heads c.loop-n.names.count c.loop-n.at c.loop-n.k c.loop-n.invariant _ (stepped c.args.file.now c.loop-n.at c.next_script.result c.loop-n.invariant.inside c.next_script.ensures c.in-Some.is) c.line_feed-q.result c.line_feed-q.ensures (c.in_default-enter_script.ensures)
 
 pub overflow_add-at : goal.overflow_add-at
 overflow_add-at c = omega (arith, (stepped c.args.file.now c.loop-n.at c.next_script.result c.loop-n.invariant.inside c.next_script.ensures c.in-Some.is).inside)

@@ -2,6 +2,7 @@
 use Rattle.std.proofs.Common.{◌≡◌, Err, length, arith, rules}
 use Rattle.lent.specs.Lent.{problem_at}
 use Rattle.replay_trace.specs.Errors.{Refused}
+use Rattle.trace_tables.specs.Fixed.{measured-lent}
 use Rattle.replay_trace.proofs.Replaying.{few_nodes, by_first, by-later, ran-refused, passes, widths-are, measured-at}
 use Rattle.replay_trace.proofs.replay.Goals as goal
 
@@ -16,10 +17,10 @@ pub widths-count-requires : goal.widths-count-requires
 widths-count-requires c = few_nodes (problem_at c.args.problem.now) c.in_ok-printing.ensures
 
 pub invariant_of-terms : goal.invariant_of-terms
-invariant_of-terms c = let p = problem_at c.args.problem.now in record { measured = measured-at p (widths-are p c.in_ok-printing.ensures c.widths-count.ensures) }
+invariant_of-terms c = let p = problem_at c.args.problem.now in record { usable = ∣ measured-lent (measured-at p (widths-are p c.in_ok-printing.ensures (rw (c.of.ensures.bits, c.of.ensures.side, c.of.ensures.arrays) at c.widths-count.ensures))) ∣₁ }
 
 pub tracing-requires : goal.tracing-requires
-tracing-requires c = widths-are (problem_at c.args.problem.now) c.in_ok-printing.ensures c.widths-count.ensures
+tracing-requires c = widths-are (problem_at c.args.problem.now) c.in_ok-printing.ensures (rw (c.of.ensures.bits, c.of.ensures.side, c.of.ensures.arrays) at c.widths-count.ensures)
 
 pub returns-in_err-tracing : goal.returns-in_err-tracing
 returns-in_err-tracing c =
@@ -29,7 +30,7 @@ returns-in_err-tracing c =
     (by-later p c.args.values.now (length c.args.masks.now) (length c.args.counts.now) c.in_ok-printing.ensures c.row_count-n.ensures c.in_err-tracing.ensures)
 
 pub evaluate-requires-clause-widths : goal.evaluate-requires-clause-widths
-evaluate-requires-clause-widths c = widths-are (problem_at c.args.problem.now) c.in_ok-printing.ensures c.widths-count.ensures
+evaluate-requires-clause-widths c = widths-are (problem_at c.args.problem.now) c.in_ok-printing.ensures (rw (c.of.ensures.bits, c.of.ensures.side, c.of.ensures.arrays) at c.widths-count.ensures)
 
 pub evaluate-requires-clause-traceable : goal.evaluate-requires-clause-traceable
 evaluate-requires-clause-traceable c =

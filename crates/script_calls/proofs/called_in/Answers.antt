@@ -11,26 +11,11 @@ use Rattle.script_calls.proofs.called_in.Goals as goal
 pub loop-done-init : goal.loop-done-init
 loop-done-init c = (c.requires.1, λ D κ. scan-start c.args.script.now.text.now D c.args.from, omega arith, λ g l. absurd (omega arith))
 
-pub name_end-requires : goal.name_end-requires
-name_end-requires c = c.loop-done.invariant.0
-
 pub returns-in_default : goal.returns-in_default
 returns-in_default c = λ D ts κ x. flagged κ c.args.from c.loop-done.p c.loop-done.flags ts x (c.loop-done.invariant.1 D κ) (no-first (drop c.loop-done.p c.args.script.now.text.now) c.in_default.ensures)
 
-pub name_end-requires-in-loop-done : goal.name_end-requires-in-loop-done
-name_end-requires-in-loop-done c = (named-of c.args.script.now.text.now c.loop-done.p c.in-Some.ensures).high
-
 pub returns-in_default-name_end : goal.returns-in_default-name_end
 returns-in_default-name_end c = λ D ts κ x. flagged κ c.args.from c.loop-done.p c.loop-done.flags ts x (c.loop-done.invariant.1 D κ) (no_second (drop c.loop-done.p c.args.script.now.text.now) _ _ (named-of c.args.script.now.text.now c.loop-done.p c.in-Some.ensures).read c.in_default-name_end.ensures)
-
-pub flag_name-requires : goal.flag_name-requires
-flag_name-requires c = (c.requires.0, named-of c.args.script.now.text.now c.in-Some.a c.in-Some-name_end.ensures)
-
-pub unflagged_from-done-requires : goal.unflagged_from-done-requires
-unflagged_from-done-requires c = (c.loop-done.invariant.2, c.flag_count-n.ensures.0)
-
-pub loop-done-smaller : goal.loop-done-smaller
-loop-done-smaller c = omega (arith, (named-of c.args.script.now.text.now c.loop-done.p c.in-Some.ensures).low, (named-of c.args.script.now.text.now c.loop-done.p c.in-Some.ensures).high, (named-of c.args.script.now.text.now c.in-Some.a c.in-Some-name_end.ensures).low, (named-of c.args.script.now.text.now c.in-Some.a c.in-Some-name_end.ensures).high)
 
 pub loop-done-preserved : goal.loop-done-preserved
 loop-done-preserved c = (

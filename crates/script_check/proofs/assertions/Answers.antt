@@ -1,7 +1,10 @@
 -- `assertions` meets its contract: at each turn n assertions are read, each a Bool, and the place is after them.
-use Rattle.std.proofs.Common.{arith, subst, drop}
+use Rattle.std.specs.Prelude.{ℕ, List, Bool, true, false}
+use Rattle.std.specs.Bool.{then_some}
+use Rattle.std.proofs.Common.{arith, sym, subst, drop}
+use Rattle.reading.specs.Trees.{Declarations}
 use Rattle.lists.specs.Bytes.{bytes}
-use Rattle.script_check.specs.Check.{EndsTo}
+use Rattle.script_check.specs.Check.{BodyTo, EndsTo}
 use Rattle.script_check.specs.Steps.{no_word, going_start}
 use Rattle.script_check.specs.Turns.{turn-none, turn-bits, turn-open, turn-less, turn_more}
 use Rattle.script_check.proofs.assertions.Goals as goal
@@ -11,10 +14,6 @@ loop-a-init c = λ D κ. going_start c.args.script.now.text.now D c.args.from c.
 
 pub literal-requires : goal.literal-requires
 literal-requires c = (c.loop-a.invariant c.requires.0.0 c.requires.0.1).place
-
-pub sort_at-requires : goal.sort_at-requires
-unfolding bytes
-sort_at-requires c = (c.requires.0, c.in-Some.ensures.0)
 
 pub returns-in_err-term : goal.returns-in_err-term
 unfolding bytes
@@ -46,10 +45,12 @@ loop-a-preserved c = λ D κ. turn_more (c.loop-a.invariant D κ) c.in-Some.a c.
 pub last_line-requires : goal.last_line-requires
 last_line-requires c = (c.loop-a.invariant c.requires.0.0 c.requires.0.1).place
 
-pub returns-then-last_line : goal.returns-then-last_line
-unfolding bytes
-returns-then-last_line c = λ D κ. subst (EndsTo c.args.script.now.text.now D c.args.from c.loop-a.n) c.if-last_line.true (c.last_line.ensures D c.args.from c.loop-a.n c.requires.1 (c.loop-a.invariant D κ) (no_word D (drop c.loop-a.p c.args.script.now.text.now) c.in_default.ensures))
+told : (s : List ℕ) (D : Declarations) (from n : ℕ) (b : Bool) → EndsTo s D from n b → BodyTo s D from (then_some b n)
+told s D from n true x = x
+told s D from n false x = x
 
-pub returns-else-last_line : goal.returns-else-last_line
+pub returns : goal.returns
 unfolding bytes
-returns-else-last_line c = λ D κ. subst (EndsTo c.args.script.now.text.now D c.args.from c.loop-a.n) c.if-last_line.false (c.last_line.ensures D c.args.from c.loop-a.n c.requires.1 (c.loop-a.invariant D κ) (no_word D (drop c.loop-a.p c.args.script.now.text.now) c.in_default.ensures))
+returns c = λ D κ.
+    subst (BodyTo c.args.script.now.text.now D c.args.from) (sym c.then_some.ensures)
+    (told c.args.script.now.text.now D c.args.from c.loop-a.n c.last_line.result (c.last_line.ensures D c.args.from c.loop-a.n c.requires.1 (c.loop-a.invariant D κ) (no_word D (drop c.loop-a.p c.args.script.now.text.now) c.in_default.ensures)))

@@ -7,9 +7,6 @@ use Rattle.std.specs.Prelude.{Some, None}
 use Rattle.script_decls.specs.Tails.{sorts-end, sorts-close, sorts-no-blank, sorts-more-none, sorts-more, past-sort}
 use Rattle.script_decls.proofs.more_sorts.Goals as goal
 
-pub loop-p-init : goal.loop-p-init
-loop-p-init c = (c.requires, λ r h. h)
-
 pub returns-then-s-p-eq41 : goal.returns-then-s-p-eq41
 returns-then-s-p-eq41 c = c.loop-p.invariant.1 (Some (c.loop-p.p + 1)) (sorts-close c.args.s.now c.loop-p.p false c.loop-p-test.true c.if-s-p-eq41.true)
 

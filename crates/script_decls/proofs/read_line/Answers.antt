@@ -9,8 +9,8 @@ returns-in_err-name c = rw c.from_residual.ensures (line-no-head (stage_number c
 pub returns-in_err-name_end : goal.returns-in_err-name_end
 returns-in_err-name_end c = rw c.from_residual-in_err-name_end.ensures (line-no-name (stage_number c.args.stage) c.args.s.now c.args.at c.in_ok-name.name c.in_ok-name.ensures.1 c.in_err-name_end.ensures)
 
-pub returns-in_err-end : goal.returns-in_err-end
-returns-in_err-end c = rw c.from_residual-in_err-end.ensures (line-no-tail (stage_number c.args.stage) c.args.s.now c.args.at c.in_ok-name.name c.in_ok-name.ensures.1 c.in_ok-name_end.name_end (named-of c.args.s.now c.in_ok-name.name c.in_ok-name_end.ensures) c.in_err-end.ensures)
+pub returns-in_err-rest : goal.returns-in_err-rest
+returns-in_err-rest c = rw c.from_residual-in_err-rest.ensures (line-no-tail (stage_number c.args.stage) c.args.s.now c.args.at c.in_ok-name.name c.in_ok-name.ensures.1 c.in_ok-name_end.name_end (named-of c.args.s.now c.in_ok-name.name c.in_ok-name_end.ensures) c.in_err-rest.ensures)
 
 pub returns : goal.returns
-returns c = line-whole (stage_number c.args.stage) c.args.s.now c.args.at c.in_ok-name.name c.in_ok-name.ensures.1 c.in_ok-name_end.name_end (named-of c.args.s.now c.in_ok-name.name c.in_ok-name_end.ensures) c.in_ok-end.end c.requires c.in_ok-end.ensures
+returns c = line-whole (stage_number c.args.stage) c.args.s.now c.args.at c.in_ok-name.name c.in_ok-name.ensures.1 c.in_ok-name_end.name_end (named-of c.args.s.now c.in_ok-name.name c.in_ok-name_end.ensures) c.in_ok-rest.rest.end c.requires c.in_ok-rest.ensures.0

@@ -3,6 +3,7 @@ use Rattle.std.proofs.Common.{[], drop, arith}
 use Rattle.lists.specs.Bytes.{bytes}
 use Rattle.script_decls.specs.Sorts.{sort-no-head, sort-no-number, sort-zero, sort-over, sort-open, sort-whole}
 use Rattle.script_decls.proofs.sort_in.Goals as goal
+use Rattle.script_decls.proofs.sort_in.Goals.{then-width-eq0-via-then-width-eq0, then-width-eq0-via-else-width-eq0+then-width-limit}
 
 pub returns-in_err-a : goal.returns-in_err-a
 unfolding bytes
@@ -14,11 +15,11 @@ returns-in_err-width c = rw c.from_residual-in_err-width.ensures (sort-no-number
 
 pub returns-then-width-eq0 : goal.returns-then-width-eq0
 unfolding bytes
-returns-then-width-eq0 c = sort-zero c.args.limit (drop c.args.at c.args.s.now) [] (drop c.in_ok-a.a c.args.s.now) c.in_ok-width.width.value (drop c.in_ok-width.width.end c.args.s.now) c.in_ok-a.ensures.1 c.in_ok-width.ensures.1 c.if-width-eq0.true
-
-pub returns-then-width-limit : goal.returns-then-width-limit
-unfolding bytes
-returns-then-width-limit c = sort-over c.args.limit (drop c.args.at c.args.s.now) [] (drop c.in_ok-a.a c.args.s.now) c.in_ok-width.width.value (drop c.in_ok-width.width.end c.args.s.now) c.in_ok-a.ensures.1 c.in_ok-width.ensures.1 c.if-width-limit.true
+returns-then-width-eq0 c =
+    elim c.then-width-eq0.branch [
+      | then-width-eq0-via-then-width-eq0 w ↦ sort-zero c.args.limit (drop c.args.at c.args.s.now) [] (drop c.in_ok-a.a c.args.s.now) c.in_ok-width.width.value (drop c.in_ok-width.width.end c.args.s.now) c.in_ok-a.ensures.1 c.in_ok-width.ensures.1 w.if-width-eq0.true
+      | then-width-eq0-via-else-width-eq0+then-width-limit w ↦ sort-over c.args.limit (drop c.args.at c.args.s.now) [] (drop c.in_ok-a.a c.args.s.now) c.in_ok-width.width.value (drop c.in_ok-width.width.end c.args.s.now) c.in_ok-a.ensures.1 c.in_ok-width.ensures.1 w.if-width-limit.true
+    ]
 
 pub returns-in_err-end : goal.returns-in_err-end
 unfolding bytes

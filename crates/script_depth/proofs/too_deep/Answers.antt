@@ -1,6 +1,6 @@
 -- `script_depth::too_deep` meets its contract: the rest of the bytes decides. Assumes nothing.
 use Prim.Native.Nat.{◌+◌}
-use mathlib.Core.Path.{sym, refl, ◌∙◌}
+use mathlib.Core.Path.{sym, ◌∙◌}
 use native.Mathlib.Omega.{arith}
 use lib.ListN.{get_or, drop}
 use Rattle.script_depth.specs.Nesting.{deep_from, too_deep}
@@ -9,7 +9,7 @@ use Rattle.script_depth.proofs.too_deep.Goals as goal
 
 pub loop-b-init : goal.loop-b-init
 unfolding too_deep
-loop-b-init c = (omega arith, refl)
+loop-b-init c = let e = c.default-nest.ensures in (omega (arith, e.1), λ i. deep_from (e.0 i) (e.1 i) c.args.s.now)
 
 pub returns-then-nest-gt-DEEPEST : goal.returns-then-nest-gt-DEEPEST
 returns-then-nest-gt-DEEPEST c = sym (deep-over _ _ _ (omega arith)) ∙ c.loop-b.invariant.1

@@ -1,44 +1,21 @@
 -- `end_over` meets its contract: the constants among the operands have their nodes, and then the operator has its own, with its operands' nodes in its record.
-use Rattle.std.proofs.Common.{ℕ, ◌≡◌, List, [], ◌∷◌, ◌++◌, subst, length, length-append, arith}
+use Rattle.std.proofs.Common.{ℕ, ◌≡◌, List, [], ◌∷◌, ◌++◌, subst, length, arith}
+use Rattle.std.proofs.lemmas.Result.{err_from_is_err_and}
 use Rattle.echo_spec.specs.Shapes.{shape_of}
 use Rattle.readback.specs.Rebuild.{Item, an_operator, with_constants, node_of, pendings, fields, node_with}
 use Rattle.lent.specs.Records as records
 use Rattle.heap_laws.specs.Heap.{pending_in}
 use Rattle.script_heap.specs.Told.{Told}
 use Rattle.script_heap.specs.Laws.{told-own}
-use Rattle.script_ends.specs.Ends.{settle-fails, settle-done, ended-told, behind, nodes_of, operator_item, made-over}
+use Rattle.script_ends.specs.Ends.{settle-fails, all-ended, ended-told, nodes_of, operator_item, made-over}
 use Rattle.script_ends.proofs.end_over.Goals as goal
 
 pub returns-in_err-settle_all : goal.returns-in_err-settle_all
-returns-in_err-settle_all c = λ s refs rs ks ms e o. rw c.from_residual.ensures (settle-fails e (operator_item c.args.o.kind ks rs ms) c.settle_all.new.heap c.settle_all.result c.in_err-settle_all.was (c.settle_all.ensures s (refs ++ rs) e.held e.stacked))
-
-pub operand_or_zero-x-requires : goal.operand_or_zero-x-requires
-operand_or_zero-x-requires c =
-    let (s, refs, rs, e) = c.requires in
-    let (h, k) = settle-done e c.settle_all.new.heap c.settle_all.result _ c.in_ok-settle_all.was (c.settle_all.ensures s (refs ++ rs) e.held e.stacked) in
-    (behind refs (nodes_of (with_constants (pending_in rs) s) rs) c.args.base k e.below).2
-
-pub overflow_add-base : goal.overflow_add-base
-overflow_add-base c = let (s, refs, rs, e) = c.requires in omega (arith, e.below, e.stacked.room, length-append refs rs)
-
-pub operand_or_zero-y-requires : goal.operand_or_zero-y-requires
-operand_or_zero-y-requires c =
-    let (s, refs, rs, e) = c.requires in
-    let (h, k) = settle-done e c.settle_all.new.heap c.settle_all.result _ c.in_ok-settle_all.was (c.settle_all.ensures s (refs ++ rs) e.held e.stacked) in
-    (behind refs (nodes_of (with_constants (pending_in rs) s) rs) c.args.base k e.below).2
-
-pub overflow_add-base-2 : goal.overflow_add-base-2
-overflow_add-base-2 c = let (s, refs, rs, e) = c.requires in omega (arith, e.below, e.stacked.room, length-append refs rs)
-
-pub operand_or_zero-z-requires : goal.operand_or_zero-z-requires
-operand_or_zero-z-requires c =
-    let (s, refs, rs, e) = c.requires in
-    let (h, k) = settle-done e c.settle_all.new.heap c.settle_all.result _ c.in_ok-settle_all.was (c.settle_all.ensures s (refs ++ rs) e.held e.stacked) in
-    (behind refs (nodes_of (with_constants (pending_in rs) s) rs) c.args.base k e.below).2
+returns-in_err-settle_all c = λ s refs rs ks ms e o. rw (err_from_is_err_and c.from_residual.result c.from_residual.ensures.1).1 (settle-fails e (operator_item c.args.o.kind ks rs ms) c.settle_all.new.heap _ (c.in_err-settle_all.ensures s (refs ++ rs) e.held e.stacked))
 
 pub returns : goal.returns
 returns c = λ s refs rs ks ms e o.
-    let (h, k) = settle-done e c.settle_all.new.heap c.settle_all.result _ c.in_ok-settle_all.was (c.settle_all.ensures s (refs ++ rs) e.held e.stacked) in
+    let (h, k) = all-ended e c.settle_all.new.heap (c.in_ok-settle_all.ensures s (refs ++ rs) e.held e.stacked) in
     let t : List Item = with_constants (pending_in rs) s in
     let xs : List ℕ = nodes_of t rs in
     let ns : List ℕ = pendings (node_of t) ms in

@@ -6,11 +6,11 @@ use Rattle.script_fill.proofs.put_names.Goals as goal
 pub loop-i-init : goal.loop-i-init
 loop-i-init c = written_none _ _ _ _ _ _
 
-pub bar_at-e-requires : goal.bar_at-e-requires
-bar_at-e-requires c = rw c.place-p.ensures (c.requires.lines.place c.loop-i.i c.loop-i-test.true)
+pub name_of-name-requires : goal.name_of-name-requires
+name_of-name-requires c = c.requires.lines.place c.loop-i.i c.loop-i-test.true
 
 pub slice_bounds-copy_from_slice-end : goal.slice_bounds-copy_from_slice-end
-slice_bounds-copy_from_slice-end c = names-room c.loop-i.invariant c.loop-i-test.true c.requires.room c.place-p.ensures c.bar_at-e.ensures
+slice_bounds-copy_from_slice-end c = names-room c.loop-i.invariant c.loop-i-test.true c.requires.room c.name_of-name.ensures
 
 pub bounds-starts-i : goal.bounds-starts-i
 bounds-starts-i c = starts-room c.loop-i.invariant c.loop-i-test.true c.requires.room
@@ -19,7 +19,7 @@ pub bounds-lengths-i : goal.bounds-lengths-i
 bounds-lengths-i c = lengths-room c.loop-i.invariant c.loop-i-test.true c.requires.room
 
 pub loop-i-preserved : goal.loop-i-preserved
-loop-i-preserved c = written-more c.loop-i.invariant c.loop-i-test.true c.requires.room c.place-p.ensures c.bar_at-e.ensures c.copy_from_slice.ensures.after
+loop-i-preserved c = written-more c.loop-i.invariant c.loop-i-test.true c.requires.room c.name_of-name.ensures c.copy_from_slice.ensures.after
 
 pub returns : goal.returns
 returns c = written_all c.loop-i.invariant (omega arith)

@@ -7,50 +7,25 @@ use Rattle.lists.specs.Bytes.{bytes}
 use Rattle.script_heads.specs.HeadLaws.{byte-there, past-word-there, blank-further, no-underscore, indexed-no-kind, no-first, one-numeral, no_second, two-numerals, no_third}
 use Rattle.script_heads.proofs.indexed_head.Goals as goal
 
-pub overflow_add-at : goal.overflow_add-at
-overflow_add-at c = omega (arith, byte-there c.args.s.now (c.args.at + 1) c.requires.1 (lit< tt))
-
-pub literal-requires : goal.literal-requires
-literal-requires c = omega (arith, byte-there c.args.s.now (c.args.at + 1) c.requires.1 (lit< tt))
-
 pub returns-in_err-a : goal.returns-in_err-a
 unfolding bytes
 returns-in_err-a c = rw c.from_residual.ensures (no-underscore c.args.s.now c.args.at c.requires.0 c.requires.1 c.in_err-a.ensures)
-
-pub word_end-e-requires : goal.word_end-e-requires
-unfolding bytes
-word_end-e-requires c = c.in_ok-a.ensures.0
-
-pub slice_bounds-kind_of-count : goal.slice_bounds-kind_of-count
-slice_bounds-kind_of-count c = omega (arith, c.word_end-e.ensures.low)
 
 pub returns-in_err-kind : goal.returns-in_err-kind
 unfolding bytes
 returns-in_err-kind c = rw c.from_residual-in_err-kind.ensures (indexed-no-kind c.args.s.now c.args.at c.requires.0 c.requires.1 c.in_ok-a.a c.word_end-e.result c.in_ok-a.ensures.1 c.word_end-e.ensures c.in_err-kind.ensures)
 
-pub blank_numeral-requires : goal.blank_numeral-requires
-blank_numeral-requires c = c.word_end-e.ensures.high
-
 pub returns-in_err-i : goal.returns-in_err-i
 unfolding bytes
 returns-in_err-i c = rw c.from_residual-in_err-i.ensures (no-first c.args.s.now c.args.at c.requires.0 c.requires.1 c.in_ok-a.a c.word_end-e.result c.in_ok-a.ensures.1 c.word_end-e.ensures c.in_err-i.ensures)
-
-pub overflow_add-result : goal.overflow_add-result
-overflow_add-result c = omega (arith, byte-there c.args.s.now c.in_ok-i.i.end (sym c.byte_at.ensures ∙ c.if-byte_at-eq41.true) (lit< tt))
 
 pub returns-then-byte_at-eq41 : goal.returns-then-byte_at-eq41
 unfolding bytes
 returns-then-byte_at-eq41 c = one-numeral c.args.s.now c.args.at c.requires.0 c.requires.1 c.in_ok-a.a c.word_end-e.result c.in_ok-a.ensures.1 c.word_end-e.ensures c.in_ok-i.i.value c.in_ok-i.i.end c.in_ok-i.ensures.1 c.in_ok-kind.ensures (omega (arith, past-word-there (bytes "_ ") c.args.s.now (c.args.at + 2) c.in_ok-a.a (omega (arith, byte-there c.args.s.now (c.args.at + 1) c.requires.1 (lit< tt))) c.in_ok-a.ensures.0 c.in_ok-a.ensures.1, c.word_end-e.ensures.low, blank-further c.args.s.now c.word_end-e.result c.in_ok-i.i.end c.word_end-e.ensures.high c.in_ok-i.ensures.0 c.in_ok-i.ensures.1)) (byte-there c.args.s.now c.in_ok-i.i.end (sym c.byte_at.ensures ∙ c.if-byte_at-eq41.true) (lit< tt)) (sym c.byte_at.ensures ∙ c.if-byte_at-eq41.true)
 
-pub blank_numeral-requires-2 : goal.blank_numeral-requires-2
-blank_numeral-requires-2 c = c.in_ok-i.ensures.0
-
 pub returns-in_err-j : goal.returns-in_err-j
 unfolding bytes
 returns-in_err-j c = rw c.from_residual-in_err-j.ensures (no_second c.args.s.now c.args.at c.requires.0 c.requires.1 c.in_ok-a.a c.word_end-e.result c.in_ok-a.ensures.1 c.word_end-e.ensures c.in_ok-i.i.value c.in_ok-i.i.end c.in_ok-i.ensures.1 (λ q. c.if-byte_at-eq41.false (c.byte_at.ensures ∙ q)) c.in_err-j.ensures)
-
-pub overflow_add-result-then-byte_at-eq41-2 : goal.overflow_add-result-then-byte_at-eq41-2
-overflow_add-result-then-byte_at-eq41-2 c = omega (arith, byte-there c.args.s.now c.in_ok-j.j.end (sym c.byte_at-2.ensures ∙ c.if-byte_at-eq41-2.true) (lit< tt))
 
 pub returns-then-byte_at-eq41-2 : goal.returns-then-byte_at-eq41-2
 unfolding bytes

@@ -1,28 +1,14 @@
 -- `name_head` meets its contract, by what the name is declared as.
 use Prim.Native.Nat.{◌+◌}
-use native.Mathlib.Omega.{arith}
-use lib.Dec.{lit<}
-use Rattle.script_heads.specs.HeadLaws.{byte-there, no-argument, an-argument, told-variable, told_array, told-function, no_name, name-unknown, variable-head, nullary-head, name-argued}
+use Rattle.script_heads.specs.HeadLaws.{no-argument, an-argument, told-variable, told_array, told-function, no_name, name-unknown, variable-head, nullary-head, name-argued}
 use Rattle.script_heads.specs.Heads.{name_to}
 use Rattle.rebuilt.specs.Built.{function_at}
 use Rattle.script_decls.specs.Going.{named-of}
 use Rattle.script_entries.specs.Named.{known-declared}
 use Rattle.script_heads.proofs.name_head.Goals as goal
 
-pub overflow_add-at : goal.overflow_add-at
-overflow_add-at c = omega (arith, byte-there c.args.script.now.text.now c.args.at c.requires.1 (lit< tt))
-
-pub name_end-requires : goal.name_end-requires
-name_end-requires c = omega (arith, byte-there c.args.script.now.text.now c.args.at c.requires.1 (lit< tt))
-
 pub returns-in_err-end : goal.returns-in_err-end
 returns-in_err-end c = rw c.from_residual.ensures (λ D κ. no_name c.args.script.now.text.now c.args.at c.requires.1 c.in_err-end.ensures D)
-
-pub overflow_add-at-2 : goal.overflow_add-at-2
-overflow_add-at-2 c = omega (arith, byte-there c.args.script.now.text.now c.args.at c.requires.1 (lit< tt))
-
-pub entry_of-requires : goal.entry_of-requires
-entry_of-requires c = (c.requires.0, (named-of c.args.script.now.text.now (c.args.at + 1) c.in_ok-end.ensures))
 
 pub next_argument-requires : goal.next_argument-requires
 next_argument-requires c = (told-function c.args.script.now.text.now c.requires.0.0 (name_to c.args.script.now.text.now (c.args.at + 1) c.in_ok-end.end) c.in_ok-entry.entry (c.in_ok-entry.ensures c.requires.0.0 c.requires.0.1) c.in-Function.is).arguments.begin

@@ -1,10 +1,7 @@
 -- `plain_head` meets its contract: the word up to a blank or a bracket, and its kind.
-use Rattle.std.proofs.Common.{arith, lit<}
-use Rattle.script_heads.specs.HeadLaws.{byte-there, open-end, plain-none, plain-head}
+use Rattle.std.proofs.Common.{arith}
+use Rattle.script_heads.specs.HeadLaws.{open-end, plain-none, plain-head}
 use Rattle.script_heads.proofs.plain_head.Goals as goal
-
-pub overflow_add-a : goal.overflow_add-a
-overflow_add-a c = omega (arith, byte-there c.args.s.now c.args.at c.requires.0 (lit< tt))
 
 pub returns-then-a-s : goal.returns-then-a-s
 returns-then-a-s c = open-end c.args.s.now c.args.at c.requires.0 (omega (arith, c.if-a-s.true))

@@ -7,16 +7,9 @@ use Rattle.script_heads.proofs.stores_at.Goals as goal
 pub loop-q-init : goal.loop-q-init
 loop-q-init c = opening-start c.requires
 
-pub literal-requires : goal.literal-requires
-literal-requires c = c.loop-q.invariant.high
-
 pub returns : goal.returns
 unfolding bytes
 returns c = opening-end c.loop-q.invariant c.in_default.ensures
-
-pub overflow_add-n : goal.overflow_add-n
-unfolding bytes
-overflow_add-n c = omega (arith, opening-less c.args.s.now c.loop-q.p c.in-Some.q c.loop-q.invariant.high c.in-Some.ensures.0 c.in-Some.ensures.1, c.loop-q.invariant.place, c.loop-q.invariant.high, c.in-Some.ensures.0)
 
 pub loop-q-smaller : goal.loop-q-smaller
 unfolding bytes

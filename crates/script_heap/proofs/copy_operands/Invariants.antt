@@ -1,4 +1,4 @@
--- `copy_operands` meets its contract: at each turn the operands up to place i are side entries.
+-- `copy_operands` meets its contract: at each turn the first i operands are side entries.
 use Rattle.std.proofs.Common.{◌≡◌, take, drop}
 use Rattle.heap_laws.specs.Heap.{halves}
 use Rattle.heap_laws.specs.Filled.{filled}

@@ -1,6 +1,7 @@
--- `number_in` meets its contract: at each turn i bits are stored, and v is left of the number.
-use Rattle.heap_laws.specs.Candidates.{Halving}
+-- `number_in` meets its contract: at each turn the bits so far are stored, and v is left of the number.
+use Rattle.std.proofs.Common.{◌≡◌, ◌++◌, ◌-◌, take}
+use Rattle.readback.specs.Rebuild.{low_bits}
 use Rattle.script_heap.proofs.number_in.Given as goal
 
-abbrev pub invariant-loop-i : goal.invariant-loop-i
-invariant-loop-i l = Halving l.initial.bits l.bits l.at l.w l.value l.i l.v
+abbrev pub invariant-loop-bit : goal.invariant-loop-bit
+invariant-loop-bit l = take l.bit-index l.bit-items ++ low_bits (l.w - l.bit-index) l.v ≡ low_bits l.w l.value

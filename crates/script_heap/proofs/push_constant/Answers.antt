@@ -6,4 +6,4 @@ use Rattle.script_heap.specs.Told.{Pushed}
 use Rattle.script_heap.proofs.push_constant.Goals as goal
 
 pub returns-clause-pushed : goal.returns-clause-pushed
-returns-clause-pushed c = λ records bits t refs h w. subst (λ (x : Ref). Pushed c.args.s.now c.push.new.heap refs x c.push.result) (ref-constant c.args.s.now c.args.p) (c.push.ensures.pushed records bits t c.args.s.now refs h w)
+returns-clause-pushed c = λ records bits t refs h w. subst (λ (x : Ref). Pushed c.args.s.now c.push.new.heap refs x c.push.result) (ref-constant c.args.s.now c.args.p) (c.push.ensures.pushed c.args.s.now records bits t refs h w)

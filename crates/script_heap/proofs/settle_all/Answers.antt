@@ -1,8 +1,8 @@
 -- `settle_all` meets its contract: at each turn the operands up to place i are nodes.
 use Rattle.std.proofs.Common.{◌<◌, length, get_or, arith}
+use Rattle.std.proofs.lemmas.Result.{err_from_is_err_and}
 use Rattle.heap_laws.specs.Heap.{ref_at}
-use Rattle.heap_laws.specs.Going.{reached, going-none, going-ref, going-over, going_more, going-all, stacked-any}
-use Rattle.script_heap.specs.Constants.{ref_over, ref-at, half_at}
+use Rattle.heap_laws.specs.Going.{going-none, going-ref, going-over, going_more, going-all, stacked-any}
 use Rattle.script_heap.proofs.settle_all.Goals as goal
 
 pub loop-i-init : goal.loop-i-init
@@ -16,18 +16,15 @@ returns-in_err-m c =
     λ t refs h w.
     (let g = c.loop-i.invariant t refs h w in
     let l : c.loop-i.i < length refs = omega (arith, w.top) in
-    rw c.from_residual.ensures (going-over c.args.s.now g l (ref_at c.args.s.now (get_or c.loop-i.heap.stack c.loop-i.i 0)) (going-ref c.args.s.now g l)
-    (ref_over c.loop-i.heap c.settle_one.new.heap (ref_at c.args.s.now (get_or c.loop-i.heap.stack c.loop-i.i 0)) (reached t refs c.args.base c.loop-i.i) c.settle_one.result (c.settle_one.ensures.told _ g.held) c.in_err-m.was)))
-
-pub overflow_mul-heap : goal.overflow_mul-heap
-overflow_mul-heap c = record { fits = half_at c.settle_one.result c.in_ok-m.m c.in_ok-m.was c.settle_one.ensures.half }
+    let p = err_from_is_err_and c.from_residual.result c.from_residual.ensures.1 in
+    rw p.1 (going-over c.args.s.now g l (ref_at c.args.s.now (get_or c.loop-i.heap.stack c.loop-i.i 0)) (going-ref c.args.s.now g l) (c.in_err-m.ensures.told _ g.held)))
 
 pub loop-i-preserved : goal.loop-i-preserved
 loop-i-preserved c =
     λ t refs h w.
     (let g = c.loop-i.invariant t refs h w in
     let l : c.loop-i.i < length refs = omega (arith, w.top) in
-    let q = ref-at c.loop-i.heap c.settle_one.new.heap (ref_at c.args.s.now (get_or c.loop-i.heap.stack c.loop-i.i 0)) (reached t refs c.args.base c.loop-i.i) c.settle_one.result c.in_ok-m.m (c.settle_one.ensures.told _ g.held) c.in_ok-m.was in
+    let q = c.in_ok-m.ensures.told _ g.held in
     going_more c.args.s.now g l (ref_at c.args.s.now (get_or c.loop-i.heap.stack c.loop-i.i 0)) c.in_ok-m.m (going-ref c.args.s.now g l) q.0 q.1 q.2 q.3)
 
 pub returns : goal.returns

@@ -5,9 +5,6 @@ use Rattle.heap_laws.specs.Settling.{over-wide}
 use Rattle.script_heap.specs.Constants.{bit-room, held-filled, told-filled, digits-filled, digits_long}
 use Rattle.script_heap.proofs.settle_digits.Goals as goal
 
-pub overflow_sub-w : goal.overflow_sub-w
-overflow_sub-w c = c.digits_to-e.ensures.low
-
 pub returns-then-w-gt-MAX_BITS : goal.returns-then-w-gt-MAX_BITS
 returns-then-w-gt-MAX_BITS c = λ t h. over-wide (bits_at c.args.s.now c.args.p) t (omega (arith, digits_long c.args.s.now c.args.p c.digits_to-e.result c.digits_to-e.ensures, c.if-w-gt-MAX_BITS.true))
 

@@ -1,30 +1,48 @@
--- `chained` meets its contract: at each turn no line from the number on has the name.
+-- `chained` meets its contract: at each turn no line from the linked one on has the name.
 use Prim.Native.Nat.{◌-◌}
 use mathlib.Core.Path.{sym, ◌∙◌}
 use native.Mathlib.Omega.{arith}
 use lib.ListN.{drop}
+use Rattle.std.proofs.Common.{ap}
 use Rattle.script_tokens.specs.Reached.{between}
-use Rattle.script_names.specs.Entries.{entry_from, place_of}
-use Rattle.script_names.specs.Laws.{walked-bound, walk_start, walk_inside, walk_step, walk-less, walk_end, name-same}
+use Rattle.script_names.specs.Entries.{link_of}
+use Rattle.script_names.specs.Laws.{walk_start, walk-at, walk_inside, walk_step, walk-less, walk_end, line-same, line-found}
 use Rattle.script_names.proofs.chained.Goals as goal
 
-pub loop-c-init : goal.loop-c-init
-loop-c-init c = walk_start c.args.s.now (drop c.args.lines.first c.args.s.now) c.args.t.now c.args.lines.count (between c.args.s.now c.args.a (c.args.f - 1)) _ (c.requires.2.chains c.requires.0) c.hash_part.ensures.0 c.hash_part.ensures.1
+pub loop-link-init : goal.loop-link-init
+loop-link-init c = walk_start c.args.s.now (drop c.args.lines.first c.args.s.now) c.args.t.now c.args.lines.count (between c.args.s.now c.args.a (c.args.f - 1)) _ (c.requires.2.chains c.requires.0) c.hash_of.ensures.0 c.hash_of.ensures.1
 
-pub offset_bounds-t-c : goal.offset_bounds-t-c
-offset_bounds-t-c c = omega (arith, walked-bound c.loop-c.c c.loop-c.invariant, c.loop-c-test.true, c.requires.0)
+pub bounds-t-line : goal.bounds-t-line
+bounds-t-line c =
+    let i = walk_inside c.args.s.now (drop c.args.lines.first c.args.s.now) c.args.t.now c.args.lines.count (between c.args.s.now c.args.a (c.args.f - 1)) c.from-line.result (c.requires.2.chains c.requires.0) (walk-at c.loop-link.invariant c.in-Some.is c.from-line.ensures) in
+    omega (arith, i, c.requires.0)
 
-pub bounds-t-c : goal.bounds-t-c
-bounds-t-c c = omega (arith, walked-bound c.loop-c.c c.loop-c.invariant, c.loop-c-test.true, c.requires.0)
+pub stands-requires : goal.stands-requires
+stands-requires c =
+    let i = walk_inside c.args.s.now (drop c.args.lines.first c.args.s.now) c.args.t.now c.args.lines.count (between c.args.s.now c.args.a (c.args.f - 1)) c.from-line.result (c.requires.2.chains c.requires.0) (walk-at c.loop-link.invariant c.in-Some.is c.from-line.ensures) in
+    (c.requires.2.chains c.requires.0).place c.from-line.result i
 
 pub returns-then-stands : goal.returns-then-stands
-returns-then-stands c = (walk_inside c.args.s.now (drop c.args.lines.first c.args.s.now) c.args.t.now c.args.lines.count (between c.args.s.now c.args.a (c.args.f - 1)) c.loop-c.c (c.requires.2.chains c.requires.0) c.loop-c.invariant c.loop-c-test.true, (c.requires.2.chains c.requires.0).place (c.loop-c.c - 1) (walk_inside c.args.s.now (drop c.args.lines.first c.args.s.now) c.args.t.now c.args.lines.count (between c.args.s.now c.args.a (c.args.f - 1)) c.loop-c.c (c.requires.2.chains c.requires.0) c.loop-c.invariant c.loop-c-test.true), (c.requires.2.chains c.requires.0).entry (c.loop-c.c - 1) (walk_inside c.args.s.now (drop c.args.lines.first c.args.s.now) c.args.t.now c.args.lines.count (between c.args.s.now c.args.a (c.args.f - 1)) c.loop-c.c (c.requires.2.chains c.requires.0) c.loop-c.invariant c.loop-c-test.true), sym (name-same c.args.s.now c.args.a c.args.f (place_of c.args.t.now (c.loop-c.c - 1)) (entry_from (c.loop-c.c - 1) (drop c.args.lines.first c.args.s.now)) c.requires.1 ((c.requires.2.chains c.requires.0).entry (c.loop-c.c - 1) (walk_inside c.args.s.now (drop c.args.lines.first c.args.s.now) c.args.t.now c.args.lines.count (between c.args.s.now c.args.a (c.args.f - 1)) c.loop-c.c (c.requires.2.chains c.requires.0) c.loop-c.invariant c.loop-c-test.true)) (c.requires.2.closed (c.loop-c.c - 1) (walk_inside c.args.s.now (drop c.args.lines.first c.args.s.now) c.args.t.now c.args.lines.count (between c.args.s.now c.args.a (c.args.f - 1)) c.loop-c.c (c.requires.2.chains c.requires.0) c.loop-c.invariant c.loop-c-test.true))) ∙ sym c.stands.ensures ∙ c.if-stands.true)
+returns-then-stands c =
+    let i = walk_inside c.args.s.now (drop c.args.lines.first c.args.s.now) c.args.t.now c.args.lines.count (between c.args.s.now c.args.a (c.args.f - 1)) c.from-line.result (c.requires.2.chains c.requires.0) (walk-at c.loop-link.invariant c.in-Some.is c.from-line.ensures) in
+    line-found c.requires.1 c.requires.2 c.requires.0 c.from-line.result i (sym c.stands.ensures ∙ c.if-stands.true)
 
-pub loop-c-smaller : goal.loop-c-smaller
-loop-c-smaller c = walk-less c.args.s.now (drop c.args.lines.first c.args.s.now) c.args.t.now c.args.lines.count (between c.args.s.now c.args.a (c.args.f - 1)) c.loop-c.c (c.requires.2.chains c.requires.0) c.loop-c.invariant c.loop-c-test.true
+pub bounds-t-line-in-Some : goal.bounds-t-line-in-Some
+bounds-t-line-in-Some c =
+    let i = walk_inside c.args.s.now (drop c.args.lines.first c.args.s.now) c.args.t.now c.args.lines.count (between c.args.s.now c.args.a (c.args.f - 1)) c.from-line.result (c.requires.2.chains c.requires.0) (walk-at c.loop-link.invariant c.in-Some.is c.from-line.ensures) in
+    omega (arith, i, c.requires.0)
 
-pub loop-c-preserved : goal.loop-c-preserved
-loop-c-preserved c = walk_step c.args.s.now (drop c.args.lines.first c.args.s.now) c.args.t.now c.args.lines.count (between c.args.s.now c.args.a (c.args.f - 1)) c.loop-c.c (c.requires.2.chains c.requires.0) c.loop-c.invariant c.loop-c-test.true (sym (name-same c.args.s.now c.args.a c.args.f (place_of c.args.t.now (c.loop-c.c - 1)) (entry_from (c.loop-c.c - 1) (drop c.args.lines.first c.args.s.now)) c.requires.1 ((c.requires.2.chains c.requires.0).entry (c.loop-c.c - 1) (walk_inside c.args.s.now (drop c.args.lines.first c.args.s.now) c.args.t.now c.args.lines.count (between c.args.s.now c.args.a (c.args.f - 1)) c.loop-c.c (c.requires.2.chains c.requires.0) c.loop-c.invariant c.loop-c-test.true)) (c.requires.2.closed (c.loop-c.c - 1) (walk_inside c.args.s.now (drop c.args.lines.first c.args.s.now) c.args.t.now c.args.lines.count (between c.args.s.now c.args.a (c.args.f - 1)) c.loop-c.c (c.requires.2.chains c.requires.0) c.loop-c.invariant c.loop-c-test.true))) ∙ sym c.stands.ensures ∙ c.if-stands.false)
+pub loop-link-smaller : goal.loop-link-smaller
+loop-link-smaller c =
+    let l = walk-less c.args.s.now (drop c.args.lines.first c.args.s.now) c.args.t.now c.args.lines.count (between c.args.s.now c.args.a (c.args.f - 1)) c.from-line.result (c.requires.2.chains c.requires.0) (walk-at c.loop-link.invariant c.in-Some.is c.from-line.ensures) in
+    omega (arith, l, c.from-line.ensures, ap link_of c.in-Some.is)
+
+pub loop-link-preserved : goal.loop-link-preserved
+loop-link-preserved c =
+    let w = walk-at c.loop-link.invariant c.in-Some.is c.from-line.ensures in
+    let i = walk_inside c.args.s.now (drop c.args.lines.first c.args.s.now) c.args.t.now c.args.lines.count (between c.args.s.now c.args.a (c.args.f - 1)) c.from-line.result (c.requires.2.chains c.requires.0) w in
+    walk_step c.args.s.now (drop c.args.lines.first c.args.s.now) c.args.t.now c.args.lines.count (between c.args.s.now c.args.a (c.args.f - 1)) c.from-line.result (c.requires.2.chains c.requires.0) w
+    (sym (line-same c.requires.1 c.requires.2 c.requires.0 c.from-line.result i) ∙ sym c.stands.ensures ∙ c.if-stands.false)
 
 pub returns : goal.returns
-returns c = walk_end c.loop-c.invariant c.loop-c-test.false
+returns c = λ j m. walk_end c.loop-link.invariant (omega (arith, ap link_of c.in_default.is)) j m

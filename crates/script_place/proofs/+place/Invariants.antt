@@ -7,8 +7,8 @@ use Rattle.script_place.proofs.+place.Given as goal
 abbrev pub decreases-place : goal.decreases-place
 decreases-place l = length l.script.now.text.now - l.at
 
-abbrev pub invariant-loop-w : goal.invariant-loop-w
-invariant-loop-w l = Turning l.script.text.now l.script.table.now l.script.header l.initial.heap l.at l.levels l.x l.heap l.base l.w l.e l.v
+abbrev pub invariant-loop-heap : goal.invariant-loop-heap
+invariant-loop-heap l = Turning l.script.text.now l.script.table.now l.script.header l.initial.heap l.at l.levels l.x l.heap l.base l.w l.e l.v
 
-abbrev pub decreases-loop-w : goal.decreases-loop-w
-decreases-loop-w l = length l.script.text.now - l.e
+abbrev pub decreases-loop-heap : goal.decreases-loop-heap
+decreases-loop-heap l = length l.script.text.now - l.e

@@ -1,57 +1,49 @@
--- `closed` meets its contract: the term has its node, by its head.
-use mathlib.Core.Path.{subst}
-use native.Mathlib.Omega.{arith}
-use Rattle.script_heads.specs.declared.Head.{Head}
-use Rattle.script_place.specs.Terms.{Opening, Closing}
-use Rattle.script_place.specs.Closing.{first-numeral, second-numeral, ending, bracket-low, closed-placed, numerals, operator-put, operator-leaf, operator_amounts, operator-ends, operator-rule, operator-width}
+-- `closed` meets its contract: the term has its node, by its head, if there was room for it.
+use Rattle.std.proofs.Common.{ap, Ok}
+use Rattle.std.proofs.lemmas.Result.{err_from_is_err_and}
+use Rattle.script_place.specs.Closing.{first-numeral, second-numeral, ending, closing-as, closed-placed, closed-over, numerals, operator-put, operator-leaf, operator_amounts, operator-ends, operator-rule, operator-width}
 use Rattle.script_place.specs.Closing.{call-leaf, call-width, call-put, select-leaf, select-width, select-many, select-top, select-put}
 use Rattle.script_place.proofs.closed.Goals as goal
 
-pub end_operator-r-requires : goal.end_operator-r-requires
-end_operator-r-requires c = let k = (subst (λ (y : Head). Closing c.args.s.now c.args.heap.now y c.args.base c.args.v c.args.e c.requires.at c.requires.declarations c.requires.tree c.requires.sort c.requires.rest c.requires.first c.requires.refs) c.in-Operator.is c.requires.closing) in (k.now, c.requires.refs, k.rs, ending k)
+pub result_width-width-requires : goal.result_width-width-requires
+result_width-width-requires c = operator-rule (closing-as c.requires.closing c.in-Operator.is) c.numeral_or_zero-a.result c.numeral_or_zero-b.result c.unwrap_or-w.result (first-numeral c.in-Operator.numerals c.in-Operator.first c.in-Operator.second c.numeral_or_zero-a.result c.numeral_or_zero-a.ensures.0 c.numeral_or_zero-a.ensures.1) (second-numeral c.in-Operator.numerals c.in-Operator.first c.in-Operator.second c.numeral_or_zero-b.result c.numeral_or_zero-b.ensures.0 c.numeral_or_zero-b.ensures.1) c.unwrap_or-w.ensures c.unwrap_or.result c.unwrap_or.ensures
 
-pub result_width-requires : goal.result_width-requires
-result_width-requires c = operator-rule (subst (λ (y : Head). Closing c.args.s.now c.args.heap.now y c.args.base c.args.v c.args.e c.requires.at c.requires.declarations c.requires.tree c.requires.sort c.requires.rest c.requires.first c.requires.refs) c.in-Operator.is c.requires.closing) c.numeral_or_zero-a.result c.numeral_or_zero-b.result (first-numeral c.in-Operator.numerals c.in-Operator.first c.in-Operator.second c.numeral_or_zero-a.result c.numeral_or_zero-a.ensures.0 c.numeral_or_zero-a.ensures.1) (second-numeral c.in-Operator.numerals c.in-Operator.first c.in-Operator.second c.numeral_or_zero-b.result c.numeral_or_zero-b.ensures.0 c.numeral_or_zero-b.ensures.1)
+pub end_select-requires-clause-stores : goal.end_select-requires-clause-stores
+end_select-requires-clause-stores c = select-top (closing-as c.requires.closing c.in-Select.is)
 
-pub overflow_add-e : goal.overflow_add-e
-overflow_add-e c = omega (arith, bracket-low c.requires.closing)
+pub returns-in_err-node-in-Operator : goal.returns-in_err-node-in-Operator
+returns-in_err-node-in-Operator c = λ at D tree sort rest first refs cl levels side.
+    let k = closing-as cl c.in-Operator.is in
+    let p = err_from_is_err_and c.from_residual.result c.from_residual.ensures.1 in
+    rw (p.1, p.2) (closed-over k c.end_operator.new.heap _ (operator-put k) _ (c.in_err-node-in-Operator.ensures k.now refs k.rs (numerals k) (operator_amounts k) (ending k) (operator-ends k c.numeral_or_zero-a.result c.numeral_or_zero-b.result c.unwrap_or-w.result (first-numeral c.in-Operator.numerals c.in-Operator.first c.in-Operator.second c.numeral_or_zero-a.result c.numeral_or_zero-a.ensures.0 c.numeral_or_zero-a.ensures.1) (second-numeral c.in-Operator.numerals c.in-Operator.first c.in-Operator.second c.numeral_or_zero-b.result c.numeral_or_zero-b.ensures.0 c.numeral_or_zero-b.ensures.1) c.unwrap_or-w.ensures)) levels side)
 
-pub end_call-r-requires : goal.end_call-r-requires
-end_call-r-requires c = let k = (subst (λ (y : Head). Closing c.args.s.now c.args.heap.now y c.args.base c.args.v c.args.e c.requires.at c.requires.declarations c.requires.tree c.requires.sort c.requires.rest c.requires.first c.requires.refs) c.in-Call.is c.requires.closing) in (k.now, c.requires.refs, k.rs, ending k)
+pub returns-in_ok-node-in-Operator : goal.returns-in_ok-node-in-Operator
+returns-in_ok-node-in-Operator c = λ at D tree sort rest first refs cl levels side.
+    let k = closing-as cl c.in-Operator.is in
+    closed-placed k c.end_operator.new.heap _ (operator-put k) (operator-leaf k) (Ok c.in_ok-node-in-Operator.node) c.result_width-width.result (Ok c.placed_at.result)
+    (operator-width k c.numeral_or_zero-a.result c.numeral_or_zero-b.result c.unwrap_or-w.result (first-numeral c.in-Operator.numerals c.in-Operator.first c.in-Operator.second c.numeral_or_zero-a.result c.numeral_or_zero-a.ensures.0 c.numeral_or_zero-a.ensures.1) (second-numeral c.in-Operator.numerals c.in-Operator.first c.in-Operator.second c.numeral_or_zero-b.result c.numeral_or_zero-b.ensures.0 c.numeral_or_zero-b.ensures.1) c.unwrap_or-w.ensures c.unwrap_or.result c.unwrap_or.ensures c.result_width-width.result c.result_width-width.ensures)
+    (c.in_ok-node-in-Operator.ensures k.now refs k.rs (numerals k) (operator_amounts k) (ending k) (operator-ends k c.numeral_or_zero-a.result c.numeral_or_zero-b.result c.unwrap_or-w.result (first-numeral c.in-Operator.numerals c.in-Operator.first c.in-Operator.second c.numeral_or_zero-a.result c.numeral_or_zero-a.ensures.0 c.numeral_or_zero-a.ensures.1) (second-numeral c.in-Operator.numerals c.in-Operator.first c.in-Operator.second c.numeral_or_zero-b.result c.numeral_or_zero-b.ensures.0 c.numeral_or_zero-b.ensures.1) c.unwrap_or-w.ensures)) (ap Ok c.placed_at.ensures) levels side
 
-pub overflow_add-e-in-Call : goal.overflow_add-e-in-Call
-overflow_add-e-in-Call c = omega (arith, bracket-low c.requires.closing)
+pub returns-in_err-node-in-Call : goal.returns-in_err-node-in-Call
+returns-in_err-node-in-Call c = λ at D tree sort rest first refs cl levels side.
+    let k = closing-as cl c.in-Call.is in
+    let p = err_from_is_err_and c.from_residual-in_err-node-in-Call.result c.from_residual-in_err-node-in-Call.ensures.1 in
+    rw (p.1, p.2) (closed-over k c.end_call.new.heap _ (call-put k) _ (c.in_err-node-in-Call.ensures k.now refs k.rs (ending k)) levels side)
 
-pub end_select-r-requires : goal.end_select-r-requires
-end_select-r-requires c = let k = (subst (λ (y : Head). Closing c.args.s.now c.args.heap.now y c.args.base c.args.v c.args.e c.requires.at c.requires.declarations c.requires.tree c.requires.sort c.requires.rest c.requires.first c.requires.refs) c.in-Select.is c.requires.closing) in record { ends = (k.now, c.requires.refs, k.rs, ending k); stores = select-top k }
+pub returns-in_ok-node-in-Call : goal.returns-in_ok-node-in-Call
+returns-in_ok-node-in-Call c = λ at D tree sort rest first refs cl levels side.
+    let k = closing-as cl c.in-Call.is in
+    closed-placed k c.end_call.new.heap _ (call-put k) (call-leaf k) (Ok c.in_ok-node-in-Call.node) c.in-Call.width (Ok c.placed_at-in-Call.result)
+    (call-width k) (c.in_ok-node-in-Call.ensures k.now refs k.rs (ending k)) (ap Ok c.placed_at-in-Call.ensures) levels side
 
-pub overflow_add-e-in-Select : goal.overflow_add-e-in-Select
-overflow_add-e-in-Select c = omega (arith, bracket-low c.requires.closing)
+pub returns-in_err-node-in-Select : goal.returns-in_err-node-in-Select
+returns-in_err-node-in-Select c = λ at D tree sort rest first refs cl levels side.
+    let k = closing-as cl c.in-Select.is in
+    let p = err_from_is_err_and c.from_residual-in_err-node-in-Select.result c.from_residual-in_err-node-in-Select.ensures.1 in
+    rw (p.1, p.2) (closed-over k c.end_select.new.heap _ (select-put k) _ (c.in_err-node-in-Select.ensures k.now refs k.rs (ending k) (select-many k)) levels side)
 
-pub returns-in-Operator : goal.returns-in-Operator
-returns-in-Operator c = λ at D tree sort rest first refs cl levels side.
-    let k = (subst (λ (y : Head). Closing c.args.s.now c.args.heap.now y c.args.base c.args.v c.args.e at D tree sort rest first refs) c.in-Operator.is cl) in
-    closed-placed k c.end_operator-r.new.heap _ (operator-put k) (operator-leaf k) c.end_operator-r.result c.result_width.result c.finished.result
-    (operator-width k c.numeral_or_zero-a.result c.numeral_or_zero-b.result (first-numeral c.in-Operator.numerals c.in-Operator.first c.in-Operator.second c.numeral_or_zero-a.result c.numeral_or_zero-a.ensures.0 c.numeral_or_zero-a.ensures.1) (second-numeral c.in-Operator.numerals c.in-Operator.first c.in-Operator.second c.numeral_or_zero-b.result c.numeral_or_zero-b.ensures.0 c.numeral_or_zero-b.ensures.1) c.result_width.result c.result_width.ensures)
-    (c.end_operator-r.ensures k.now refs k.rs (numerals k) (operator_amounts k) (ending k) (operator-ends k c.numeral_or_zero-a.result c.numeral_or_zero-b.result (first-numeral c.in-Operator.numerals c.in-Operator.first c.in-Operator.second c.numeral_or_zero-a.result c.numeral_or_zero-a.ensures.0 c.numeral_or_zero-a.ensures.1) (second-numeral c.in-Operator.numerals c.in-Operator.first c.in-Operator.second c.numeral_or_zero-b.result c.numeral_or_zero-b.ensures.0 c.numeral_or_zero-b.ensures.1))) c.finished.ensures levels side
-
-pub returns-in-Call : goal.returns-in-Call
-returns-in-Call c = λ at D tree sort rest first refs cl levels side.
-    let k = (subst (λ (y : Head). Closing c.args.s.now c.args.heap.now y c.args.base c.args.v c.args.e at D tree sort rest first refs) c.in-Call.is cl) in
-    closed-placed k c.end_call-r.new.heap _ (call-put k) (call-leaf k) c.end_call-r.result c.in-Call.width c.finished-in-Call.result
-    (call-width k) (c.end_call-r.ensures k.now refs k.rs (ending k)) c.finished-in-Call.ensures levels side
-
-pub returns-in-Select : goal.returns-in-Select
-returns-in-Select c = λ at D tree sort rest first refs cl levels side.
-    let k = (subst (λ (y : Head). Closing c.args.s.now c.args.heap.now y c.args.base c.args.v c.args.e at D tree sort rest first refs) c.in-Select.is cl) in
-    closed-placed k c.end_select-r.new.heap _ (select-put k) (select-leaf k) c.end_select-r.result c.in-Select.value c.finished-in-Select.result
-    (select-width k) (c.end_select-r.ensures k.now refs k.rs (ending k) (select-many k)) c.finished-in-Select.ensures levels side
-
-pub returns-in-Constant : goal.returns-in-Constant
-returns-in-Constant c = λ at D tree sort rest first refs cl levels side r. subst (λ (y : Head). Opening y) c.in-Constant.is cl.opens
-
-pub returns-in-Variable : goal.returns-in-Variable
-returns-in-Variable c = λ at D tree sort rest first refs cl levels side r. subst (λ (y : Head). Opening y) c.in-Variable.is cl.opens
-
-pub returns-in-Nullary : goal.returns-in-Nullary
-returns-in-Nullary c = λ at D tree sort rest first refs cl levels side r. subst (λ (y : Head). Opening y) c.in-Nullary.is cl.opens
+pub returns-in_ok-node-in-Select : goal.returns-in_ok-node-in-Select
+returns-in_ok-node-in-Select c = λ at D tree sort rest first refs cl levels side.
+    let k = closing-as cl c.in-Select.is in
+    closed-placed k c.end_select.new.heap _ (select-put k) (select-leaf k) (Ok c.in_ok-node-in-Select.node) c.in-Select.value (Ok c.placed_at-in-Select.result)
+    (select-width k) (c.in_ok-node-in-Select.ensures k.now refs k.rs (ending k) (select-many k)) (ap Ok c.placed_at-in-Select.ensures) levels side

@@ -7,7 +7,7 @@ use Rattle.script_reader.specs.Outputs.{ready-few, ready-nodes, ready-variables,
 use Rattle.script_reader.proofs.read_script.Goals as goal
 
 pub decide-requires : goal.decide-requires
-decide-requires c = (c.new-t.ensures, c.no_nodes-heap.ensures.held, c.no_nodes-heap.ensures.stacked _, fresh-roots, ap length c.room-room.ensures)
+decide-requires c = (c.new-t.ensures, c.new-heap.ensures.held, c.new-heap.ensures.stacked _, fresh-roots, ap length c.room-room.ensures)
 
 pub fill_nodes-requires : goal.fill_nodes-requires
 fill_nodes-requires c = ready-nodes c.in-Ok.ensures (problem_in c.args.outputs.now) c.room-room.ensures

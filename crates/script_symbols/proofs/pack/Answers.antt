@@ -1,20 +1,26 @@
--- `pack` meets its contract: at each turn the bytes from place i on are packed.
-use Rattle.std.proofs.Common.{◌*◌, ◌+◌, ◌-◌, ◌<◌, ap, ◌∙◌, arith, length}
-use Rattle.script_symbols.specs.Packed.{most-six, pack-step, most_step, pack-start, most-start}
+-- `pack` meets its contract: at each turn the last bytes are packed, as many as the loop has passed.
+use Rattle.std.proofs.Common.{length, arith}
+use Rattle.std.proofs.lemmas.List.{length_push}
+use Rattle.std.proofs.lemmas.Iterator.Adapters.{YieldsList-from_rev_slice}
+use Rattle.std.proofs.lemmas.Iterator.Consumers.{YieldsList-turn}
+use Rattle.script_symbols.specs.Packed.{behind-none, behind-fits, behind-more}
 use Rattle.script_symbols.proofs.pack.Goals as goal
 
-pub loop-i-init : goal.loop-i-init
-loop-i-init c = (pack-start c.args.w.now, most-start (length c.args.w.now))
+pub loop-c-init : goal.loop-c-init
+loop-c-init c = behind-none c.args.w.now
 
 pub overflow_mul-v : goal.overflow_mul-v
-overflow_mul-v c = omega (arith, c.loop-i.invariant.1, most-six (length c.args.w.now - c.loop-i.i) (omega (arith, c.requires)))
+overflow_mul-v c =
+    let t = YieldsList-turn (YieldsList-from_rev_slice c.args.w.now cc) c.loop-c.yielded _ c.loop-c.yielded_by _ _ c.in-Some.c c.in-Some.is c.next.ensures.steps in
+    omega (arith, (behind-fits c.args.w.now (length c.loop-c.yielded) c.in-Some.c.now c.loop-c.v t (λ i. omega (arith, c.type_inv.w i)) c.loop-c.invariant c.requires).0)
 
 pub overflow_add-v : goal.overflow_add-v
-overflow_add-v c = omega (arith, c.loop-i.invariant.1, most-six (length c.args.w.now - c.loop-i.i) (omega (arith, c.requires)), c.from.ensures, c.type_inv.w (c.loop-i.i - 1))
+overflow_add-v c =
+    let t = YieldsList-turn (YieldsList-from_rev_slice c.args.w.now cc) c.loop-c.yielded _ c.loop-c.yielded_by _ _ c.in-Some.c c.in-Some.is c.next.ensures.steps in
+    let f = behind-fits c.args.w.now (length c.loop-c.yielded) c.in-Some.c.now c.loop-c.v t (λ i. omega (arith, c.type_inv.w i)) c.loop-c.invariant c.requires in
+    omega (arith, f.0, f.1, c.from.ensures)
 
-pub loop-i-preserved : goal.loop-i-preserved
-loop-i-preserved c =
-    let b : c.from.result < 256 = omega (arith, c.from.ensures, c.type_inv.w (c.loop-i.i - 1)) in (
-      ap (λ x. c.loop-i.v * 256 + x) c.from.ensures ∙ pack-step c.args.w.now c.loop-i.i c.loop-i.v (omega arith) (omega arith) c.loop-i.invariant.0,
-      most_step (length c.args.w.now) c.loop-i.i c.loop-i.v c.from.result (omega arith) (omega arith) c.loop-i.invariant.1 b,
-    )
+pub loop-c-preserved : goal.loop-c-preserved
+loop-c-preserved c =
+    let t = YieldsList-turn (YieldsList-from_rev_slice c.args.w.now cc) c.loop-c.yielded _ c.loop-c.yielded_by _ _ c.in-Some.c c.in-Some.is c.next.ensures.steps in
+    rw (length_push c.loop-c.yielded c.in-Some.c, c.from.ensures) (behind-more c.args.w.now (length c.loop-c.yielded) c.in-Some.c.now c.loop-c.v t (λ i. omega (arith, c.type_inv.w i)) c.loop-c.invariant)

@@ -1,7 +1,7 @@
--- At each turn the bytes from place i on are packed.
-use Rattle.std.proofs.Common.{◌≡◌, ◌-◌, ◌<◌, length, drop}
-use Rattle.script_symbols.specs.Packed.{packed, most}
+-- At each turn the last bytes are packed, as many as the loop has passed.
+use Rattle.std.proofs.Common.{length}
+use Rattle.script_symbols.specs.Packed.{Behind}
 use Rattle.script_symbols.proofs.pack.Given as goal
 
-abbrev pub invariant-loop-i : goal.invariant-loop-i
-invariant-loop-i l = (l.v ≡ packed (drop l.i l.w)) × (l.v < most (length l.w - l.i))
+abbrev pub invariant-loop-c : goal.invariant-loop-c
+invariant-loop-c l = Behind l.w (length l.yielded) l.v

@@ -1,34 +1,49 @@
--- `term` meets its contract. The measure is what is left of the script; the loop keeps what the first turn said of the term.
-use mathlib.Core.Path.{refl}
-use native.Mathlib.Omega.{arith}
-use Rattle.script_terms.specs.TurnLaws.{came, asking-of, sorted_of, left_less}
-use Rattle.script_terms.specs.Lengths.{exact-by, early-by, gone-by}
-use Rattle.script_terms.specs.OperandLaws.{not-zero}
+-- `term` meets its contract. The measure is what is left of the script; the loop keeps what the head said of the term.
+use Rattle.std.proofs.Common.{arith, subst}
+use Rattle.script_terms.specs.declared.TermState.{TermState}
+use Rattle.script_terms.specs.States.{SortAt, told_at}
+use Rattle.script_terms.specs.TurnLaws.{held-usable, came, went, asking-of, sorted_of, told-none}
+use Rattle.script_terms.specs.Lengths.{none-by, early-by, gone-by}
 use Rattle.script_terms.proofs.+term.Goals as goal
 
 pub returns-then-at-end : goal.returns-then-at-end
-returns-then-at-end t c = λ D κ. early-by c.if-at-end.true c.requires.1
+returns-then-at-end t c = λ D κ. early-by c.args.script.now.text.now D c.args.at.now c.args.end c.if-at-end.true c.requires.1
 
-pub turn-on-requires : goal.turn-on-requires
-turn-on-requires t c = (c.requires.0, c.requires.1, λ k. absurd (k refl))
+pub more-requires : goal.more-requires
+more-requires t c = let g = c.loop-at.invariant c.requires.0.0 c.requires.0.1 c.args.at.now (c.begin.ensures c.requires.0.0 c.requires.0.1) in (g.high, held-usable g.held)
 
-pub loop-on-init : goal.loop-on-init
-loop-on-init t c = λ D κ a x. x
+pub term-requires : goal.term-requires
+term-requires t c =
+    let q = asking-of c.args.script.now.text.now c.requires.0.0 c.args.at.now c.more.new.at c.more.new.w (c.more.ensures.0 c.requires.0.0 c.args.at.now (c.loop-at.invariant c.requires.0.0 c.requires.0.1 c.args.at.now (c.begin.ensures c.requires.0.0 c.requires.0.1))).turned c.loop-at-test.true in
+    ((let low = q.low in let high = q.high in omega arith), (c.requires.0, q.high))
 
-pub term-n-requires : goal.term-n-requires
-term-n-requires t c = (omega (arith, (asking-of c.args.script.now.text.now c.requires.0.0 c.args.at.now c.loop-on.at c.loop-on.w (c.loop-on.invariant c.requires.0.0 c.requires.0.1 c.args.at.now ((c.turn-on.ensures c.requires.0.0 c.requires.0.1).begun refl).turned) c.loop-on-test.true).low, (asking-of c.args.script.now.text.now c.requires.0.0 c.args.at.now c.loop-on.at c.loop-on.w (c.loop-on.invariant c.requires.0.0 c.requires.0.1 c.args.at.now ((c.turn-on.ensures c.requires.0.0 c.requires.0.1).begun refl).turned) c.loop-on-test.true).high, c.decreases), (c.requires.0, (asking-of c.args.script.now.text.now c.requires.0.0 c.args.at.now c.loop-on.at c.loop-on.w (c.loop-on.invariant c.requires.0.0 c.requires.0.1 c.args.at.now ((c.turn-on.ensures c.requires.0.0 c.requires.0.1).begun refl).turned) c.loop-on-test.true).high))
+pub returns-in_err-n : goal.returns-in_err-n
+returns-in_err-n t c = λ D κ. rw c.from_residual.ensures (gone-by (asking-of c.args.script.now.text.now D c.args.at.now c.more.new.at c.more.new.w (c.more.ensures.0 D c.args.at.now (c.loop-at.invariant D κ c.args.at.now (c.begin.ensures D κ))).turned c.loop-at-test.true) (c.in_err-n.ensures D κ) c.inner_end.ensures)
 
-pub returns-then-at-eq0 : goal.returns-then-at-eq0
-returns-then-at-eq0 t c = λ D κ. gone-by (asking-of c.args.script.now.text.now D c.args.at.now c.loop-on.at c.loop-on.w (c.loop-on.invariant D κ c.args.at.now ((c.turn-on.ensures D κ).begun refl).turned) c.loop-on-test.true) (c.term-n.ensures D κ) c.inner_end.ensures c.if-at-eq0.true 0
+pub step-requires : goal.step-requires
+step-requires t c = let q = asking-of c.args.script.now.text.now c.requires.0.0 c.args.at.now c.more.new.at c.more.new.w (c.more.ensures.0 c.requires.0.0 c.args.at.now (c.loop-at.invariant c.requires.0.0 c.requires.0.1 c.args.at.now (c.begin.ensures c.requires.0.0 c.requires.0.1))).turned c.loop-at-test.true in (q.state, q.held)
 
-pub turn-on-requires-in-loop-on : goal.turn-on-requires-in-loop-on
-turn-on-requires-in-loop-on t c = (c.requires.0, (c.term-n.ensures c.requires.0.0 c.requires.0.1).high, λ _. ((asking-of c.args.script.now.text.now c.requires.0.0 c.args.at.now c.loop-on.at c.loop-on.w (c.loop-on.invariant c.requires.0.0 c.requires.0.1 c.args.at.now ((c.turn-on.ensures c.requires.0.0 c.requires.0.1).begun refl).turned) c.loop-on-test.true).state, (asking-of c.args.script.now.text.now c.requires.0.0 c.args.at.now c.loop-on.at c.loop-on.w (c.loop-on.invariant c.requires.0.0 c.requires.0.1 c.args.at.now ((c.turn-on.ensures c.requires.0.0 c.requires.0.1).begun refl).turned) c.loop-on-test.true).held))
+pub loop-at-smaller : goal.loop-at-smaller
+loop-at-smaller t c =
+    let x = c.in_ok-n.ensures c.requires.0.0 c.requires.0.1 in
+    let low = x.0 in
+    let high = x.1 in
+    let further = (c.more.ensures.0 c.requires.0.0 c.args.at.now (c.loop-at.invariant c.requires.0.0 c.requires.0.1 c.args.at.now (c.begin.ensures c.requires.0.0 c.requires.0.1))).further c.loop-at-test.true in
+    omega arith
 
-pub loop-on-smaller : goal.loop-on-smaller
-loop-on-smaller t c = left_less c.args.script.now.text.now c.loop-on.at _ c.loop-on.on c.turn-on-in-loop-on.result c.loop-on-test.true (asking-of c.args.script.now.text.now c.requires.0.0 c.args.at.now c.loop-on.at c.loop-on.w (c.loop-on.invariant c.requires.0.0 c.requires.0.1 c.args.at.now ((c.turn-on.ensures c.requires.0.0 c.requires.0.1).begun refl).turned) c.loop-on-test.true).high (λ e. (omega (arith, ((c.turn-on-in-loop-on.ensures c.requires.0.0 c.requires.0.1).gone_on (asking-of c.args.script.now.text.now c.requires.0.0 c.args.at.now c.loop-on.at c.loop-on.w (c.loop-on.invariant c.requires.0.0 c.requires.0.1 c.args.at.now ((c.turn-on.ensures c.requires.0.0 c.requires.0.1).begun refl).turned) c.loop-on-test.true).begun c.args.at.now (came (asking-of c.args.script.now.text.now c.requires.0.0 c.args.at.now c.loop-on.at c.loop-on.w (c.loop-on.invariant c.requires.0.0 c.requires.0.1 c.args.at.now ((c.turn-on.ensures c.requires.0.0 c.requires.0.1).begun refl).turned) c.loop-on-test.true) (c.term-n.ensures c.requires.0.0 c.requires.0.1) c.if-at-eq0.false)).further e, (c.term-n.ensures c.requires.0.0 c.requires.0.1).low (not-zero _ c.if-at-eq0.false)), (asking-of c.args.script.now.text.now c.requires.0.0 c.args.at.now c.turn-on-in-loop-on.new.at c.turn-on-in-loop-on.new.w ((c.turn-on-in-loop-on.ensures c.requires.0.0 c.requires.0.1).gone_on (asking-of c.args.script.now.text.now c.requires.0.0 c.args.at.now c.loop-on.at c.loop-on.w (c.loop-on.invariant c.requires.0.0 c.requires.0.1 c.args.at.now ((c.turn-on.ensures c.requires.0.0 c.requires.0.1).begun refl).turned) c.loop-on-test.true).begun c.args.at.now (came (asking-of c.args.script.now.text.now c.requires.0.0 c.args.at.now c.loop-on.at c.loop-on.w (c.loop-on.invariant c.requires.0.0 c.requires.0.1 c.args.at.now ((c.turn-on.ensures c.requires.0.0 c.requires.0.1).begun refl).turned) c.loop-on-test.true) (c.term-n.ensures c.requires.0.0 c.requires.0.1) c.if-at-eq0.false)).turned e).high))
+pub loop-at-preserved : goal.loop-at-preserved
+loop-at-preserved t c = λ D κ a x.
+    let q = asking-of c.args.script.now.text.now D a c.more.new.at c.more.new.w (c.more.ensures.0 D a (c.loop-at.invariant D κ a x)).turned c.loop-at-test.true in
+    let u = came {n = c.in_ok-n.n} {e = c.term.new.at} q (c.in_ok-n.ensures D κ) in
+    went u (c.step.ensures u.state u.held)
 
-pub loop-on-preserved : goal.loop-on-preserved
-loop-on-preserved t c = λ D κ a x. let q = asking-of c.args.script.now.text.now D a c.loop-on.at c.loop-on.w (c.loop-on.invariant D κ a x) c.loop-on-test.true in ((c.turn-on-in-loop-on.ensures D κ).gone_on q.begun a (came q (c.term-n.ensures D κ) c.if-at-eq0.false)).turned
+pub returns-in-Done : goal.returns-in-Done
+returns-in-Done t c = λ D κ.
+    subst (λ (w : TermState). SortAt c.args.script.now.text.now D c.args.at.now (told_at w c.more.new.at)) c.in-Done.is
+    (sorted_of c.args.script.now.text.now D c.args.at.now c.more.new.at c.more.new.w (c.more.ensures.0 D c.args.at.now (c.loop-at.invariant D κ c.args.at.now (c.begin.ensures D κ))).turned c.loop-at-test.false)
 
-pub returns : goal.returns
-returns t c = λ D κ. exact-by (sorted_of c.args.script.now.text.now D c.args.at.now c.loop-on.at c.loop-on.w (c.loop-on.invariant D κ c.args.at.now ((c.turn-on.ensures D κ).begun refl).turned) c.loop-on-test.false)
+pub returns-in_default : goal.returns-in_default
+returns-in_default t c = λ D κ.
+    none-by c.args.script.now.text.now D c.args.at.now c.args.end
+    (subst (SortAt c.args.script.now.text.now D c.args.at.now) (told-none c.more.new.w c.more.new.at c.in_default.not-Done)
+    (sorted_of c.args.script.now.text.now D c.args.at.now c.more.new.at c.more.new.w (c.more.ensures.0 D c.args.at.now (c.loop-at.invariant D κ c.args.at.now (c.begin.ensures D κ))).turned c.loop-at-test.false))

@@ -1,56 +1,51 @@
--- `after_vector` meets its contract: one law for each code.
-use native.Mathlib.Omega.{arith}
-use Rattle.script_terms.specs.declared.Code.TheVariants.{Rotation, Extraction, Same, Index, Value}
-use Rattle.script_terms.specs.OperandLaws.{vector-binary, at_code, vector-concat, vector-extension, vector-comparison, vector-unary, vector-joins, vector-chosen, vector_else}
+-- `after_vector` meets its contract: one law for each state.
+use Rattle.script_terms.specs.declared.TermState.TheVariants.{Binary, Concat, Extension, Comparison, Unary, Same, Joins, Chosen, Index, Value}
+use Rattle.script_terms.specs.OperandLaws.{at-state, same-other, same-is, index-other, index-last, index-more, value-other, value-is, vector-binary, vector-concat, vector-extension, vector-comparison, vector-unary, vector-joins, vector-chosen, vector_else}
 use Rattle.script_terms.proofs.after_vector.Goals as goal
 
-pub rotated-requires : goal.rotated-requires
-rotated-requires c = c.requires.0
-
-pub joined-requires : goal.joined-requires
-joined-requires c = omega (arith, c.requires.0)
-
-pub same_width-requires : goal.same_width-requires
-same_width-requires c = c.requires.0
-
-pub joined-requires-in-Joins : goal.joined-requires-in-Joins
-joined-requires-in-Joins c = omega (arith, c.requires.0)
-
 pub returns-in-Binary : goal.returns-in-Binary
-returns-in-Binary c = vector-binary c.args.w.x c.args.w.y c.args.w.z c.args.m c.requires.0 c.in-Binary.is c.second.ensures
-
-pub returns-in-Rotation : goal.returns-in-Rotation
-returns-in-Rotation c = at_code c.args.w.x c.args.w.y c.args.w.z c.args.m Rotation c.in-Rotation.is (c.rotated.ensures c.args.w.y c.args.w.z)
-
-pub returns-in-Extraction : goal.returns-in-Extraction
-returns-in-Extraction c = at_code c.args.w.x c.args.w.y c.args.w.z c.args.m Extraction c.in-Extraction.is (c.extracted.ensures c.args.w.z)
+returns-in-Binary c = at-state Binary c.in-Binary.is (vector-binary c.args.m c.requires.0)
 
 pub returns-in-Concat : goal.returns-in-Concat
-returns-in-Concat c = vector-concat c.args.w.x c.args.w.y c.args.w.z c.args.m c.in-Concat.is
+returns-in-Concat c = at-state Concat c.in-Concat.is (vector-concat c.args.m)
 
 pub returns-in-Extension : goal.returns-in-Extension
-returns-in-Extension c = vector-extension c.args.w.x c.args.w.y c.args.w.z c.args.m c.in-Extension.is c.joined.ensures
+returns-in-Extension c = at-state (Extension c.in-Extension.n) c.in-Extension.is (vector-extension c.args.m c.in-Extension.n c.joined.ensures)
 
 pub returns-in-Comparison : goal.returns-in-Comparison
-returns-in-Comparison c = vector-comparison c.args.w.x c.args.w.y c.args.w.z c.args.m c.in-Comparison.is c.second-in-Comparison.ensures
+returns-in-Comparison c = at-state Comparison c.in-Comparison.is (vector-comparison c.args.m)
 
 pub returns-in-Unary : goal.returns-in-Unary
-returns-in-Unary c = vector-unary c.args.w.x c.args.w.y c.args.w.z c.args.m c.requires.0 c.in-Unary.is c.ends.ensures
+returns-in-Unary c = at-state Unary c.in-Unary.is (vector-unary c.args.m c.requires.0)
 
-pub returns-in-Same : goal.returns-in-Same
-returns-in-Same c = at_code c.args.w.x c.args.w.y c.args.w.z c.args.m Same c.in-Same.is (c.same_width.ensures c.args.w.z)
+pub returns-then-width-m : goal.returns-then-width-m
+returns-then-width-m c = at-state (Same c.in-Same.width c.in-Same.sort) c.in-Same.is (same-is c.args.m c.in-Same.width c.in-Same.sort c.if-width-m.true)
+
+pub returns-else-width-m : goal.returns-else-width-m
+returns-else-width-m c = at-state (Same c.in-Same.width c.in-Same.sort) c.in-Same.is (same-other c.args.m c.in-Same.width c.in-Same.sort c.if-width-m.false)
 
 pub returns-in-Joins : goal.returns-in-Joins
-returns-in-Joins c = vector-joins c.args.w.x c.args.w.y c.args.w.z c.args.m c.in-Joins.is c.joined-in-Joins.ensures
+returns-in-Joins c = at-state (Joins c.in-Joins.n) c.in-Joins.is (vector-joins c.args.m c.in-Joins.n c.joined-in-Joins.ensures)
 
 pub returns-in-Chosen : goal.returns-in-Chosen
-returns-in-Chosen c = vector-chosen c.args.w.x c.args.w.y c.args.w.z c.args.m c.requires.0 c.in-Chosen.is c.second-in-Chosen.ensures
+returns-in-Chosen c = at-state Chosen c.in-Chosen.is (vector-chosen c.args.m c.requires.0)
 
-pub returns-in-Index : goal.returns-in-Index
-returns-in-Index c = at_code c.args.w.x c.args.w.y c.args.w.z c.args.m Index c.in-Index.is c.indexed.ensures
+pub returns-then-x-m : goal.returns-then-x-m
+returns-then-x-m c = at-state (Index c.in-Index.x) c.in-Index.is (index-other c.args.m c.in-Index.x c.if-x-m.true)
 
-pub returns-in-Value : goal.returns-in-Value
-returns-in-Value c = at_code c.args.w.x c.args.w.y c.args.w.z c.args.m Value c.in-Value.is c.valued.ensures
+pub returns-then-x-eq0 : goal.returns-then-x-eq0
+returns-then-x-eq0 c = at-state (Index c.in-Index.x) c.in-Index.is (index-last c.args.m c.in-Index.x c.if-x-m.false c.if-x-eq0.true)
+
+pub returns-else-x-eq0 : goal.returns-else-x-eq0
+returns-else-x-eq0 c = at-state (Index c.in-Index.x) c.in-Index.is (index-more c.args.m c.in-Index.x c.if-x-m.false c.if-x-eq0.false)
+
+pub returns-then-x-m-2 : goal.returns-then-x-m-2
+returns-then-x-m-2 c = at-state (Value c.in-Value.x) c.in-Value.is (value-is c.args.m c.in-Value.x c.if-x-m-2.true)
+
+pub returns-else-x-m-2 : goal.returns-else-x-m-2
+returns-else-x-m-2 c = at-state (Value c.in-Value.x) c.in-Value.is (value-other c.args.m c.in-Value.x c.if-x-m-2.false)
 
 pub returns-in_default : goal.returns-in_default
-returns-in_default c = vector_else c.args.w.x c.args.w.y c.args.w.z c.args.m c.in_default.not-Binary c.in_default.not-Rotation c.in_default.not-Extraction c.in_default.not-Concat c.in_default.not-Extension c.in_default.not-Comparison c.in_default.not-Unary c.in_default.not-Same c.in_default.not-Joins c.in_default.not-Chosen c.requires.1 c.in_default.not-Index c.in_default.not-Value c.failed.ensures
+returns-in_default c =
+    let n = c.in_default in
+    vector_else c.args.w n.not-Binary n.not-Rotation n.not-Extraction n.not-Concat n.not-Extension n.not-Comparison n.not-Unary n.not-Same n.not-Joins n.not-Chosen c.requires.1 n.not-Index n.not-Value c.args.m

@@ -3,7 +3,4 @@ use Rattle.script_terms.specs.OpenLaws.{failed-going}
 use Rattle.script_terms.proofs.begin.Goals as goal
 
 pub returns-in-None : goal.returns-in-None
-returns-in-None c = λ D κ. failed-going c.failed.result (c.in-None.ensures D κ) c.failed.ensures c.requires.1
-
-pub returns-in-Some : goal.returns-in-Some
-returns-in-Some c = λ D κ. c.in-Some.ensures D κ
+returns-in-None c = λ D κ. failed-going (c.in-None.ensures D κ) c.requires.1

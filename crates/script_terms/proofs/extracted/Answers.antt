@@ -1,13 +1,11 @@
 -- `extracted` meets its contract: the bits are there.
-use native.Mathlib.Omega.{arith}
+use Rattle.std.proofs.Common.{arith}
 use Rattle.script_terms.specs.OperandLaws.{extraction-back, extraction-far, extraction-in}
 use Rattle.script_terms.proofs.extracted.Goals as goal
+use Rattle.script_terms.proofs.extracted.Goals.{then-j-i-via-then-j-i, then-j-i-via-else-j-i+then-i-m}
 
 pub returns-then-j-i : goal.returns-then-j-i
-returns-then-j-i c = λ z. extraction-back c.args.i c.args.j 0 z c.args.m c.if-j-i.true c.failed.ensures
-
-pub returns-then-i-m : goal.returns-then-i-m
-returns-then-i-m c = λ z. extraction-far c.args.i c.args.j 0 z c.args.m c.if-i-m.true c.failed-then-i-m.ensures
+returns-then-j-i c = elim c.then-j-i.branch [ then-j-i-via-then-j-i w ↦ extraction-back c.args.m c.args.i c.args.j w.if-j-i.true | then-j-i-via-else-j-i+then-i-m w ↦ extraction-far c.args.m c.args.i c.args.j w.if-i-m.true ]
 
 pub returns : goal.returns
-returns c = λ z. extraction-in c.args.i c.args.j 0 z c.args.m (omega (arith, c.if-j-i.false)) (omega (arith, c.if-i-m.false)) (omega arith) c.ends.ensures
+returns c = extraction-in c.args.m c.args.i c.args.j (omega (arith, c.if-j-i.false)) (omega (arith, c.if-i-m.false)) (omega arith)

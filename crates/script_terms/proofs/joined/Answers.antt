@@ -1,10 +1,12 @@
 -- `joined` meets its contract: the sum is a width, or it is too wide.
-use native.Mathlib.Omega.{arith}
+use Rattle.std.proofs.Common.{ℕ, sym, subst, arith}
+use Rattle.script_terms.specs.declared.TermState.TheVariants.{Bracket}
+use Rattle.script_terms.specs.Turns.{JoinedIs}
 use Rattle.script_terms.specs.OperandLaws.{joined-none, joined_is}
 use Rattle.script_terms.proofs.joined.Goals as goal
 
-pub returns-then-b-a : goal.returns-then-b-a
-returns-then-b-a c = joined-none c.failed.ensures (omega (arith, c.if-b-a.true))
+pub returns-in-Some : goal.returns-in-Some
+returns-in-Some c = subst (λ (n : ℕ). JoinedIs c.args.a c.args.b (Bracket n)) (sym c.in-Some.ensures.1) (joined_is c.requires (omega (arith, c.in-Some.ensures.0)))
 
-pub returns : goal.returns
-returns c = joined_is c.ends.ensures c.requires (omega (arith, c.if-b-a.false))
+pub returns-in-None : goal.returns-in-None
+returns-in-None c = joined-none (omega (arith, c.in-None.ensures))

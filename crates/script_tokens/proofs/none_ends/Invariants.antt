@@ -3,5 +3,5 @@ use Rattle.std.proofs.Common.{◌≡◌, ◌+◌, true}
 use Rattle.script_tokens.specs.Stretches.{Runs}
 use Rattle.script_tokens.proofs.none_ends.Given as goal
 
-abbrev pub invariant-loop-k : goal.invariant-loop-k
-invariant-loop-k g l = l.ok ≡ true → Runs g.E.Ending.ends l.s l.e (l.e + l.k)
+abbrev pub invariant-loop-c : goal.invariant-loop-c
+invariant-loop-c g l = l.ok ≡ true → Runs g.E.Ending.ends l.fn.s l.fn.e (l.fn.e + l.c-index)

@@ -1,30 +1,20 @@
--- `sliver_kernel::args_wf` meets its contract: the answer is what the arguments that are left give. Assumes nothing.
-use Rattle.std.proofs.Common.{◌≡◌, ◌+◌, ◌-◌, suc, sym, ◌∙◌, arith, refl}
-use Rattle.echo_spec.specs.Widths.{args_wf}
-use Rattle.sliver_kernel.proofs.Turns.{args-short, args-one}
+-- `sliver_kernel::args_wf` meets its contract: there are as many entries, and each is an earlier node. Assumes nothing.
+use Rattle.std.proofs.Common.{rules, sym, ◌∙◌, take, arith}
+use Rattle.std.proofs.lemmas.Bool.{lt-leb}
+use Rattle.chains.specs.Tests.{every-told}
+use Rattle.echo_spec.specs.Widths.{earlier}
+use Rattle.sliver_kernel.proofs.Turns.{args-short, args-every}
 use Rattle.sliver_kernel.proofs.args_wf.Goals as goal
 
-pub returns-in_default : goal.returns-in_default
-returns-in_default c =
-    let e : c.args.n - c.loop-argument._argument ≡ suc (c.args.n - (c.loop-argument._argument + 1)) = omega arith in
-    sym (c.loop-argument.invariant ∙ args-short c.args.ws.now e c.loop-argument.rest.now c.in_default.len_below)
+pub returns-then-count-rest : goal.returns-then-count-rest
+returns-then-count-rest c =
+    let rest = c.entries_from-rest.result.now in
+    rw (← c.entries_from-rest.ensures)
+    (every-told (earlier c.args.ws.now) (take c.args.n rest) c.all.result (search rules) (search rules)
+    ∙ sym (args-every c.args.ws.now c.args.n rest (omega arith)))
 
-pub returns-then-not-earlier : goal.returns-then-not-earlier
-returns-then-not-earlier c =
-    let e : c.args.n - c.loop-argument._argument ≡ suc (c.args.n - (c.loop-argument._argument + 1)) = omega arith in
-    sym (c.loop-argument.invariant
-    ∙ args-one c.args.ws.now e c.loop-argument.rest.now c.in-len1-up.len_at_least
-    ∙ rw (← c.earlier.ensures, c.if-not-earlier.true) refl)
-
-pub loop-argument-preserved : goal.loop-argument-preserved
-loop-argument-preserved c =
-    let e : c.args.n - c.loop-argument._argument ≡ suc (c.args.n - (c.loop-argument._argument + 1)) = omega arith in
-    c.loop-argument.invariant
-    ∙ args-one c.args.ws.now e c.loop-argument.rest.now c.in-len1-up.len_at_least
-    ∙ rw (← c.earlier.ensures, c.if-not-earlier.false) refl
-
-pub returns : goal.returns
-unfolding args_wf
-returns c =
-    let e : c.args.n - c.loop-argument._argument ≡ 0 = omega arith in
-    sym (c.loop-argument.invariant ∙ rw e refl)
+pub returns-else-count-rest : goal.returns-else-count-rest
+returns-else-count-rest c =
+    let rest = c.entries_from-rest.result.now in
+    rw (← c.entries_from-rest.ensures)
+    (lt-leb c.args.n _ (omega arith) ∙ sym (args-short c.args.ws.now c.args.n rest (omega arith)))

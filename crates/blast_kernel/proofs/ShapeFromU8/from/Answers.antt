@@ -7,4 +7,6 @@ use Rattle.blast_kernel.proofs.ShapeFromU8.from.Goals as goal
 
 pub returns-in_default : goal.returns-in_default
 unfolding shapes
-returns-in_default c = sym (get_or-eq_default shapes unknown (none_of 39 c.args.kind c.in_default.in_default-own.rest))
+returns-in_default c =
+    let far = none_of 39 c.args.kind c.in_default.in_default-own.rest in
+    record { shape = sym (get_or-eq_default shapes unknown far); kind = far }

@@ -9,4 +9,4 @@ returns-then-self-t-clause-number c = c.with.ensures.number ∙ sym (laws.bvshl-
 
 pub returns-clause-number : goal.returns-clause-number
 unfolding bvshl nat2bv
-returns-clause-number c = cut-law c.args.self.width (c.args.self.number * 2 ^ c.args.t.number) ((c.args.self.number * 2 ^ c.args.t.number) % 2 ^ 64) c.low.result.number c.args.self.word refl c.low.ensures.number
+returns-clause-number c = cut-law c.args.self.width (c.args.self.number * 2 ^ c.args.t.number) ((c.args.self.number * 2 ^ c.args.t.number) % 2 ^ 64) c.low.result.number c.args.self.one.word refl c.low.ensures.number

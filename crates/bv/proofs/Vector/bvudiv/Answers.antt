@@ -8,4 +8,4 @@ pub returns-then-t-eq0-clause-number : goal.returns-then-t-eq0-clause-number
 returns-then-t-eq0-clause-number c = bvudiv-zero-law c.args.self.width c.args.self.number c.args.t.number c.ones.result.number c.if-t-eq0.true c.ones.ensures.number
 
 pub returns-clause-number : goal.returns-clause-number
-returns-clause-number c = c.with.ensures.number ∙ sym (laws.bvudiv-is c.args.self.width c.args.self.number c.args.t.number (pos_of_ne-zero c.if-t-eq0.false) c.args.self.below)
+returns-clause-number c = c.with.ensures.number ∙ sym (laws.bvudiv-is c.args.self.width c.args.self.number c.args.t.number (pos_of_ne-zero c.if-t-eq0.false) c.args.self.one.below)

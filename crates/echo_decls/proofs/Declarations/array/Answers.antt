@@ -11,4 +11,5 @@ unfolding dag_of
 returns c =
     let d = dag_at c.args.self.now.problem.now in
     c.decl_array.ensures
-    ∙ ap (written _) (array-line d c.args.k c.entry_name-name.ensures c.index_of-index.ensures c.value_of-value.ensures)
+    ∙ ap (written _) (array-line d c.args.k c.name_at-name.ensures (rw c.of-widths.ensures at c.index_of-index.ensures)
+    (rw c.of-widths.ensures at c.value_of-value.ensures))

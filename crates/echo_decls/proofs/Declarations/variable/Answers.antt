@@ -10,4 +10,4 @@ pub returns : goal.returns
 unfolding dag_of
 returns c =
     let d = dag_at c.args.self.now.problem.now in
-    c.decl_var.ensures ∙ ap (written _) (variable-line d c.args.k c.entry_name-name.ensures c.get.ensures)
+    c.decl_var.ensures ∙ ap (written _) (variable-line d c.args.k c.name_at-name.ensures c.get.ensures)

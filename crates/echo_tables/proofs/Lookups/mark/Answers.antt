@@ -1,9 +1,9 @@
 -- `echo_tables::Lookups::mark` meets its contract. The loop keeps: the first i nodes have their marks. Assumes nothing.
-use Rattle.std.proofs.Common.{◌∙◌, sym, arith, length-set, subst, ℕ}
+use Rattle.std.proofs.Common.{◌∙◌, sym, arith, length-set}
 use Rattle.echo_spec.specs.Input.{dag_of, no_node}
 use Rattle.lent.specs.Lent.{problem_at, dag_at}
 use Rattle.lent.specs.Records.{nodes-length, nodes-at}
-use Rattle.echo_tables.specs.Filling.{MarkedTo, marked_none, marked_more}
+use Rattle.echo_tables.specs.Filling.{marked_none, marked_more}
 use Rattle.echo_tables.proofs.Lookups.mark.Goals as goal
 
 pub loop-i-init : goal.loop-i-init

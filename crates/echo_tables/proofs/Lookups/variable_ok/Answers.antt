@@ -1,5 +1,5 @@
 -- `echo_tables::Lookups::variable_ok` meets its contract. Assumes nothing.
-use Rattle.std.proofs.Common.{◌∙◌, sym}
+use Rattle.std.proofs.Common.{◌∙◌}
 use Rattle.lent.specs.Lent.{dag_at}
 use Rattle.lent.specs.Records.{node_of}
 use Rattle.echo_spec.specs.Input.{dag_of}

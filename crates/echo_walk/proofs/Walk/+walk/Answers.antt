@@ -3,7 +3,7 @@ use mathlib.Core.Path.{◌≡◌, sym, ◌∙◌}
 use native.Mathlib.Omega.{arith}
 use Rattle.echo_bytes.specs.Laws.{written_then}
 use Rattle.echo_walk.specs.Texts.{one_text, two_text, choice_text, form_text}
-use Rattle.echo_walk.proofs.Laws.{lower, fewer, listed, args-last, args-step, begun, begun-next, begun-none, begun_all, chained-index, chained-value, levels-none, levels-step, leaf-found, leaf-written, form-under, node_in, node-leaf}
+use Rattle.echo_walk.proofs.Laws.{lower, fewer, listed, part-short, part-entry, part-all, args-last, args-step, begun, begun-next, begun-none, begun_all, chained-index, chained-value, levels-none, levels-step, leaf-found, leaf-written, form-under, node_in, node-leaf}
 use Rattle.echo_walk.proofs.Walk.+walk.Goals as goal
 
 pub echo_operand-echo_leaf-requires : goal.echo_operand-echo_leaf-requires
@@ -38,23 +38,24 @@ pub echo_levels-returns : goal.echo_levels-returns
 echo_levels-returns t c =
     begun-none c.loop-left.invariant (levels-none _ _ _ (omega arith))
 
-pub echo_args-loop-k-init : goal.echo_args-loop-k-init
-echo_args-loop-k-init t c =
+pub echo_args-loop-x-init : goal.echo_args-loop-x-init
+echo_args-loop-x-init t c =
     let a : c.args.s + 0 ≡ c.args.s = omega arith in
     let b : c.args.n - 0 ≡ c.args.n = omega arith in
     rw (a, b) (begun _ (omega arith))
 
 pub echo_args-echo_operand-r-requires : goal.echo_args-echo_operand-r-requires
 echo_args-echo_operand-r-requires t c =
-    let x = listed c.requires c.loop-k.k (omega arith) c.get-x.ensures in (lower _ _ _ _ c.decreases x.below (omega arith), x.fine)
+    let x = listed c.requires c.loop-x.x-index (part-short c.args.self.now.problem.now.side.now c.args.s c.args.n c.stretch-x-items.ensures c.loop-x.x-index c.loop-x-test.true) (part-entry c.args.self.now.problem.now.side.now c.args.s c.args.n c.stretch-x-items.ensures c.loop-x.x-index c.loop-x-test.true) in
+    (lower _ _ _ _ c.decreases x.below (omega arith), x.fine)
 
-pub echo_args-loop-k-preserved : goal.echo_args-loop-k-preserved
-echo_args-loop-k-preserved t c =
-    begun-next c.loop-k.invariant _ _ (args-step _ _ _ _ c.loop-k.k (omega arith) c.get-x.ensures) c.echo_operand-r.ensures
+pub echo_args-loop-x-preserved : goal.echo_args-loop-x-preserved
+echo_args-loop-x-preserved t c =
+    begun-next c.loop-x.invariant _ _ (args-step _ _ _ _ c.loop-x.x-index (part-short c.args.self.now.problem.now.side.now c.args.s c.args.n c.stretch-x-items.ensures c.loop-x.x-index c.loop-x-test.true) (part-entry c.args.self.now.problem.now.side.now c.args.s c.args.n c.stretch-x-items.ensures c.loop-x.x-index c.loop-x-test.true)) c.echo_operand-r.ensures
 
 pub echo_args-returns : goal.echo_args-returns
 echo_args-returns t c =
-    begun_all c.loop-k.invariant (args-last _ _ _ _ (omega arith) _ c.byte.ensures)
+    begun_all c.loop-x.invariant (args-last _ _ _ _ (part-all c.args.self.now.problem.now.side.now c.args.s c.args.n c.stretch-x-items.ensures c.loop-x.x-index c.requires c.loop-x-test.false) _ c.byte.ensures)
 
 pub echo_node-open_head-q-requires : goal.echo_node-open_head-q-requires
 echo_node-open_head-q-requires t c =

@@ -26,5 +26,5 @@ decreases-echo_two l = μ l.lim 1
 abbrev pub invariant-echo_levels-loop-left : goal.invariant-echo_levels-loop-left
 invariant-echo_levels-loop-left l = Begun (levels_text (text_at l.self) (problem_in l.self).side l.s l.n) (levels_text (text_at l.self) (problem_in l.self).side l.s l.left) (page l.initial.q l.initial.out) (page l.q l.out)
 
-abbrev pub invariant-echo_args-loop-k : goal.invariant-echo_args-loop-k
-invariant-echo_args-loop-k l = Begun (args_text (text_at l.self) (problem_in l.self).side l.s l.n) (args_text (text_at l.self) (problem_in l.self).side (l.s + l.k) (l.n - l.k)) (page l.initial.q l.initial.out) (page l.q l.out)
+abbrev pub invariant-echo_args-loop-x : goal.invariant-echo_args-loop-x
+invariant-echo_args-loop-x l = Begun (args_text (text_at l.self) (problem_in l.self).side l.s l.n) (args_text (text_at l.self) (problem_in l.self).side (l.s + l.x-index) (l.n - l.x-index)) (page l.initial.q l.initial.out) (page l.q l.out)

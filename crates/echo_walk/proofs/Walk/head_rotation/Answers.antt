@@ -1,14 +1,8 @@
-use Rattle.echo_walk.proofs.Heads.{node-inside, amount-inside, rotation-ready, head-of-rotation}
+use Rattle.echo_walk.proofs.Heads.{node-inside, head-of-rotation}
 use Rattle.echo_walk.proofs.Walk.head_rotation.Goals as goal
 
-pub node-n-requires : goal.node-n-requires
-node-n-requires c = node-inside c.args.self.now c.args.i c.requires
-
-pub node-m-requires : goal.node-m-requires
-node-m-requires c = amount-inside c.args.self.now c.args.i c.requires c.node-n.ensures
-
-pub rot_of-k-requires : goal.rot_of-k-requires
-rot_of-k-requires c = rotation-ready c.args.self.now c.args.i c.requires c.node-n.ensures c.node-m.ensures c.get.ensures
+pub node-kind-requires : goal.node-kind-requires
+node-kind-requires c = node-inside c.args.self.now c.args.i c.requires
 
 pub returns : goal.returns
-returns c = head-of-rotation c.args.self.now c.args.i c.node-n.ensures c.node-m.ensures c.get.ensures c.rot_of-k.ensures _ c.open_one.ensures
+returns c = head-of-rotation c.args.self.now c.args.i c.node-kind.ensures _ c.amount.ensures c.open_indexed.ensures

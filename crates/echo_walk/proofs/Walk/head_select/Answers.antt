@@ -4,8 +4,8 @@ use Rattle.echo_walk.proofs.Walk.head_select.Goals as goal
 pub node-n-requires : goal.node-n-requires
 node-n-requires c = node-inside c.args.self.now c.args.i c.requires
 
-pub name_at-name-requires : goal.name_at-name-requires
-name_at-name-requires c = array-inside c.args.self.now c.args.i c.requires c.node-n.ensures
+pub array_name-requires : goal.array_name-requires
+array_name-requires c = array-inside c.args.self.now c.args.i c.requires c.node-n.ensures
 
 pub returns : goal.returns
-returns c = head-of-select c.args.self.now c.args.i c.node-n.ensures c.name_at-name.ensures _ c.open_select.ensures
+returns c = head-of-select c.args.self.now c.args.i c.node-n.ensures c.array_name.ensures _ c.open_select.ensures

@@ -8,9 +8,6 @@ use Rattle.script_entries.proofs.Script.entry_of.Goals as goal
 pub returns-in_err-found : goal.returns-in_err-found
 returns-in_err-found c = rw c.from_residual.ensures (λ D κ. entry-none κ (between c.args.self.now.text.now c.args.a (c.args.f - 1)) c.in_err-found.ensures)
 
-pub find_line-requires : goal.find_line-requires
-find_line-requires c = (c.requires.0.1.begin, c.requires.1, c.requires.0.1.tabled)
-
 pub measure_after-x-requires : goal.measure_after-x-requires
 measure_after-x-requires c = let x = c.in_ok-found.ensures in (found_after c.requires.0.1.tabled c.in_ok-found.found.line c.in_ok-found.found.place x.0 x.2 c.args.a c.args.f c.requires.1 x.1 x.3).0
 

@@ -7,4 +7,4 @@ use Rattle.sliver_kernel.proofs.Pass.node_wf.Goals as goal
 pub returns-in_default : goal.returns-in_default
 returns-in_default c =
     c.node_wf.ensures
-    ∙ closed-wf-is _ _ _ _ (node_of c.args.n) (shape-closed _ _ c.from.ensures c.in_default.not-Select c.in_default.not-Call)
+    ∙ closed-wf-is _ _ _ _ (node_of c.args.n) (shape-closed _ _ c.from.ensures.shape c.in_default.not-Select c.in_default.not-Call)

@@ -9,11 +9,11 @@ node_width-requires c =
     record {
       nbits = c.requires.nbits;
       accepted =
-          closed-wf-is _ _ _ _ (node_of c.args.n) (shape-closed _ _ c.from.ensures c.in_default.not-Select c.in_default.not-Call)
+          closed-wf-is _ _ _ _ (node_of c.args.n) (shape-closed _ _ c.from.ensures.shape c.in_default.not-Select c.in_default.not-Call)
           ∙ c.requires.accepted;
     }
 
 pub returns-in_default : goal.returns-in_default
 returns-in_default c =
     c.node_width.ensures
-    ∙ closed-width-is _ _ (node_of c.args.n) (shape-closed _ _ c.from.ensures c.in_default.not-Select c.in_default.not-Call)
+    ∙ closed-width-is _ _ (node_of c.args.n) (shape-closed _ _ c.from.ensures.shape c.in_default.not-Select c.in_default.not-Call)

@@ -1,0 +1,2 @@
+// No code: `specs/` has what a chain of iterators answers, in the words of `lists`.
+#![tactic(auto)]
