@@ -1,5 +1,5 @@
 -- A term at a place of a script, the nodes so far, and what placing the term answers.
-use Rattle.std.specs.Prelude.{ℕ, ◌+◌, ◌*◌, ◌-◌, ◌≤◌, ◌<◌, ◌≡◌, List, [], ◌∷◌, ◌++◌, length, drop, Result, Ok, Err, Some, None, ⊤}
+use Rattle.std.specs.Prelude.{ℕ, ◌+◌, ◌*◌, ◌-◌, ◌≤◌, ◌<◌, ◌≡◌, List, [], ◌∷◌, ◌++◌, length, drop, Result, Ok, Err, Option as Maybe, Some, None, ⊤}
 use Rattle.std.proofs.Math.Option.{Option, some}
 use Rattle.reading.specs.Trees.{Tree, none as noTrees, Declarations}
 use Rattle.echo_spec.specs.TreeSorts.{TreeSort, width_of, tree_sort}
@@ -95,6 +95,11 @@ PlacedAs {s} {t} {h} {heap} {at} {levels} q g heap' r =
 pub record PlacedAt (s : List ℕ) (t : Table) (h : Header) (heap : Heap) (at levels : ℕ) (heap' : Heap) (r : Result Placed Unread) : Type 0 where
   pub sorted : (D : Declarations) → Known s t h D → SortIs s D at r
   pub placed : (q : Term s t h at) (g : State q.declarations s heap levels) → PlacedAs q g heap' r
+
+-- a leaf that is placed as it is, whatever was there before
+abbrev pub LeafAt : List ℕ → Table → Header → ℕ → Maybe Placed → Type 0
+LeafAt s t h at None = Unit
+LeafAt s t h at (Some p) = (heap : Heap) (levels : ℕ) → PlacedAt s t h heap at levels heap (Ok p)
 
 -- ---------------------------------------------------------------- heads
 

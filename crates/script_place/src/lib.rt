@@ -7,7 +7,7 @@ ghost use Rattle.reading.specs.Trees.{Declarations};
 ghost use Rattle.script_entries.specs.Entries.{Declares};
 ghost use Rattle.script_heads.specs.Heads.{HeadAt};
 ghost use Rattle.script_place.specs.declared.Unread.TheVariants.{Limit};
-ghost use Rattle.script_place.specs.Terms.{State, PlacedAt, BegunTo, Pushable, MoreTo, Finished, Closes, ClosedTo};
+ghost use Rattle.script_place.specs.Terms.{State, LeafAt, PlacedAt, BegunTo, Pushable, MoreTo, Finished, Closes, ClosedTo};
 
 use heap_laws::{Heap, OverLimit};
 use refusals::MAX_NODES;
@@ -16,6 +16,7 @@ use script_entries::Script;
 use script_heads::{Head, head_at};
 use script_heap::{push_constant, push_node};
 use script_terms::{TermState, head_state, more, step};
+use script_tokens::byte_at;
 
 // Why a script's problem is not rebuilt.
 #[derive(Clone, Copy, Debug, PartialEq, Eq)]
@@ -181,9 +182,25 @@ fn closed(
 
 // ---------------------------------------------------------------- terms
 
-// The term at a place, under so many terms that are not ended. Ruled out: a term without a sort that is placed; a constant placed before another
-// term; the node of a term before those of its operands; an operand's node left out of the limit of a term around it.
-pub fn place(script: &Script, heap: &mut Heap, at: usize, levels: usize) -> Result<Placed, Unread>
+// A constant or a variable, which needs no node of its own here. It is placed apart from the function that calls itself, whose frame is large.
+#[inline(always)]
+fn leaf(script: &Script, at: usize) -> Option<Placed>
+    requires { (D : Declarations) × Declares script.now D }
+    ensures { LeafAt script.now.text.now script.now.table.now script.now.header at result }
+{
+    if byte_at(script.text, at) == b'(' {
+        return None;
+    }
+    let x = head_at(script, at)?;
+    match begin(x, at) {
+        Begun::Done(p) => Some(p),
+        Begun::Nullary(_) | Begun::Open => None,
+    }
+}
+
+// Any term at a place, as `place` has it.
+#[cycle(place)]
+fn place_term(script: &Script, heap: &mut Heap, at: usize, levels: usize) -> Result<Placed, Unread>
     requires { (D : Declarations) × Declares script.now D × State D script.now.text.now heap.old levels }
     ensures { PlacedAt script.now.text.now script.now.table.now script.now.header heap.old at levels heap.new result }
 {
@@ -219,4 +236,18 @@ pub fn place(script: &Script, heap: &mut Heap, at: usize, levels: usize) -> Resu
             closed(script.text, heap, x, base, v, e - 1)
         }
     }
+}
+
+// The term at a place, under so many terms that are not ended. Ruled out: a term without a sort that is placed; a constant placed before another
+// term; the node of a term before those of its operands; an operand's node left out of the limit of a term around it.
+#[cycle(place)]
+#[inline(always)]
+pub fn place(script: &Script, heap: &mut Heap, at: usize, levels: usize) -> Result<Placed, Unread>
+    requires { (D : Declarations) × Declares script.now D × State D script.now.text.now heap.old levels }
+    ensures { PlacedAt script.now.text.now script.now.table.now script.now.header heap.old at levels heap.new result }
+{
+    if let Some(p) = leaf(script, at) {
+        return Ok(p);
+    }
+    place_term(script, heap, at, levels)
 }
