@@ -397,8 +397,9 @@ struct echo_answer echo_let(
  * The map file's lines: one line a root, ended by byte 10, the root as a formula. From the loosest: or; and; bor; bxor; band; == !=;
  * < <= > >= (unsigned); << >> (the logical shift); + -; * / % (unsigned); before an operand ! ~ -. Operators of one level group to the
  * left, and brackets stand only where leaving out a pair would change the tree. All other kinds stand as the SMT-LIB name, then numerals
- * and operands in parentheses, parted by a comma and a blank: extract(7, 0, |x|). The inputs and the refusals are echo_ext's; ECHO_ROOM is
- * about the lines. No roots: length 0. Accepted or refused, the output is as echo_ext says.
+ * and operands in parentheses, parted by a comma and a blank: extract(7, 0, |x|), select(store(|m|, |i|, |v|), |j|). A call stands as its
+ * name before its arguments, |f|(|x|, |y|), and without any as |f|; names and constants are as in the script. The inputs and the refusals
+ * are echo_ext's; ECHO_ROOM is about the lines. No roots: length 0. Accepted or refused, the output is as echo_ext says.
  *
  * With the problem's declarations a line has one reading, the assertion's tree: with the same declarations, equal lines mean equal trees. It
  * is as recursive as echo_ext, and needs up to 300 KB more stack.

@@ -282,9 +282,9 @@ pub fn echo_let(problem: &Problem<'_>, out: &mut [u8]) -> Result<usize, Refusal>
 ///
 /// From the loosest: `or`; `and`; `bor`; `bxor`; `band`; `==` `!=`; `<` `<=` `>` `>=`; `<<` `>>`; `+` `-`; `*` `/` `%`; and before an operand
 /// `!` `~` `-`. Comparisons, division and remainder are the unsigned ones and `>>` is the logical shift; all other kinds stand by their
-/// SMT-LIB name, as in `extract(7, 0, |x|)`. Operators of one level group to the left, and brackets stand only where leaving out a pair would
-/// change the tree. The refusals are those of [`echo_ext`]; [`Refusal::Room`] is about these lines. Without roots the length is 0. On `Err` every
-/// byte of `out` is 0, and past the lines `out` is what it was.
+/// SMT-LIB name, as in `extract(7, 0, |x|)`, a call by its own, as in `|f|(|x|, |y|)`. Operators of one level group to the left, and brackets
+/// stand only where leaving out a pair would change the tree. The refusals are those of [`echo_ext`]; [`Refusal::Room`] is about these lines.
+/// Without roots the length is 0. On `Err` every byte of `out` is 0, and past the lines `out` is what it was.
 ///
 /// ```
 /// use smt_echo::{Problem, echo_formulas, kind, node};
