@@ -302,3 +302,17 @@ pub fn answer(p: &Problem, room: usize) -> Answer<u8> {
 pub fn lines_len(p: &Problem) -> Option<usize> {
     lines(p).ok().map(|s| s.len())
 }
+
+/// Whether a pair of brackets stands in the lines: an opening one outside names that has no name before it.
+pub fn has_brackets(lines: &[u8]) -> bool {
+    let mut inside = false;
+    let mut before = b' ';
+    for b in lines {
+        if *b == b'(' && !inside && !before.is_ascii_alphanumeric() && before != b'|' {
+            return true;
+        }
+        inside ^= *b == b'|';
+        before = *b;
+    }
+    false
+}

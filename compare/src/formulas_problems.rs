@@ -1,5 +1,5 @@
 //! Problems for formulas: every pair of operators on either side, a sign before a sign, and signs over names with parentheses.
-use crate::printer::Room;
+use crate::printer::{Room, call, constant, func};
 use crate::problem::{Problem, kind};
 
 /// Kinds by their numbers in document 01.
@@ -44,6 +44,27 @@ const BETWEEN: [(u8, bool); 18] = [
 
 const BEFORE: [u8; 3] = [kind::NOT, kind::BV_NOT, kind::NEG];
 
+/// What takes no brackets behind a sign: a constant, names with parentheses, an array's value, a call.
+const CLOSED: [u8; 17] = [
+    kind::CONST,
+    ASHR,
+    kind::ROTR,
+    kind::EXTRACT,
+    kind::CONCAT,
+    kind::ZERO_EXT,
+    kind::SIGN_EXT,
+    kind::ITE,
+    kind::SLT,
+    SLE,
+    SGT,
+    kind::SGE,
+    kind::ROTL,
+    kind::SDIV,
+    kind::SREM,
+    kind::SELECT,
+    kind::CALL,
+];
+
 /// Variables of width 1, so that a Bool and a bit-vector differ by their sort alone; leaves may have many uses.
 fn variables() -> Problem {
     let mut p = Problem::default();
@@ -57,6 +78,37 @@ fn variables() -> Problem {
 /// A leaf where it is one that is wanted, or a comparison of leaves.
 fn leaf(p: &mut Problem, x: u32, bool: bool) -> u32 {
     if bool { p.node(kind::EQ, &[x, (x + 1) % 3]) } else { x }
+}
+
+/// A node of the kind, of width 1 or a Bool.
+fn closed_in_itself(p: &mut Problem, k: u8) -> u32 {
+    match k {
+        kind::CONST => constant(p, 1),
+        kind::EXTRACT => p.node(k, &[0, 0, 0]),
+        kind::CONCAT => {
+            let t = p.node(k, &[0, 1]);
+            p.node(kind::EXTRACT, &[1, 1, t])
+        }
+        kind::ZERO_EXT | kind::SIGN_EXT => p.node(k, &[0, 0]),
+        kind::ITE => {
+            let c = leaf(p, 0, true);
+            p.node(k, &[c, 1, 2])
+        }
+        kind::ROTL | kind::ROTR => {
+            let amount = constant(p, 1);
+            p.node(k, &[0, amount])
+        }
+        kind::SELECT => {
+            p.array_of(b"m", 1, 1);
+            p.side.extend([1, 2]);
+            p.node(k, &[0, 0, p.side.len() as u32 - 2, 1])
+        }
+        kind::CALL => {
+            let f = func(p, 1);
+            call(p, f, 1, &[0])
+        }
+        k => p.node(k, &[0, 1]),
+    }
 }
 
 /// The last node as a root, by itself if it is a Bool, else compared with a leaf.
@@ -86,14 +138,17 @@ pub fn all() -> Vec<(&'static str, Problem, Room)> {
             let t = p.node(outer, &[a, b]);
             p.node(before, &[t]);
             out.push(("before a sign between", asserted(p), Room::Exact));
-            let mut p = variables();
-            let a = leaf(&mut p, 0, before == kind::NOT);
-            let (t, c) = (p.node(before, &[a]), leaf(&mut p, 1, bools));
-            let y = leaf(&mut p, 2, before == kind::NOT);
-            let u = p.node(before, &[y]);
-            let v = p.node(outer, &[t, c]);
-            p.node(outer, &[v, u]);
-            out.push(("between signs before", asserted(p), Room::OneShort));
+            for room in [Room::Exact, Room::OneShort] {
+                let mut p = variables();
+                let a = leaf(&mut p, 0, before == kind::NOT);
+                let (t, c) = (p.node(before, &[a]), leaf(&mut p, 1, bools));
+                let y = leaf(&mut p, 2, before == kind::NOT);
+                let u = p.node(before, &[y]);
+                // a comparison is a Bool, and takes none
+                let v = if !bools && crate::problem::is_bool(outer) { t } else { p.node(outer, &[t, c]) };
+                p.node(outer, &[v, u]);
+                out.push(("between signs before", asserted(p), room));
+            }
         }
     }
     for a in BEFORE {
@@ -111,8 +166,24 @@ pub fn all() -> Vec<(&'static str, Problem, Room)> {
     for named in [ASHR, kind::SDIV, kind::SREM, kind::SLT, SLE, SGT, kind::SGE, kind::CONCAT] {
         let mut p = variables();
         let s = p.node(kind::ADD, &[0, 1]);
-        p.node(named, &[s, 2]);
+        let t = p.node(named, &[s, 2]);
+        if named == kind::CONCAT {
+            p.node(kind::EXTRACT, &[1, 1, t]);
+        }
         out.push(("a name over a sum", asserted(p), Room::Exact));
+    }
+    for before in BEFORE {
+        for closed in CLOSED {
+            let mut p = variables();
+            let t = closed_in_itself(&mut p, closed);
+            p.node(before, &[t]);
+            out.push(("a sign before what is closed", asserted(p), Room::Exact));
+        }
+        let mut p = variables();
+        let f = func(&mut p, 1);
+        let t = call(&mut p, f, 1, &[]);
+        p.node(before, &[t]);
+        out.push(("a sign before a bare call", asserted(p), Room::Exact));
     }
     out.push(("no roots", variables(), Room::Empty));
     out

@@ -435,7 +435,7 @@ fn record_formulas(out: &str, long: bool) {
         };
         let a = formulas::answer(&p, room);
         assert!(!a.result.contains(&FILL_BYTE), "a line has the byte that the replay fills with");
-        bracketed += (a.result.starts_with(b"(") || a.result.windows(2).any(|w| w == b" (")) as usize;
+        bracketed += formulas::has_brackets(&a.result) as usize;
         tally.note(&label, None, a.number);
         list.add(&list::of_script(&p, room, &a));
     }
