@@ -21,7 +21,7 @@ use Rattle.formulas.specs.Phrases.{Reads, ReadsLines}
 use Rattle.formula_text.specs.Notation.{formula}
 use Rattle.formula_answers.specs.Answers.{formula_lines, echo_formulas_answer}
 use Rattle.formula_theorems.specs.LeftOut.{parentheses, ends_inside}
-use Rattle.formula_theorems.specs.MapLines.{declarations_in, map_lines, Among, one_map, one-formula, brackets-needed, brackets-fewest, equal-lines}
+use Rattle.formula_theorems.specs.MapLines.{declarations_in, map_lines, Among, one_map, one-formula, brackets-needed, brackets-fewest, equal-lines, equal-line}
 
 abbrev pub FormulasAccepts : Problem → List ℕ → Type 0
 FormulasAccepts p lent = (echo_formulas_answer p lent).number ≡ 0
@@ -88,7 +88,12 @@ pub fewest-brackets : (p : Problem) (lent : List ℕ) → FormulasAccepts p lent
     → parentheses false (formula t) ≤ parentheses false b
 fewest-brackets p lent a = brackets-fewest p ((formulas-accepts-exactly p lent).0 a).0
 
--- With the same declarations, equal lines mean equal trees.
+-- With the same declarations, equal lines mean equal trees: one line and another, of one problem or of two, ..
+pub equal-line-equal-tree : (p p' : Problem) (lent lent' : List ℕ) → FormulasAccepts p lent → FormulasAccepts p' lent' → declarations_in p ≡ declarations_in p'
+    → (t u : Tree) → Among t (reading p).assertions → Among u (reading p').assertions → formula t ≡ formula u → t ≡ u
+equal-line-equal-tree p p' lent lent' a a' = equal-line p p' ((formulas-accepts-exactly p lent).0 a).0 ((formulas-accepts-exactly p' lent').0 a').0
+
+-- .. and all lines of two problems.
 pub equal-lines-equal-trees : (p p' : Problem) (lent lent' : List ℕ) → FormulasAccepts p lent → FormulasAccepts p' lent' → declarations_in p ≡ declarations_in p' → map_lines p ≡ map_lines p'
     → (reading p).assertions ≡ (reading p').assertions
 equal-lines-equal-trees p p' lent lent' a a' = equal-lines p p' ((formulas-accepts-exactly p lent).0 a).0 ((formulas-accepts-exactly p' lent').0 a').0
@@ -115,6 +120,14 @@ formulas-print p lent out n c =
 pub formulas-bytes-read : (p : Problem) (lent out : List ℕ) (n : ℕ) → FormulasContract (Ok n) p lent out → (ts : Trees)
     → ReadsLines (declarations_in p) (take n out) ts ↔ (ts ≡ (reading p).assertions)
 formulas-bytes-read p lent out n c ts = let h = formulas-print p lent out n c in rw h.1 (formulas-one-reading p lent h.0 ts)
+
+-- With the same declarations, equal bytes of two calls that print mean equal trees.
+pub formulas-bytes-equal : (p p' : Problem) (lent out lent' out' : List ℕ) (n n' : ℕ) → FormulasContract (Ok n) p lent out → FormulasContract (Ok n') p' lent' out'
+    → declarations_in p ≡ declarations_in p' → take n out ≡ take n' out' → (reading p).assertions ≡ (reading p').assertions
+formulas-bytes-equal p p' lent out lent' out' n n' c c' d e =
+    let h = formulas-print p lent out n c in
+    let h' = formulas-print p' lent' out' n' c' in
+    equal-lines-equal-trees p p' lent lent' h.0 h'.0 d (sym h.1 ∙ (e ∙ h'.1))
 
 pub formulas-refuse : (p : Problem) (lent out : List ℕ) (e : EchoError) → FormulasContract (Err e) p lent out
     → ((echo_formulas_answer p lent).number ≡ error_number e) × (out ≡ replicate (length lent) 0)

@@ -1,6 +1,6 @@
 -- The claims on `echo_formulas` at problems: each speaks of something.
 use Rattle.std.specs.Prelude.{ℕ, ◌≤◌, ◌≡◌, refl, List, [], ◌∷◌, ◌≢◌, false, take, replicate, Err}
-use Rattle.std.proofs.Common.{◌∙◌, inl, arith}
+use Rattle.std.proofs.Common.{◌∙◌, ap, sym, inl, inr, arith}
 use Rattle.lists.specs.Bytes.{bytes}
 use Rattle.reading.specs.Kinds.{Const, Add, Mul, Eq, Not}
 use Rattle.reading.specs.Trees.{Tree, variable, constant, apply, none, more}
@@ -11,6 +11,7 @@ use Rattle.lets.specs.LetExamples.{over}
 use Rattle.refusals.specs.declared.EchoError.TheVariants.{Room}
 use Rattle.echo_kernel.specs.Answered.{answered}
 use Rattle.formulas.specs.Phrases.{Reads, ReadsLines}
+use Rattle.formula_text.specs.Notation.{formula}
 use Rattle.formula_answers.specs.Answers.{echo_formulas_answer}
 use Rattle.formula_answers.specs.AnswerExamples.{formulas_meet}
 use Rattle.formula_theorems.specs.LeftOut.{parentheses, ends_inside}
@@ -23,8 +24,10 @@ use Rattle.claims.specs.FormulaClaims.{
   formula-one-reading,
   bracket-pair-needed,
   fewest-brackets,
+  equal-line-equal-tree,
   equal-lines-equal-trees,
   formulas-print,
+  formulas-bytes-read,
   formulas-refuse,
 }
 
@@ -117,6 +120,14 @@ equal-lines-here : (reading product).assertions ≡ (reading later).assertions
 unfolding formulas_meet product later
 equal-lines-here = equal-lines-equal-trees product later (lent 60) (lent 60) product-accepted later-accepted refl refl
 
+-- the second line of one problem and the only line of another
+one : Problem
+one = over (sum ∷ node Eq 2 0 0 0 ∷ []) (3 ∷ []) "x"
+
+one-accepted : FormulasAccepts one (lent 60)
+unfolding formulas_meet one
+one-accepted = refl
+
 -- two roots, two lines
 pair : Problem
 pair = over (sum ∷ node Eq 2 0 0 0 ∷ node Eq 0 1 0 0 ∷ node Not 4 0 0 0 ∷ []) (5 ∷ 3 ∷ []) "x"
@@ -129,3 +140,13 @@ pair_reads : ReadsLines (declarations_in pair) (bytes "!(|x| == #b00000101)\n|x|
     (more (apply Not [] (more (two Eq x c) none)) (more (two Eq (two Add x c) x) none))
 unfolding formulas_meet pair
 pair_reads = (formulas-one-reading pair (lent 60) pair-accepted _).1 refl
+
+equal-line-here : (t u : Tree) → t ≡ two Eq (two Add x c) x → u ≡ two Eq (two Add x c) x → t ≡ u
+unfolding formulas_meet pair one
+equal-line-here t u e f =
+    equal-line-equal-tree pair one (lent 60) (lent 60) pair-accepted one-accepted refl t u (inr (inl e)) (inl f) (ap formula e ∙ sym (ap formula f))
+
+-- what a call leaves in the buffer reads as the assertion
+product-bytes-read : ReadsLines (declarations_in product) (take 32 (echo_formulas_answer product (lent 60)).output) (more product_tree none)
+unfolding formulas_meet product
+product-bytes-read = (formulas-bytes-read product (lent 60) (echo_formulas_answer product (lent 60)).output 32 refl (more product_tree none)).1 refl

@@ -76,3 +76,12 @@ pub equal-lines : (p p' : Problem) → Whole p → Whole p' → declarations_in 
 equal-lines p p' w w' d e =
     let r : ReadsLines (declarations_in p) (map_lines p) (reading p).assertions = (one_map p w (reading p).assertions).1 refl in
     (one_map p' w' (reading p).assertions).0 (subst (λ (D : Declarations). ReadsLines D (map_lines p') (reading p).assertions) d (subst (λ (b : List ℕ). ReadsLines (declarations_in p) b (reading p).assertions) e r))
+
+-- With the same declarations, one equal line is of one tree: of two assertions, of one problem or of two.
+pub equal-line : (p p' : Problem) → Whole p → Whole p' → declarations_in p ≡ declarations_in p' → (t u : Tree) → Among t (reading p).assertions → Among u (reading p').assertions
+    → formula t ≡ formula u → t ≡ u
+equal-line p p' w w' d t u a a' e =
+    let r : Reads (declarations_in p') (formula u) u = (one-formula p' w' u a' u).1 refl in
+    let r' : Reads (declarations_in p) (formula t) u =
+    subst (λ (b : List ℕ). Reads (declarations_in p) b u) (sym e) (subst (λ (D : Declarations). Reads D (formula u) u) (sym d) r) in
+    sym ((one-formula p w t a u).0 r')
