@@ -86,6 +86,54 @@ fn names_with_parentheses() {
     assert_eq!(one(&[n(kind::SLT, [0, 1, 0, 0])]), "bvslt(|x|, |y|)\n");
 }
 
+/// Behind a sign before an operand another sign, a name, a constant and a call stand bare; what stands between two operands has brackets.
+#[test]
+fn signs_before_operands() {
+    let n = node;
+    let equal = |nodes: &[[u8; NODE_BYTES]]| one(&[nodes, &[n(kind::EQ, [2 + nodes.len() as u32, 2, 0, 0])]].concat());
+    assert_eq!(equal(&[n(kind::NEG, [0, 0, 0, 0]), n(kind::BV_NOT, [3, 0, 0, 0])]), "~-|x| == |z|\n");
+    assert_eq!(equal(&[n(kind::NEG, [1, 0, 0, 0]), n(kind::SUB, [0, 3, 0, 0])]), "|x| - -|y| == |z|\n");
+    assert_eq!(equal(&[n(kind::MUL, [0, 1, 0, 0]), n(kind::NEG, [3, 0, 0, 0])]), "-(|x| * |y|) == |z|\n");
+    assert_eq!(equal(&[n(kind::SREM, [0, 1, 0, 0]), n(kind::NEG, [3, 0, 0, 0])]), "-bvsrem(|x|, |y|) == |z|\n");
+    assert_eq!(one(&[n(kind::EQ, [0, 1, 0, 0]), n(kind::NOT, [3, 0, 0, 0]), n(kind::NOT, [4, 0, 0, 0])]), "!!(|x| == |y|)\n");
+    let nodes = over(&[n(kind::CONST, [0, 8, 0, 0]), n(kind::NEG, [3, 0, 0, 0]), n(kind::EQ, [4, 0, 0, 0])]);
+    let with_bits = Problem { bits: &[1, 0, 1, 0, 0, 0, 0, 0], ..problem(&nodes, &[5]) };
+    assert_eq!(lines(&with_bits), "-#b00000101 == |x|\n");
+}
+
+#[test]
+fn calls_and_selects() {
+    let n = node;
+    let nodes = over(&[
+        n(kind::ADD, [1, 2, 0, 0]),
+        n(kind::CALL, [0, 8, 0, 2]),
+        n(kind::BV_NOT, [4, 0, 0, 0]),
+        n(kind::CALL, [1, 8, 2, 0]),
+        n(kind::EQ, [5, 6, 0, 0]),
+    ]);
+    let calls = Problem {
+        side: &[0, 3],
+        fnames: b"fg",
+        fname_start: &[0, 1],
+        fname_len: &[1, 1],
+        func_width: &[8, 8],
+        ..problem(&nodes, &[7])
+    };
+    assert_eq!(lines(&calls), "~|f|(|x|, |y| + |z|) == |g|\n");
+
+    let nodes = over(&[n(kind::SELECT, [0, 2, 0, 1]), n(kind::EQ, [3, 1, 0, 0])]);
+    let arrays = Problem {
+        side: &[0, 1],
+        anames: b"m",
+        aname_start: &[0],
+        aname_len: &[1],
+        index_width: &[8],
+        value_width: &[8],
+        ..problem(&nodes, &[4])
+    };
+    assert_eq!(lines(&arrays), "select(store(|m|, |x|, |y|), |z|) == |y|\n");
+}
+
 /// The line of the repository's README.md.
 #[test]
 fn a_line_for_support() {
