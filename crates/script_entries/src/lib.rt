@@ -186,6 +186,7 @@ impl<'a> Script<'a> {
 
     // What the name from place a on, up to and with its bar before place f, is declared as, if it is. Ruled out: the index width of an array in
     // place of its value width; an array's number counted from the first variable; a variable of whose name this is the beginning.
+    #[inline(always)]
     pub fn entry_of(&self, a: usize, f: usize) -> Option<Entry>
         requires { ((D : Declarations) × Declares self.now D) × Named self.now.text.now a f }
         ensures { (D : Declarations) → Declares self.now D → EntryIs self.now.text.now D (between self.now.text.now a (f - 1)) result }

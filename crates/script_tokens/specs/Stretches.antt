@@ -1,10 +1,10 @@
 -- Laws of stretches: bytes read one by one up to the first that ends them.
 use Rattle.std.specs.Prelude.{ℕ, suc, ◌+◌, ◌-◌, ◌≤◌, ◌<◌, ◌≡◌, refl, List, [], ◌∷◌, ◌++◌, Bool, true, false, ◌&&◌, T, eqb, length, take, drop, get_or, Some}
-use Rattle.std.proofs.Common.{ap, sym, ◌∙◌, subst, arith, eqb→eq, length-append, length-drop, drop_of_length-le, drop-cons}
+use Rattle.std.proofs.Common.{ap, sym, ◌∙◌, subst, arith, eqb→eq, ne_eqb, length-append, length-drop, drop_of_length-le, drop-cons}
+use Rattle.std.proofs.Math.Dec.{eqb_refl}
 use Rattle.std.proofs.Math.Option.{none}
 use Rattle.std.proofs.Math.Seq.{take-append_seam}
-use Rattle.std.specs.Cmp.Lexicographic.{pointwise}
-use Rattle.lists.specs.Tests.{true→T}
+use Rattle.lists.specs.Tests.{true→T, T→true}
 use Rattle.readback.specs.Reader.{Took, took, and_then, expect, up_to, name_read}
 use Rattle.lists.specs.Bytes.{bytes}
 use Rattle.reader_laws.specs.TermsStrict.{up-to-joins}
@@ -96,25 +96,43 @@ rest-ends ends (x ∷ b) c r e q = by_first (ends x) refl e (λ f. rest-ends end
 
 -- ---------------------------------------------------------------- words
 
-pub expect-found : (w b : List ℕ) → pointwise eqb w (take (length w) b) ≡ true → expect w b ≡ took [] (drop (length w) b)
+-- a word that is longer than what is left does not stand there
+pub expect-short : (w b : List ℕ) → length b < length w → expect w b ≡ none
 unfolding expect
-expect-found [] b h = refl
-expect-found (c ∷ w) [] h = cc
-expect-found (c ∷ w) (x ∷ b) h = by_first (eqb c x) refl h (expect-found w b)
+expect-short [] b h = absurd (omega (arith, h))
+expect-short (c ∷ w) [] h = refl
+expect-short (c ∷ w) (x ∷ b) h = by_first (eqb c x) refl (expect-short w b (omega (arith, h)))
   where
-    by_first : (t : Bool) → eqb c x ≡ t → (t && pointwise eqb w (take (length w) b)) ≡ true → (pointwise eqb w (take (length w) b) ≡ true → expect w b ≡ took [] (drop (length w) b)) → expect (c ∷ w) (x ∷ b) ≡ took [] (drop (length w) b)
-    by_first true q h e = rw (q, expect) (e h)
-    by_first false q h e = cc
+    by_first : (t : Bool) → eqb c x ≡ t → expect w b ≡ none → expect (c ∷ w) (x ∷ b) ≡ none
+    by_first true q e = rw (q, expect) e
+    by_first false q e = rw (q, expect) refl
 
-pub expect-none : (w b : List ℕ) → pointwise eqb w (take (length w) b) ≡ false → expect w b ≡ none
+-- no word, which stands anywhere
+pub expect-empty : (b : List ℕ) → expect [] b ≡ took [] b
 unfolding expect
-expect-none [] b h = cc
-expect-none (c ∷ w) [] h = refl
-expect-none (c ∷ w) (x ∷ b) h = by_first (eqb c x) refl h (expect-none w b)
-  where
-    by_first : (t : Bool) → eqb c x ≡ t → (t && pointwise eqb w (take (length w) b)) ≡ false → (pointwise eqb w (take (length w) b) ≡ false → expect w b ≡ none) → expect (c ∷ w) (x ∷ b) ≡ none
-    by_first true q h e = rw (q, expect) (e h)
-    by_first false q h e = rw (q, expect)
+expect-empty b = refl
+
+by-same : (c x : ℕ) (w b : List ℕ) → eqb c x ≡ true → expect (c ∷ w) (x ∷ b) ≡ expect w b
+unfolding expect
+by-same c x w b h = rw (h, expect) refl
+
+by-other : (c x : ℕ) (w b : List ℕ) → eqb c x ≡ false → expect (c ∷ w) (x ∷ b) ≡ none
+unfolding expect
+by-other c x w b h = rw (h, expect) refl
+
+-- a word goes on with the byte that stands there
+pub expect-on : (w s : List ℕ) (at k : ℕ) → k < length w → at + k < length s → get_or s (at + k) 0 ≡ get_or w k 0 → expect (drop k w) (drop (at + k) s) ≡ expect (drop (k + 1) w) (drop (at + (k + 1)) s)
+expect-on w s at k l m h =
+    let z : at + (k + 1) ≡ at + k + 1 = omega arith in
+    let c = get_or w k 0 in
+    let e : eqb c (get_or s (at + k) 0) ≡ true = ap (eqb c) h ∙ T→true (eqb c c) (eqb_refl c) in
+    rw (bytes-at w k l, bytes-at s (at + k) m, z) (by-same c (get_or s (at + k) 0) (drop (k + 1) w) (drop (at + k + 1) s) e)
+
+-- or with another
+pub expect-off : (w s : List ℕ) (at k : ℕ) → k < length w → at + k < length s → (get_or s (at + k) 0 ≡ get_or w k 0 → ⊥) → expect (drop k w) (drop (at + k) s) ≡ none
+expect-off w s at k l m h =
+    let c = get_or w k 0 in
+    rw (bytes-at w k l, bytes-at s (at + k) m) (by-other c (get_or s (at + k) 0) (drop (k + 1) w) (drop (at + k + 1) s) (ne_eqb c (get_or s (at + k) 0) (λ q. h (sym q))))
 
 -- ---------------------------------------------------------------- names
 

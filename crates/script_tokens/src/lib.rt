@@ -31,11 +31,21 @@ pub fn byte_at(s: &[u8], at: usize) -> u8
 }
 
 // The place after the word, if it stands at the place. Ruled out: one that takes the beginning of the word for the whole of it; a place one past its end.
+// Kept: a loop, and not `starts_with`: it is compiled into its callers, where the word is known and each of its bytes is compared by itself.
+#[inline(always)]
 pub fn literal(s: &[u8], at: usize, w: &[u8]) -> Option<usize>
     requires { at ≤ length s.now }
     ensures { Reached s.now (expect w.now (drop at s.now)) result }
 {
-    s[at..].starts_with(w).then_some(at + w.len())
+    if s.len() - at < w.len() {
+        return None;
+    }
+    for k in 0..w.len() {
+        if s[at + k] != w[k] {
+            return None;
+        }
+    }
+    Some(at + w.len())
 }
 
 // ---------------------------------------------------------------- stretches of bytes

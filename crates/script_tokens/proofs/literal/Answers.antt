@@ -1,18 +1,26 @@
--- `literal` meets its contract: the bytes from the place on begin with the word, or not.
-use Rattle.std.specs.Bool.{then_some}
-use Rattle.std.proofs.Common.{◌≡◌, ◌+◌, Bool, true, false, [], refl, sym, ap, ◌∙◌, arith, length, drop, length-drop, drop-drop}
-use Rattle.std.proofs.lemmas.List.{take_rest}
-use Rattle.readback.specs.Reader.{took, expect}
-use Rattle.script_tokens.specs.Reached.{Reached}
-use Rattle.script_tokens.specs.Stretches.{expect-found, expect-none}
+-- `literal` meets its contract: at each turn what is left of the word is expected at the place reached.
+use Rattle.std.proofs.Common.{◌≡◌, ◌+◌, sym, ap, ◌∙◌, arith, [], length, drop, length-drop, drop_of_length-le}
+use Rattle.readback.specs.Reader.{expect, took}
+use Rattle.script_tokens.specs.Stretches.{expect-short, expect-empty, expect-on, expect-off}
 use Rattle.script_tokens.proofs.literal.Goals as goal
 
+pub returns-then-s-at : goal.returns-then-s-at
+returns-then-s-at c = expect-short c.args.w.now (drop c.args.at c.args.s.now) (omega (arith, length-drop c.args.at c.args.s.now, c.if-s-at.true))
+
+pub loop-k-init : goal.loop-k-init
+loop-k-init c =
+    let z : c.args.at + 0 ≡ c.args.at = omega arith in
+    ap (λ n. expect c.args.w.now (drop n c.args.s.now)) (sym z)
+
+pub returns-then-s-at-2 : goal.returns-then-s-at-2
+returns-then-s-at-2 c = c.loop-k.invariant ∙ expect-off c.args.w.now c.args.s.now c.args.at c.loop-k.k c.loop-k-test.true (omega (arith, c.requires, c.if-s-at.false, c.loop-k-test.true)) c.if-s-at-2.true
+
+pub loop-k-preserved : goal.loop-k-preserved
+loop-k-preserved c = c.loop-k.invariant ∙ expect-on c.args.w.now c.args.s.now c.args.at c.loop-k.k c.loop-k-test.true (omega (arith, c.requires, c.if-s-at.false, c.loop-k-test.true)) c.if-s-at-2.false
+
 pub returns : goal.returns
-returns c = rw c.then_some.ensures (by_test c.starts_with.result refl)
-  where
-    by_test : (b : Bool) → c.starts_with.result ≡ b → Reached c.args.s.now (expect c.args.w.now (drop c.args.at c.args.s.now)) (then_some b (c.args.at + length c.args.w.now))
-    by_test true t = (
-      omega (arith, c.requires, rw take_rest at c.starts_with.ensures.bound t, length-drop c.args.at c.args.s.now),
-      expect-found _ _ (rw take_rest at (sym c.starts_with.ensures.value ∙ t)) ∙ ap (took []) (drop-drop (length c.args.w.now) c.args.at c.args.s.now),
-    )
-    by_test false f = expect-none _ _ (rw take_rest at (sym c.starts_with.ensures.value ∙ f))
+returns c =
+    let w = c.args.w.now in
+    let e : c.loop-k.k ≡ length w = omega (arith, c.loop-k.auto.k-end, c.loop-k-test.false) in
+    let z : drop c.loop-k.k w ≡ [] = drop_of_length-le w (omega (arith, e)) in
+    (omega (arith, c.requires, c.if-s-at.false), c.loop-k.invariant ∙ rw z (expect-empty _) ∙ ap (λ n. took [] (drop (c.args.at + n) c.args.s.now)) e)
