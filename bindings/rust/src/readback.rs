@@ -147,7 +147,7 @@ pub const MAX_SCRIPT_DEPTH: usize = 6_146;
 /// assert_eq!(smt_echo::read_stack(100_000), 3_500_000);
 /// ```
 pub const fn read_stack(script_len: usize) -> usize {
-    (20 * script_len).saturating_add(1_500_000)
+    script_len.saturating_mul(20).saturating_add(1_500_000)
 }
 
 /// The most brackets that are open at once in a script. A name stands between bars, and its brackets are none. Any bytes are answered.
