@@ -126,7 +126,7 @@ enum {
     /*
      * Nothing is wrong with the problem, but the result is longer than the output. Call again with a longer one. The length is 0
      * here; echo_size tells the length to set aside for echo_ext and echo_hidden, and a problem within the limits can need more than a
-     * machine has.
+     * machine has. Of read_script: nothing is wrong with the script, but an output is shorter than its part; as long as the limits suffices.
      */
     ECHO_ROOM = 10,
 
