@@ -12,7 +12,7 @@ use std::fmt;
 /// declarations; then for each function in order that no assertion calls a call on zeros; then the terms, each as its last operand ends. Equal
 /// constants are one node, and the amount of a rotation is a constant as wide as the rotation. A new constant stands just before the first
 /// term, in the order of nodes, that uses it, several for one term in the order of the script. Bits, side entries and names follow the nodes
-/// and tables without gaps.
+/// and tables without gaps; an empty list starts at the end so far.
 ///
 /// The outputs are set aside as long as the limits allow, so that [`ReadRefusal::Room`] does not occur. The bytes are one script and nothing
 /// else: [`scripts`](crate::scripts) cuts a file of several.
