@@ -296,7 +296,7 @@ fn deep_scripts() {
          (check-sat)\n"
     );
     assert!(script_depth(script.as_bytes()) <= MAX_SCRIPT_DEPTH);
-    let reader = std::thread::Builder::new().stack_size(4 << 20);
+    let reader = std::thread::Builder::new().stack_size(2 << 20);
     let read = reader.spawn(move || read_script(script.as_bytes()).map(|problem| problem.side.len())).unwrap().join().unwrap();
     assert_eq!(read, Ok(MAX_SIDE_LEN));
 }
