@@ -33,7 +33,7 @@ gcc -std=c99 -O2 -Wall -Wextra -Wpedantic -Werror $(pkg-config --cflags smt-echo
     $(pkg-config --libs smt-echo)
 "$place/c/print_m2" | diff examples/c/expected.txt -
 echo "test.sh: the C example, by pkg-config, version $(pkg-config --modversion smt-echo)"
-ECHO_LIB_DIR=lib OUT=$place/c sh examples/c/run.sh > "$place/c/said"
+OUT=$place/c sh examples/c/run.sh > "$place/c/said"
 sed 's/^run.sh/test.sh/' "$place/c/said"
 
 # The Rust example, and a package that depends on the one in the archive.

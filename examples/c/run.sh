@@ -7,7 +7,9 @@
 set -eu
 cd "$(dirname "$0")/../.."
 out=${OUT:-target/c}
-library=${ECHO_LIB_DIR:-target/staticlib}/libecho_c.a
+folder=target/staticlib
+[ -f lib/libecho_c.a ] && folder=lib # in the archive
+library=${ECHO_LIB_DIR:-$folder}/libecho_c.a
 cc=${CC:-gcc}
 cxx=${CXX:-g++}
 warnings='-Wall -Wextra -Wpedantic -Wconversion -Werror'
