@@ -6,7 +6,7 @@
  * `lengthen_records`, for C and C++.
  *
  * The library is target/staticlib/libecho_c.a, written by `sh tools/staticlib.sh`. It is for x86-64 with the System V calling
- * convention. It allocates nothing, keeps nothing between calls and needs only memcpy and memset of the C library.
+ * convention. It allocates nothing, keeps nothing between calls and needs only memcpy, memmove and memset of the C library.
  *
  * The functions take slices: a pointer and a number of elements (not of bytes). For each slice the caller sees to it that
  *
@@ -370,7 +370,7 @@ struct echo_answer echo_hidden(
  *
  * With the lets unfolded the script says the problem's declarations and trees. Equal scripts mean equal trees; equal trees may have
  * different scripts. A problem without shared nodes is answered as by echo_ext, byte for byte. echo_size speaks of echo_ext and not of
- * this script. It needs some 5 KB more stack than echo_ext.
+ * this script. It needs no more stack than echo_ext.
  */
 struct echo_answer echo_let(
     const uint8_t *nodes, size_t nodes_len,
@@ -675,9 +675,10 @@ static inline size_t echo_release_depth(const uint8_t *file, size_t file_len)
         if (next.found == 0) {
             return most;
         }
-        const size_t depth = echo_script_depth(file + at, (size_t)next.length);
+        const size_t length = next.length;
+        const size_t depth = echo_script_depth(file + at, length);
         most = depth > most ? depth : most;
-        at += (size_t)next.length;
+        at += length;
     }
 }
 

@@ -18,6 +18,11 @@ if [ ! -f "$library" ]; then
     sh tools/staticlib.sh
 fi
 mkdir -p "$out"
+others=$(nm -u "$library" | awk '$1 == "U" && $2 != "memcpy" && $2 != "memmove" && $2 != "memset" { print $2 }')
+if [ -n "$others" ]; then
+    echo "run.sh: the library needs more of the C library than the header says:" $others
+    exit 1
+fi
 sanitizers='-g -O1 -fsanitize=address,undefined -fno-sanitize-recover=all'
 # built PROGRAM COMPILER OPTION ..: examples/c/PROGRAM.c
 built() {
@@ -49,6 +54,7 @@ compared one_meaning one_meaning.txt
 tested C99 "$cc" -std=c99 -x c
 if command -v "$cxx" > /dev/null; then
     tested C++17 "$cxx" -std=c++17 -x c++
+    echo '#include "echo.h"' | "$cxx" -std=c++17 $warnings -Wsign-conversion -Wshadow -Wold-style-cast -Iinclude -fsyntax-only -x c++ -
 else
     echo "run.sh: no $cxx: the header was not compiled as C++17"
 fi
