@@ -13,7 +13,7 @@ ghost use Rattle.script_check.specs.Check.{TopTo, BodyTo, EndsTo};
 ghost use Rattle.script_check.specs.Steps.{Going};
 
 use script_entries::{Script, measure_lines};
-use script_header::{Header, read_header};
+use script_header::{Header, header_at_start};
 use script_names::Table;
 use script_terms::sort_at;
 use script_tokens::literal;
@@ -54,7 +54,7 @@ pub fn check_header(s: &[u8], t: &mut Table) -> Option<Header>
     requires { Empty t.old }
     ensures { TopTo s.now t.new result }
 {
-    let header = read_header(s, t, 0)?;
+    let header = header_at_start(s, t)?;
     measure_lines(s, t, &header);
     Some(header)
 }

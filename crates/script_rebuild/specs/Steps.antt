@@ -1,7 +1,7 @@
 -- The steps of rebuilding a script's problem.
-use Rattle.std.specs.Prelude.{ℕ, ◌+◌, ◌-◌, ◌≤◌, ◌≡◌, refl, List, [], map, T, length, take, Result, Ok, Err, None, Bool}
+use Rattle.std.specs.Prelude.{ℕ, ◌+◌, ◌-◌, ◌≤◌, ◌≡◌, List, [], map, T, length, take, Result, Ok, Err, None, Bool}
 use Rattle.std.proofs.Common.{sym, subst, ⊎_elim, arith}
-use Rattle.std.proofs.Math.Option.{Option, none, some}
+use Rattle.std.proofs.Math.Option.{none}
 use Rattle.std.proofs.lemmas.List.{length-map}
 use Rattle.lists.specs.Tests.{no→false}
 use Rattle.reading.specs.Trees.{Tree, Variable, Array, Function, Declarations, Reading}
@@ -11,11 +11,6 @@ use Rattle.readback.specs.ScriptReader.{reading_in, trees_from}
 use Rattle.readback.specs.ReadAnswers.{limits_passed}
 use Rattle.script_entries.specs.Entries.{variables_of, arrays_of, names_of, Known}
 use Rattle.script_calls.specs.Flags.{Flagged}
-use Rattle.lists.specs.Bytes.{bytes}
-use Rattle.readback.specs.Reader.{Took, and_then, expect}
-use Rattle.script_header.specs.Header.{header_in}
-use Rattle.header_laws.specs.Whole.{header-none}
-use Rattle.script_opening.specs.Openings.{place_of, opening_at}
 use Rattle.script_fill.specs.Filling.{Few}
 use Rattle.header_laws.specs.Body.{reading_of, AssertionsAt}
 use Rattle.heap_laws.specs.Heap.{Held, Stacked}
@@ -51,17 +46,6 @@ counts s t h D k =
 pub few-entries : {s : List ℕ} {t : Table} {h : Header} {D : Declarations} → Known s t h D → variables_of h ≤ 512 → arrays_of h - variables_of h ≤ 512 → names_of h - arrays_of h ≤ 512
     → Few s t h D
 few-entries k v a f = record { known = k; few = omega (arith, k.arrays, k.functions) }
-
--- ---------------------------------------------------------------- how a script begins
-
--- bytes that do not begin so are no script
-pub not-begun : (s : List ℕ) → None ≡ opening_at s 0 → reading_in s ≡ none
-unfolding opening_at header_in and_then
-not-begun s e = by-opening (expect (bytes "(set-logic ") s) refl (sym e)
-  where
-    by-opening : (o : Option (Took (List ℕ))) → expect (bytes "(set-logic ") s ≡ o → place_of s o ≡ None → reading_in s ≡ none
-    by-opening none q z = header-none s (rw q refl)
-    by-opening (some t) q z = absurd (let y : ◌≡◌ {A = ℕ} 0 1 = cc in omega arith)
 
 -- ---------------------------------------------------------------- the answer
 

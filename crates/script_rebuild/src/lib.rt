@@ -27,7 +27,6 @@ use script_entries::Script;
 use script_fill::names_length;
 use script_header::Header;
 use script_names::Table;
-use script_opening::opening;
 use script_place::Unread;
 
 // How many bytes the names of each table have.
@@ -143,7 +142,6 @@ pub fn rebuild_script(
     requires { Empty t.old × Held heap.old [] × Stacked s.now heap.old [] × (length roots.old ≡ MAX_ROOTS) }
     ensures { RebuiltTo s.now t.new heap.new roots.new result }
 {
-    opening(s).ok_or(Unread::NoScript)?;
     let header = check_header(s, t).ok_or(Unread::NoScript)?;
     let script = Script {
         text: s,

@@ -1,23 +1,9 @@
 -- `rebuild_script` meets its contract.
-use Rattle.std.specs.Prelude.{◌≡◌, ℕ, Option, Some, None, Ok, Err}
-use Rattle.std.specs.Option.{ok_or}
-use Rattle.std.proofs.Common.{refl, ap, sym, ◌∙◌, subst}
-use Rattle.std.proofs.lemmas.Result.{err_from_is_err_and}
+use Rattle.std.specs.Prelude.{Ok, Err}
+use Rattle.std.proofs.Common.{refl, ap, subst}
 use Rattle.script_check.specs.Check.{TopTo}
-use Rattle.script_place.specs.declared.Unread.{Unread}
-use Rattle.script_place.specs.declared.Unread.TheVariants.{NoScript}
-use Rattle.script_rebuild.specs.Steps.{not-begun, few-names, few-functions, over-tables, over-items, whole, none-placed}
+use Rattle.script_rebuild.specs.Steps.{few-names, few-functions, over-tables, over-items, whole, none-placed}
 use Rattle.script_rebuild.proofs.rebuild_script.Goals as goal
-
-unopened : (o : Option ℕ) (e : Unread) → Err e ≡ ok_or o NoScript → (o ≡ None) × (e ≡ NoScript)
-unopened None e q = (refl, cc)
-unopened (Some k) e q = absurd (let z : ⊥ = cc in z)
-
-pub returns-in_err-ok_or : goal.returns-in_err-ok_or
-returns-in_err-ok_or c =
-    let p = err_from_is_err_and c.from_residual.result c.from_residual.ensures.1 in
-    let q = unopened c.opening.result _ c.in_err-ok_or.ensures.value in
-    rw (p.1, p.2, q.1) (not-begun _ (sym q.0 ∙ c.opening.ensures))
 
 pub arenas_within-requires : goal.arenas_within-requires
 arenas_within-requires c = let x = subst (TopTo c.args.s.now c.check_header.new.t) c.in_ok-header.ensures.ok_part c.check_header.ensures in (x.declarations, x.known)

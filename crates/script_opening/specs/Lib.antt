@@ -1,3 +1,0 @@
--- How a script begins.
-pub mod Openings
-pub mod Laws
