@@ -80,6 +80,9 @@ impl<'a> Trace<'a> {
             for ((start, field), variable) in found.iter().zip(&trace.variables) {
                 row[*variable] = value(field).map_err(|message| error(number, *start, message))?;
             }
+            if trace.values.try_reserve(row.len()).is_err() {
+                return Err(error(number, 0, "there are more rows than memory allows".into()));
+            }
             trace.values.extend(&row);
         }
         Ok(trace)

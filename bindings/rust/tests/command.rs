@@ -771,6 +771,23 @@ fn over_what_memory_allows() {
     let more = |bytes: u32| format!("smt-echo: the script has more than {bytes} bytes, more than memory allows\n2\n");
     assert!([8 << 20, 16 << 20, 32 << 20].map(more).contains(&told), "{told}");
     assert!(run(&["print", "--let"], text.as_bytes()).done().len() > 65_000_000);
+
+    // A trace whose rows, or whose result, are more than a limit leaves.
+    fs::write(folder.join("m2"), M2).unwrap();
+    let rows = |count: usize| format!("x\n{}", "1\n".repeat(count));
+    fs::write(folder.join("rows"), rows(500_000)).unwrap();
+    let (_, told) = shell("ulimit -v 20000; smt-echo replay m2 rows 2>&1 > /dev/null; echo $?", &folder);
+    let more = ["has 500000 rows, more than memory allows\n2\n", "there are more rows than memory allows\n2\n"];
+    assert!(more.iter().any(|end| told.starts_with("smt-echo: rows:") && told.ends_with(end)), "{told}");
+    let name = "x".repeat(16_000);
+    let mut text = format!("problem\nvariable |{name}| 8 node 0\n0 var 8\n");
+    (1..65).for_each(|i| text += &format!("{i} ult 0 0\nroot {i}\n"));
+    fs::write(folder.join("long"), &text).unwrap();
+    fs::write(folder.join("rows"), rows(100).replace('x', &name)).unwrap();
+    let (_, told) = shell("ulimit -v 100000; smt-echo replay --formulas long rows 2>&1 > /dev/null; echo $?", &folder);
+    let formulas: usize = (0..64).map(|root| format!(" {root}    {root}: |{name}| < |{name}|\n").len()).sum();
+    let length: usize = (0..100).map(|row| format!("{row} fails\n").len() + formulas).sum();
+    assert_eq!(told, format!("smt-echo: the result has {length} bytes, more than memory allows\n2\n"));
 }
 
 /// Terms that double 40 times: as a tree a terabyte, with `let` a few lines. What to look at in one that is refused is found at once.

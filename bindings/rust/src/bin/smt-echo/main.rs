@@ -77,7 +77,10 @@ fn main() -> ExitCode {
     };
     match thread::Builder::new().stack_size(STACK).spawn(run).map(thread::JoinHandle::join) {
         Ok(Ok(status)) => ExitCode::from(status),
-        _ => ExitCode::from(NOT_DONE),
+        Ok(Err(_)) => ExitCode::from(NOT_DONE), // a panic, which says so itself
+        Err(error) => ExitCode::from(told(Err(Failure::NotDone(format!(
+            "a thread with {STACK} bytes of stack cannot be started: {error}"
+        ))))),
     }
 }
 

@@ -1,7 +1,7 @@
 //! `replay`: which assertions hold on logged values.
 
 use crate::input::{self, Source};
-use crate::{Args, Command, Failure, formulas, look};
+use crate::{Args, Command, Failure, formulas, look, room};
 use smt_echo::{Problem, Trace, TraceRefusal, replay_trace};
 use std::io::Write;
 
@@ -46,7 +46,9 @@ fn run(args: &Args) -> Result<Vec<u8>, Failure> {
     replay_trace(problem, &[], &mut [0], &mut [0]).map_err(|refusal| refused(problem, refusal))?;
     let trace = Trace::from_csv(problem, &csv).map_err(|error| of_trace.malformed(error))?;
     let rows = trace.rows();
-    let (mut masks, mut counts) = (vec![0; rows], vec![0; rows]);
+    let (Some(mut masks), Some(mut counts)) = (room::zeros(rows), room::zeros(rows)) else {
+        return Err(of_trace.not_done(format!("has {rows} rows, more than memory allows")));
+    };
     replay_trace(problem, trace.values(), &mut masks, &mut counts).map_err(|refusal| match refusal {
         TraceRefusal::Values => {
             let look = trace.misfit(problem).map(|error| format!("{of_trace}:{}:{}: {}", error.line, error.column, error.message));
@@ -55,27 +57,32 @@ fn run(args: &Args) -> Result<Vec<u8>, Failure> {
         _ => refused(problem, refusal),
     })?;
     let lines = if args.has("--formulas") { formulas::lines(problem)? } else { Vec::new() };
-    Ok(told(&masks, problem.roots.len(), &lines))
+    let lines = lines.split_inclusive(|byte| *byte == b'\n').enumerate();
+    let formulas: Vec<Vec<u8>> = lines.map(|(root, line)| [format!("    {root}: ").as_bytes(), line].concat()).collect();
+    let mut length = 0usize;
+    told(&masks, problem.roots.len(), &formulas, |part| length = length.saturating_add(part.len()));
+    let Some(mut result) = room::empty(length) else {
+        return Err(Failure::NotDone(format!("the result has {length} bytes, more than memory allows")));
+    };
+    told(&masks, problem.roots.len(), &formulas, |part| result.extend_from_slice(part));
+    Ok(result)
 }
 
 fn refused(problem: &Problem<'_>, refusal: TraceRefusal) -> Failure {
     Failure::Refused { refusal: refusal.to_string(), look: look::trace(problem, refusal) }
 }
 
-/// A line for each row, and the formulas of those that fail if there are lines for them.
-fn told(masks: &[u64], roots: usize, formulas: &[u8]) -> Vec<u8> {
-    let formulas: Vec<&[u8]> = formulas.split_inclusive(|byte| *byte == b'\n').collect();
-    let mut out = Vec::new();
+/// A line for each row, and the formulas of those that fail if there are any, part by part.
+fn told(masks: &[u64], roots: usize, formulas: &[Vec<u8>], mut part: impl FnMut(&[u8])) {
+    let mut line = Vec::new();
     for (row, mask) in masks.iter().enumerate() {
-        let failing: Vec<usize> = (0..roots).filter(|root| mask >> root & 1 == 0).collect();
-        let all = if failing.is_empty() { "holds" } else { "fails" };
-        let numbers: String = failing.iter().map(|root| format!(" {root}")).collect();
-        writeln!(out, "{row} {all}{numbers}").expect("a vector takes all");
-        for root in failing {
-            if let Some(formula) = formulas.get(root) {
-                out.extend([format!("    {root}: ").as_bytes(), formula].concat());
-            }
-        }
+        let failing = || (0..roots).filter(|root| mask >> root & 1 == 0);
+        let all = if failing().next().is_none() { "holds" } else { "fails" };
+        line.clear();
+        write!(line, "{row} {all}").expect("a vector takes all");
+        failing().for_each(|root| write!(line, " {root}").expect("a vector takes all"));
+        line.push(b'\n');
+        part(&line);
+        failing().filter_map(|root| formulas.get(root)).for_each(|formula| part(formula));
     }
-    out
 }

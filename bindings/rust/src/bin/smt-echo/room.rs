@@ -50,6 +50,23 @@ fn buffer(length: usize) -> Option<Vec<u8>> {
     Some(buffer)
 }
 
+/// So many zeros, if memory allows.
+pub fn zeros(count: usize) -> Option<Vec<u64>> {
+    let fits = available().is_none_or(|bytes| count.saturating_mul(8) <= bytes);
+    let mut zeros = Vec::new();
+    fits.then(|| zeros.try_reserve_exact(count).ok()).flatten()?;
+    zeros.resize(count, 0);
+    Some(zeros)
+}
+
+/// A vector without elements and with room for so many bytes, if memory allows.
+pub fn empty(length: usize) -> Option<Vec<u8>> {
+    let fits = available().is_none_or(|bytes| length <= bytes);
+    let mut empty = Vec::new();
+    fits.then(|| empty.try_reserve_exact(length).ok()).flatten()?;
+    Some(empty)
+}
+
 /// The memory that is left, if the system tells. It is asked for, since Linux hands out more than there is.
 fn available() -> Option<usize> {
     let told = fs::read_to_string("/proc/meminfo").ok()?;
