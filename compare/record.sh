@@ -1,7 +1,8 @@
 #!/bin/sh
 # Makes the recorded lists again: record.sh FOLDER, where FOLDER holds the unchanged Rust (kernel.rs and the files that it includes).
 # With --clauses after it, the tally by clause is printed too. With --rows OUT nothing is recorded: rows of traces are written to the folder
-# OUT as scripts for the solvers (solvers/traces.py). What is built goes to a folder of its own and is removed.
+# OUT as scripts for the solvers (solvers/traces.py). Nor with --copies OUT: the scripts with let are written to OUT/let, and the Rust's scripts
+# of the same problems with their shared parts copied to OUT/plain (solvers/lets.py). What is built goes to a folder of its own and is removed.
 set -eu
 source=$(cd "$1" && pwd)
 shift
@@ -14,6 +15,10 @@ rustc --edition 2024 --crate-type rlib --crate-name model -O -A warnings -o "$ro
 rustc --edition 2024 -O --extern kernel="$room/libkernel.rlib" --extern model="$room/libmodel.rlib" -o "$room/record" "$here/src/main.rs"
 if [ "${1:-}" = --rows ]; then
     "$room/record" rows "$2"
+    exit
+fi
+if [ "${1:-}" = --copies ]; then
+    "$room/record" copies "$2"
     exit
 fi
 for list in problems scripts records traces reads releases; do mkdir -p "$here/../crates/replay_$list/data"; done

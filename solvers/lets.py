@@ -1,10 +1,13 @@
 #!/usr/bin/env python3
-"""Hands scripts with let to the solvers that are installed, and the same scripts with each let unfolded, and compares the answers.
+"""Hands scripts with let to the solvers that are installed, and beside each a script without, and compares the answers.
 
-    lets.py FOLDER [SECONDS]
+    lets.py FOLDER [SECONDS]           beside each script the same with every let unfolded, by its own text
+    lets.py FOLDER SECONDS PLAIN       beside each script that of the same name in the folder PLAIN
 
-FOLDER has scripts NAME.smt2, as scripts.py writes them from the recorded list of the printer with let. Only those with a let whose
-unfolded text is short are asked. Exit status 1 where two answers of one solver differ, or a solver prints an error.
+FOLDER has scripts NAME.smt2, as scripts.py writes them from the recorded list of the printer with let; `compare/record.sh --copies` writes both
+folders, with the Rust's scripts of the problems with their shared parts copied in PLAIN, which have to be the unfolded scripts to the byte. Only
+scripts with a let whose unfolded text is short are asked. Exit status 1 where two answers of one solver or those of two solvers differ, a solver
+prints an error, a script is not the unfolded one, or nothing could be asked.
 """
 import os
 import re
@@ -56,6 +59,7 @@ def ask(solver, path, seconds):
 
 def main():
     folder, seconds = sys.argv[1], int(sys.argv[2]) if len(sys.argv) > 2 else 2
+    copies = sys.argv[3] if len(sys.argv) > 3 else None
     solvers = [s for s in ("z3", "cvc5") if shutil.which(s)]
     tally, wrong, asked = {}, 0, 0
     with tempfile.TemporaryDirectory() as room:
@@ -71,20 +75,31 @@ def main():
                 continue
             if len(plain) > LIMIT:
                 continue
-            other = os.path.join(room, "plain.smt2")
-            with open(other, "w", encoding="latin-1", newline="") as f:
-                f.write(plain)
+            other = os.path.join(copies or room, name if copies else "plain.smt2")
+            if copies:
+                with open(other, encoding="latin-1", newline="") as f:
+                    if f.read() != plain:
+                        wrong += 1
+                        print(f"{name}: unfolded it is another script than {other}")
+            else:
+                with open(other, "w", encoding="latin-1", newline="") as f:
+                    f.write(plain)
             asked += 1
+            said = set()
             for s in solvers:
                 a, b = ask(s, path, seconds), ask(s, other, seconds)
+                said |= {a, b} & {"sat", "unsat"}
                 tally[s, a, b] = tally.get((s, a, b), 0) + 1
                 if a.startswith("error") or b.startswith("error") or ("none" not in (a, b) and a != b):
                     wrong += 1
                     print(f"{name}: {s}: with let {a}, unfolded {b}")
+            if len(said) > 1:
+                wrong += 1
+                print(f"{name}: the solvers contradict each other")
     for (s, a, b), n in sorted(tally.items()):
         print(f"{s}: with let {a}, unfolded {b}: {n}")
     print(f"scripts {asked}, differences {wrong}")
-    sys.exit(1 if wrong else 0)
+    sys.exit(1 if wrong or not asked or not solvers else 0)
 
 
 main()

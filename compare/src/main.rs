@@ -8,6 +8,7 @@ mod added;
 mod alphabets;
 mod arrays;
 mod both;
+mod copies;
 mod fewest;
 mod fewest_problems;
 mod formulas;
@@ -15,6 +16,8 @@ mod formulas_problems;
 mod hidden;
 mod hidden_problems;
 mod lets;
+mod lets_by_hand;
+mod lets_graphs;
 mod lets_problems;
 mod list;
 mod oracle;
@@ -239,23 +242,31 @@ fn record_scripts(out: &str, long: bool) {
     println!("{out}: {} files, {found} scripts, {} bytes", cases.len(), bytes.len());
 }
 
-/// Problems of its own, and of the printer's those that it refuses for a shared node, each once, and every tenth of the others.
-fn record_let(out: &str, long: bool) {
-    let mut list = list::List::new(b"LET    2");
-    let mut tally = Tally::default();
+/// A problem of the list of scripts with `let`: what it was made for, the number that it has to get, and how much is lent.
+struct LetCase {
+    label: String,
+    want: Option<u32>,
+    problem: problem::Problem,
+    room: usize,
+}
+
+/// Problems of its own, those by hand with the number that they have to get, and of the printer's those that it refuses for a shared node, each
+/// once, and every tenth of the others.
+fn let_cases() -> impl Iterator<Item = LetCase> {
     let mut seen = HashSet::new();
-    let (mut bound, mut others) = (0, 0);
-    let own = lets_problems::all().into_iter().map(|(label, p, room)| (label.to_string(), p, room));
-    let printers = printer::all().into_iter().chain(arrays::of_printer()).filter_map(|c| {
+    let mut others = 0;
+    let own = lets_problems::all().into_iter().map(|(label, p, room)| (label.to_string(), None, p, room));
+    let by_hand = lets_by_hand::all().into_iter().map(|c| (c.label.to_string(), Some(c.want), c.problem, c.room));
+    let printers = printer::all().into_iter().chain(arrays::of_printer()).filter_map(move |c| {
         let plain = added::print_answer(&c.problem, usize::MAX);
         if !seen.insert(list::of_script(&c.problem, 0, &plain)) || plain.result.len() > 40_000 {
             return None;
         }
         others += (plain.number != 6) as usize;
-        (plain.number == 6 || others % 10 == 0).then_some((c.label, c.problem, c.room))
+        (plain.number == 6 || others % 10 == 0).then_some((c.label, None, c.problem, c.room))
     });
-    for (label, p, room) in own.chain(printers) {
-        let len = lets::script_len(&p).unwrap_or(64);
+    own.chain(by_hand).chain(printers).map(|(label, want, problem, room)| {
+        let len = lets::script_len(&problem).unwrap_or(64);
         let room = match room {
             printer::Room::Exact => len,
             printer::Room::OneShort => len - 1,
@@ -263,14 +274,58 @@ fn record_let(out: &str, long: bool) {
             printer::Room::Longer(n) => len + n,
             printer::Room::Fixed(n) => n,
         };
-        let a = lets::answer(&p, room);
+        LetCase { label, want, problem, room }
+    })
+}
+
+fn binds(script: &[u8]) -> bool {
+    script.windows(6).any(|w| w == b"(let (")
+}
+
+/// The Rust's script of the problem with its shared parts copied, if that is not too large. The script with `let`, unfolded, has to be the same.
+fn copied_script(c: &LetCase, script: &[u8]) -> Option<Vec<u8>> {
+    let plain = copies::script(&c.problem)?;
+    assert!(copies::unfolded(script) == plain, "{}: unfolded it is not the script of the copy", c.label);
+    Some(plain)
+}
+
+fn record_let(out: &str, long: bool) {
+    let mut list = list::List::new(b"LET    2");
+    let mut tally = Tally::default();
+    let (mut bound, mut copied) = (0, 0);
+    for c in let_cases() {
+        let a = lets::answer(&c.problem, c.room);
         assert!(!a.result.contains(&FILL_BYTE), "a script has the byte that the replay fills with");
-        bound += a.result.windows(6).any(|w| w == b"(let (") as usize;
-        tally.note(&label, None, a.number);
-        list.add(&list::of_script(&p, room, &a));
+        bound += binds(&a.result) as usize;
+        if a.number == 0 {
+            copied += copied_script(&c, &a.result).is_some() as usize;
+        }
+        tally.note(&c.label, c.want, a.number);
+        list.add(&list::of_script(&c.problem, c.room, &a));
     }
-    println!("scripts that bind: {bound}");
+    println!("scripts that bind: {bound}; held against the Rust's with shared parts copied: {copied}");
     finish(&list, &tally, out, long);
+}
+
+/// The accepted scripts with a `let` and beside each the Rust's script of the problem with its shared parts copied, in two folders. A file's name is
+/// the problem's place in the list.
+fn write_copies(folder: &str) {
+    let (lets, plain) = (format!("{folder}/let"), format!("{folder}/plain"));
+    std::fs::create_dir_all(&lets).expect("the folder is made");
+    std::fs::create_dir_all(&plain).expect("the folder is made");
+    let mut n = 0;
+    for (i, c) in let_cases().enumerate() {
+        let a = lets::answer(&c.problem, c.room);
+        if !binds(&a.result) {
+            continue;
+        }
+        if let Some(script) = copied_script(&c, &a.result) {
+            std::fs::write(format!("{lets}/{i}.smt2"), &a.result).expect("a script is written");
+            std::fs::write(format!("{plain}/{i}.smt2"), script).expect("a script is written");
+            n += 1;
+        }
+    }
+    println!("{folder}: {n} scripts with let, and as many plain ones");
 }
 
 /// Problems of its own, and of the printer's with at most 40 roots every third of those that are refused with 1 to 7, and every tenth of the
@@ -459,10 +514,11 @@ fn run() {
         (Some("reads"), Some(out)) => record_reads(out, long),
         (Some("releases"), Some(out)) => record_releases(out, long),
         (Some("rows"), Some(folder)) => write_rows(folder),
+        (Some("copies"), Some(folder)) => write_copies(folder),
         (Some("formulas"), Some(out)) => record_formulas(out, long),
         _ => {
             eprintln!(
-                "record widths|printer|sizes|hidden|let|fewest|formulas|scripts|records|traces|reads|releases OUT [--clauses], record rows FOLDER"
+                "record widths|printer|sizes|hidden|let|fewest|formulas|scripts|records|traces|reads|releases OUT [--clauses], record rows|copies FOLDER"
             );
             std::process::exit(2);
         }

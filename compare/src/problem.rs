@@ -27,6 +27,7 @@ pub mod kind {
     pub const VAR: u8 = 0;
     pub const CONST: u8 = 1;
     pub const ADD: u8 = 2;
+    pub const SUB: u8 = 3;
     pub const ROTR: u8 = 13;
     pub const EXTRACT: u8 = 14;
     pub const CONCAT: u8 = 15;
