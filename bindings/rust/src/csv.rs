@@ -1,6 +1,6 @@
 //! A trace as CSV: the names of the variables, and a row of values a line. docs/FORMATS.md has the form.
 
-use crate::{Problem, TextError, quoted_name};
+use crate::{Problem, TEXT_MARK, TextError, excerpt, quoted_name};
 use std::borrow::Cow;
 
 /// A trace that was read from CSV: the values in the order that [`replay_trace`](crate::replay_trace) wants, and where each of them stands.
@@ -37,7 +37,7 @@ impl<'a> Trace<'a> {
     ///
     /// The names of the problem have to be all different, as those of every problem are that is not refused.
     pub fn from_csv(problem: &Problem<'_>, csv: &'a [u8]) -> Result<Trace<'a>, TextError> {
-        let csv = csv.strip_prefix(b"\xef\xbb\xbf").unwrap_or(csv); // the mark that some programs put in front of UTF-8
+        let csv = csv.strip_prefix(TEXT_MARK).unwrap_or(csv);
         let names = names(problem);
         let mut trace = Trace { csv, variables: Vec::new(), values: Vec::new() };
         let mut lines = lines(csv);
@@ -67,8 +67,7 @@ impl<'a> Trace<'a> {
             let found = fields(number, line)?;
             let columns = trace.variables.len();
             if let Some((start, field)) = found.get(columns) {
-                let there = String::from_utf8_lossy(field).escape_debug().to_string();
-                return Err(error(number, *start, format!("the end of the line is wanted, and `{there}` is there")));
+                return Err(error(number, *start, format!("the end of the line is wanted, and `{}` is there", excerpt(field))));
             }
             if found.len() < columns {
                 return Err(error(
@@ -120,9 +119,11 @@ fn names<'p>(problem: &Problem<'p>) -> Vec<Option<&'p [u8]>> {
     problem.name_start.iter().zip(problem.name_len).map(name).collect()
 }
 
-/// A name for a message, which is text.
+/// A name for a message, which is text: of a long one the start.
 fn shown(name: &[u8]) -> String {
-    String::from_utf8_lossy(&quoted_name(name)).into_owned()
+    const LONGEST: usize = 200;
+    let start = String::from_utf8_lossy(&quoted_name(&name[..name.len().min(LONGEST)])).into_owned();
+    if name.len() > LONGEST { start + " .." } else { start }
 }
 
 fn error(line: usize, start: usize, message: String) -> TextError {
@@ -190,6 +191,6 @@ fn value(field: &[u8]) -> Result<u64, String> {
         Some(text) => {
             u64::from_str_radix(text, radix).map_err(|_| "a value is wanted, and the number there does not fit 64 bits".into())
         }
-        None => Err(format!("a value is wanted, and `{}` is there", String::from_utf8_lossy(field).escape_debug())),
+        None => Err(format!("a value is wanted, and `{}` is there", excerpt(field))),
     }
 }

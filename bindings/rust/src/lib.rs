@@ -76,7 +76,7 @@ pub use records::{RecordRefusal, lengthen_records, shorten_records};
 pub use refusal::{Refusal, WidthRefusal};
 pub use releases::{MAX_SCRIPTS, ReleaseRefusal, check_release, release_depth, release_stack};
 pub use scripts::{Scripts, next_script, scripts};
-pub use text::{TEXT_HEAD, TextError, node_parts, quoted_name};
+pub use text::{TEXT_HEAD, TEXT_MARK, TextError, excerpt, node_parts, quoted_name};
 pub use traces::{TraceRefusal, replay_trace};
 
 /// Bytes of a node record.

@@ -14,6 +14,9 @@ use std::str::FromStr;
 /// The first line.
 pub const TEXT_HEAD: &str = "problem";
 
+/// The mark that some programs put in front of UTF-8. It is passed over.
+pub const TEXT_MARK: &[u8] = b"\xef\xbb\xbf";
+
 /// Why bytes are no problem in the text form.
 #[derive(Clone, Debug, PartialEq, Eq, Hash)]
 pub struct TextError {
@@ -39,6 +42,7 @@ impl OwnedProblem {
     /// Reads the text form. Whether the problem is one that can be printed is not looked at.
     pub fn from_text(text: &[u8]) -> Result<OwnedProblem, TextError> {
         let mut problem = OwnedProblem::default();
+        let text = text.strip_prefix(TEXT_MARK).unwrap_or(text);
         for (i, bytes) in text.split(|b| *b == b'\n').enumerate() {
             let mut line = Line { bytes: bytes.strip_suffix(b"\r").unwrap_or(bytes), at: 0, start: 0, number: i + 1 };
             if i == 0 {
@@ -201,7 +205,7 @@ impl<'t> Line<'t> {
     }
 
     fn wanted(&self, what: &str, found: &[u8]) -> TextError {
-        self.error(format!("{what} is wanted, and `{}` is there", String::from_utf8_lossy(found).escape_debug()))
+        self.error(format!("{what} is wanted, and `{}` is there", excerpt(found)))
     }
 
     /// The next token; none at the end of the line, or where a comment starts.
@@ -314,6 +318,13 @@ impl<'t> Line<'t> {
     fn fits(&self, what: &str, number: usize) -> Result<u32, TextError> {
         u32::try_from(number).map_err(|_| self.error(format!("{what} does not fit 32 bits")))
     }
+}
+
+/// What stands in a text, for a message: of what is long the start.
+pub fn excerpt(bytes: &[u8]) -> String {
+    const LONGEST: usize = 60;
+    let start = String::from_utf8_lossy(&bytes[..bytes.len().min(LONGEST)]).escape_debug().to_string();
+    if bytes.len() > LONGEST { start + " .." } else { start }
 }
 
 /// The word for a kind: its name in lower case.

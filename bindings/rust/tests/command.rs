@@ -651,15 +651,25 @@ fn files() {
         assert_eq!(run(&["print", &path(name)], b"").done(), M2_SCRIPT.as_bytes());
     }
     assert_eq!(shell("smt-echo size -- -m2", &folder), (0, "length 103\nterms 5\n".into()));
-    let none =
-        "is no problem: it begins neither with the line `problem`, nor with a count of the binary layout, nor with `(set-logic `";
+    let none = |first: &str| {
+        format!(
+            "is no problem: its first line is `{first}`, and it begins neither with the line `problem`, nor with a count of the binary \
+             layout, nor with `(set-logic `"
+        )
+    };
+    fs::write(path("lines"), "x\n1\n").unwrap();
+    fs::write(path("comment"), format!("; M2\n{M2}")).unwrap();
+    let (text, lines, comment) = (none("Hello, world!"), none("x"), none("; M2"));
+    let binary = none(&("\u{fffd}".repeat(60) + " .."));
     for (name, why) in [
         ("missing", "cannot be read: No such file or directory (os error 2)"),
         ("", "cannot be read: Is a directory (os error 21)"),
         ("m2/x", "cannot be read: Not a directory (os error 20)"),
         ("empty", "is empty, and no problem: the empty problem is the line `problem`"),
-        ("text", none),
-        ("binary", none),
+        ("text", &text),
+        ("lines", &lines),
+        ("comment", &comment),
+        ("binary", &binary),
         ("short", "is no problem in the binary layout: ends early in input 1, nodes"),
         ("zeros", "is no problem in the binary layout: bytes are left over after input 18, func_width"),
         ("huge", "is longer than 16777216 bytes, the most that are read"),
@@ -677,6 +687,13 @@ fn files() {
     for subcommand in ["split", "read", "release"] {
         assert_eq!(run(&[subcommand, &path("huge")], b"").not_done(), format!("{}: {more}", path("huge")));
     }
+
+    // The mark in front of UTF-8 is passed over, in the text form. Of a long word the start is told.
+    assert_eq!(run(&["print"], format!("\u{feff}{M2}").as_bytes()).done(), M2_SCRIPT.as_bytes());
+    assert_eq!(
+        run(&["print"], format!("\u{feff}problem {}\n", "z".repeat(1_000_000)).as_bytes()).not_done(),
+        format!("standard input:1:9: the end of the line is wanted, and `{} ..` is there", "z".repeat(60))
+    );
 
     // A name that is no text.
     use std::os::unix::ffi::OsStrExt;

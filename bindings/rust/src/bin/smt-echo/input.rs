@@ -1,7 +1,7 @@
 //! What is read: a file or standard input, and a problem in any of its forms.
 
 use crate::{Failure, read};
-use smt_echo::{OwnedProblem, TEXT_HEAD};
+use smt_echo::{OwnedProblem, TEXT_HEAD, TEXT_MARK, excerpt};
 use std::fmt;
 use std::fs::File;
 use std::io::{self, Read};
@@ -58,13 +58,15 @@ impl Source {
             Err(self.not_done("is empty, and no problem: the empty problem is the line `problem`".into()))
         } else if bytes.starts_with(read::HEAD) {
             read::script(&bytes)
-        } else if bytes.starts_with(TEXT_HEAD.as_bytes()) {
+        } else if bytes.strip_prefix(TEXT_MARK).unwrap_or(&bytes).starts_with(TEXT_HEAD.as_bytes()) {
             OwnedProblem::from_text(&bytes).map_err(|error| self.malformed(error))
-        } else if bytes.len() >= 8 && bytes[4..8] != [0; 4] {
-            Err(self.not_done(
-                "is no problem: it begins neither with the line `problem`, nor with a count of the binary layout, nor with `(set-logic `"
-                    .into(),
-            ))
+        } else if bytes.get(4..8).map_or(!bytes.contains(&0), |upper| upper != [0; 4]) {
+            let first = bytes.split(|byte| *byte == b'\n').next().unwrap_or_default();
+            Err(self.not_done(format!(
+                "is no problem: its first line is `{}`, and it begins neither with the line `problem`, nor with a count of the binary \
+                 layout, nor with `(set-logic `",
+                excerpt(first)
+            )))
         } else {
             OwnedProblem::from_layout(&bytes)
                 .map_err(|error| self.not_done(format!("is no problem in the binary layout: {error}")))
