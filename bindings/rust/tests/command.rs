@@ -882,6 +882,12 @@ fn scripts_read_back() {
         ),
         (change("(= (bvadd", "(=  (bvadd"), "line 3: it is no assertion over these declarations as the printer writes it"),
         (change("#b00000101", "#b101"), "line 3: it is no assertion over these declarations as the printer writes it"),
+        (M2_SCRIPT.replace('\n', "\r\n"), "line 1: it ends with bytes 13 and 10, and a line of a script ends with byte 10 alone"),
+        (change("8))\n", "8))\r\n"), "line 2: it ends with bytes 13 and 10, and a line of a script ends with byte 10 alone"),
+        (
+            change("(= (bvadd |x| #b00000101) |x|)", "(let ((|d2| (bvneg |x|))) (= |d2| |d2|))"),
+            "line 3: it has `let`, and what `smt-echo print --let` writes is not read back",
+        ),
     ] {
         assert_eq!(run(&["read"], script.as_bytes()).refused(), (13, look.to_string()), "{script}");
         assert_eq!(run(&["size"], script.as_bytes()).refused(), (13, look.to_string()), "{script}");
@@ -1001,8 +1007,8 @@ fn releases() {
     }
 
     // 13: the script, and the line at fault in its file; a script that goes on from one file into the next
-    let no_assertion = "it is no assertion over these declarations as the printer writes it";
-    assert_eq!(check(&["i16", "i17", "let"]).refused(), (13, format!("script 2, {}:3: {no_assertion}", path("let"))));
+    let no_let = "it has `let`, and what `smt-echo print --let` writes is not read back";
+    assert_eq!(check(&["i16", "i17", "let"]).refused(), (13, format!("script 2, {}:3: {no_let}", path("let"))));
     let end = "a script ends with the line `(check-sat)`";
     let begins = |script: usize, at: String| format!("script {script}, which begins at {at}");
     assert_eq!(check(&["two", "half"]).refused(), (13, format!("{}: {end}", begins(2, path("half") + ":1"))));

@@ -92,6 +92,10 @@ pub fn fault(bytes: &[u8]) -> Option<Fault> {
     }
     let at = |line: usize, text: &str| Some(Fault { line: Some(line), text: text.into() });
     let is_script = |parts: &[&[u8]]| read_script(&parts.concat()) != Err(ReadRefusal::NoScript);
+    // No name has byte 13, so that a line with it is none of a script's.
+    if let Some(line) = lines.iter().position(|line| line.ends_with(b"\r\n")) {
+        return at(line + 1, "it ends with bytes 13 and 10, and a line of a script ends with byte 10 alone");
+    }
     let Some(end) = next_script(bytes) else {
         return Some(Fault { line: None, text: "a script ends with the line `(check-sat)`".into() });
     };
@@ -107,8 +111,13 @@ pub fn fault(bytes: &[u8]) -> Option<Fault> {
     let header = [&[*logic], declarations].concat();
     if is_script(&[&header.concat(), END]) {
         let none = |line: &&[u8]| !line.starts_with(b"(assert ") || !is_script(&[&header.concat(), line, END]);
-        let line = assertions.iter().position(none)? + header.len() + 1;
-        return at(line, "it is no assertion over these declarations as the printer writes it");
+        let place = assertions.iter().position(none)?;
+        let text = if assertions[place].starts_with(b"(assert (let ((") {
+            "it has `let`, and what `smt-echo print --let` writes is not read back"
+        } else {
+            "it is no assertion over these declarations as the printer writes it"
+        };
+        return at(place + header.len() + 1, text);
     }
     let goes_on = |count: usize| {
         let logics = [&b"(set-logic QF_BV)\n"[..], b"(set-logic QF_ABV)\n", b"(set-logic QF_AUFBV)\n"];
