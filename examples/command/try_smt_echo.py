@@ -9,7 +9,7 @@ Of an accepted problem the result is compared; of a refused one the number, and 
 has a result here, since the command sets aside as much as it needs. Each problem of the printer's list is also shown as text and read back:
 the binary layout must be the one begun with, and the text must be the same again. A trace is handed over as CSV, its columns in the
 opposite order; one whose values are no whole number of rows has no CSV and is left out. What a script is read as is also printed again. A
-script that is refused with 9 has nothing to look at, nor has one that is nested too deeply or longer than 1 MB. A release is handed over as one
+script that is nested too deeply, or longer than 1 MB or 2,000 lines, may have nothing to look at. A release is handed over as one
 file and, cut at some byte, as two; what to look at must name the recorded script, and for 17 two lines of that name that differ, the one of
 them in a script before it.
 """
@@ -126,11 +126,11 @@ def reads(program, tally):
             tally.check('read', status == 0 and told == [] and (number == 10 or out == problem))
             tally.check('printed again', run(program, ['print'], out) == (0, script, []))
             tally.check('printed as it is', run(program, ['print'], script) == (0, script, []))
-        elif number == 13 and len(told) == 2:
+        elif number in (9, 13) and len(told) == 2:
             tally.refused(number, ran)
         else:
             tally.check('refused with %d: %s' % (number, told), status == 1 and out == b'' and len(told) == 1 and told[0].startswith('refused: %d ' % number))
-            tally.check('nothing to look at', number == 9 or len(script) > 1 << 20 or script.count(b'(') > 6146)
+            tally.check('nothing to look at', len(script) > 1 << 20 or script.count(b'\n') > 2000 or script.count(b'(') > 6146)
 
 
 def line_of(file, number):

@@ -901,7 +901,13 @@ fn scripts_read_back() {
         &["read"],
         change("BitVec 8", "BitVec 4294967296").replace("(assert (= (bvadd |x| #b00000101) |x|))\n", "").as_bytes(),
     );
-    assert!(wide.status == 1 && wide.err.starts_with("refused: 9 Limit: "), "{wide:?}");
+    let over = "with it the problem is over a limit, or has a number that its record cannot hold";
+    assert_eq!(wide.refused(), (9, format!("line 2: {over}")));
+    let not = |count: usize| "(not ".repeat(count) + "(= |x| |x|)" + &")".repeat(count);
+    let many = change("(assert (= (bvadd |x| #b00000101) |x|))\n", &format!("(assert {})\n", not(1_000)).repeat(3));
+    assert_eq!(run(&["size"], many.as_bytes()).refused(), (9, format!("line 5: {over}")));
+    let deep = change("(= (bvadd |x| #b00000101) |x|)", &not(7_000));
+    assert_eq!(run(&["read"], deep.as_bytes()).refused(), (9, "line 3: more than 6146 brackets are open at once".into()));
     let deep = change("(= (bvadd |x| #b00000101) |x|)", &("(not ".repeat(200_000) + "(= |x| |x|)" + &")".repeat(200_000)));
     let deep = run(&["read"], deep.as_bytes());
     assert!(deep.status == 1 && deep.err.starts_with("refused: 9 Limit: "), "{deep:?}");
@@ -1023,7 +1029,11 @@ fn releases() {
     );
 
     // 9: a script over a limit, one nested too deeply, and too many scripts
-    assert_eq!(check(&["i16", "i17", "wide", "let"]).refused(), (9, begins(2, path("wide") + ":1")));
+    let (number, look) = check(&["i16", "i17", "wide", "let"]).refused();
+    assert!(
+        number == 9 && look.starts_with(&format!("script 2, {}:2: with it the problem is over a limit", path("wide"))),
+        "{look}"
+    );
     let deep =
         M2_SCRIPT.replace("(= (bvadd |x| #b00000101) |x|)", &("(not ".repeat(200_000) + "(= |x| |x|)" + &")".repeat(200_000)));
     assert_eq!(run(&["release"], (declaring("x", 8) + &deep).as_bytes()).refused(), (9, begins(1, "standard input:4".into())));

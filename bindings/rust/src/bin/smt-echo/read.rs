@@ -47,7 +47,11 @@ fn run(args: &Args) -> Result<Vec<u8>, Failure> {
 /// The problem of a script.
 pub fn script(bytes: &[u8]) -> Result<OwnedProblem, Failure> {
     with_stack(longest_deep([bytes]).map(read_stack), || read_script(bytes))?.map_err(|refusal| {
-        let look = if refusal == ReadRefusal::NoScript { fault(bytes) } else { None };
+        let look = match refusal {
+            ReadRefusal::NoScript => fault(bytes),
+            ReadRefusal::Limit => over(bytes),
+            _ => None,
+        };
         let look = look.map(|fault| match fault.line {
             None => format!("the end: {}", fault.text),
             Some(line) => format!("line {line}: {}", fault.text),
@@ -75,6 +79,9 @@ pub fn with_stack<T: Send>(stack: Option<usize>, call: impl FnOnce() -> T + Send
 const LOOKED_THROUGH: (usize, usize) = (1 << 20, 2_000);
 
 const END: &[u8] = b"(check-sat)\n";
+
+/// The lines of a script's logic.
+const LOGICS: [&[u8]; 3] = [b"(set-logic QF_BV)\n", b"(set-logic QF_ABV)\n", b"(set-logic QF_AUFBV)\n"];
 
 /// What is wrong with bytes that are no script.
 pub struct Fault {
@@ -120,11 +127,30 @@ pub fn fault(bytes: &[u8]) -> Option<Fault> {
         return at(place + header.len() + 1, text);
     }
     let goes_on = |count: usize| {
-        let logics = [&b"(set-logic QF_BV)\n"[..], b"(set-logic QF_ABV)\n", b"(set-logic QF_AUFBV)\n"];
-        logics.iter().any(|logic| is_script(&[logic, &declarations[..count].concat(), END]))
+        LOGICS.iter().any(|logic| is_script(&[logic, &declarations[..count].concat(), END]))
     };
     match (1..=declarations.len()).find(|count| !goes_on(*count)) {
         None => at(1, "the logic is not the one of these declarations"),
         Some(count) => at(count + 1, "it is no declaration as the printer writes it, or its name is refused or given before"),
     }
+}
+
+/// The line with which a script that is over a limit goes over it: the first declaration or assertion up to which the script is refused alike.
+pub fn over(bytes: &[u8]) -> Option<Fault> {
+    let lines: Vec<&[u8]> = bytes.split_inclusive(|byte| *byte == b'\n').collect();
+    if bytes.len() > LOOKED_THROUGH.0 || lines.len() > LOOKED_THROUGH.1 {
+        return None;
+    }
+    if let Some(line) = lines.iter().position(|line| script_depth(line) > MAX_SCRIPT_DEPTH) {
+        return Some(Fault { line: Some(line + 1), text: format!("more than {MAX_SCRIPT_DEPTH} brackets are open at once") });
+    }
+    // What the declarations up to a line, or all of them and the assertions up to a line, are refused with.
+    let declared = lines.iter().skip(1).take_while(|line| line.starts_with(b"(declare-")).count();
+    let refused = |count: usize| {
+        let is_over = |logic: &[u8]| read_script(&[logic, &lines[1..=count].concat(), END].concat()) == Err(ReadRefusal::Limit);
+        if count < declared { LOGICS.iter().any(|logic| is_over(logic)) } else { is_over(lines[0]) }
+    };
+    let counts: Vec<usize> = (1..lines.len() - 1).collect();
+    let line = counts.get(counts.partition_point(|count| !refused(*count)))? + 1;
+    Some(Fault { line: Some(line), text: "with it the problem is over a limit, or has a number that its record cannot hold".into() })
 }

@@ -81,10 +81,10 @@ impl<'a> Release<'a> {
         let whole = || format!("script {number}, which begins at {}", self.place(begins));
         match refusal {
             ReleaseRefusal::Limit { script: MAX_SCRIPTS } => format!("{}; there are {}", whole(), scripts(&self.bytes).count()),
-            ReleaseRefusal::Limit { .. } => whole(),
-            ReleaseRefusal::NoScript { .. } => {
+            ReleaseRefusal::Limit { .. } | ReleaseRefusal::NoScript { .. } => {
                 let script = scripts(&self.bytes).nth(number).unwrap_or(&self.bytes[begins..]);
-                match read::fault(script) {
+                let look = if let ReleaseRefusal::Limit { .. } = refusal { read::over } else { read::fault };
+                match look(script) {
                     None => whole(),
                     Some(read::Fault { line: None, text }) => format!("{}: {text}", whole()),
                     Some(read::Fault { line: Some(line), text }) => {
