@@ -30,6 +30,7 @@ cp NOTICE README.md "$root"
 cp -R docs "$root/docs"
 cp -R bindings/rust "$root/bindings/rust"
 cp -R examples/c examples/rule "$root/examples"
+rm -rf "$root/bindings/rust/target" "$root/examples/rule/target" # where cargo was run from another folder
 cat > "$root/lib/pkgconfig/smt-echo.pc" <<PC
 prefix=\${pcfiledir}/../..
 includedir=\${prefix}/include
