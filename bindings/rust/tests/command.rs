@@ -135,6 +135,7 @@ fn help() {
         assert!(help.lines().all(|line| line.len() <= 140), "{help}");
         assert!(examples_work(&help, &folder(&format!("help_{subcommand}"))) > 0, "{subcommand} has an example");
         assert_eq!(run(&[subcommand, "-o", "/nowhere/at/all", "-h", "missing"], b"").done(), help.as_bytes());
+        assert_eq!(run(&["help", subcommand], b"").done(), help.as_bytes());
     }
     assert_eq!(run(&["--version"], b"").done(), b"smt-echo 0.1.0\n");
 }

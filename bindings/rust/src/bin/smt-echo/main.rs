@@ -89,6 +89,11 @@ fn run(words: &[OsString]) -> Result<(), Failure> {
         return Err(Failure::Usage("a subcommand is wanted".into()));
     };
     match first.to_str() {
+        Some("help") if let [word] = rest => {
+            let named = COMMANDS.iter().find(|command| word == command.name);
+            let command = named.ok_or_else(|| Failure::Usage(format!("there is no subcommand `{}`", word.display())))?;
+            return output::standard(help(command).as_bytes());
+        }
         Some("--help" | "-h" | "help") => return output::standard(overview().as_bytes()),
         Some("--version") => return output::standard(concat!("smt-echo ", env!("CARGO_PKG_VERSION"), "\n").as_bytes()),
         _ => {}
