@@ -67,6 +67,10 @@ same-reading b lent e r =
     let a : Accepts x.problem b = (accepts-exactly x.problem b).1 (x.whole, subst (λ (y : List ℕ). length y ≤ length b) (sym x.prints) (let n : ℕ = length b in let l : n ≤ n = omega arith in l)) in
     subst (λ (y : List ℕ). Reads y r ↔ (r ≡ reading x.problem)) x.prints (one-reading x.problem b a r)
 
+-- What was read is the problem that the script's reading is rebuilt as, node for node and name for name: the placement is that of `rebuild`.
+pub read-placed : (b : List ℕ) (lent : Problem) (e : ReadsInto b lent) (r : Reading) → Reads b r → (read-accepted b lent e).problem ≡ inputs (rebuild r)
+read-placed b lent e r h = (read-accepted b lent e).only ∙ ap (λ (x : Reading). inputs (rebuild x)) (sym ((same-reading b lent e r).0 h))
+
 -- Read, printed and read again: the same answer, number, sizes and outputs, whatever was lent.
 pub read_again : (b : List ℕ) (lent : Problem) (e : ReadsInto b lent) (again : Problem) → read_script_answer (printed (read-accepted b lent e).problem) again ≡ read_script_answer b again
 read_again b lent e again = ap (λ (x : List ℕ). read_script_answer x again) (read-accepted b lent e).prints
