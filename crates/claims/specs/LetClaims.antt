@@ -1,4 +1,4 @@
--- Shared terms printed with `let`: what is promised of `echo_let`. Its definitions are in `Lets` of `echo_spec`.
+-- Shared terms printed with `let`: what is promised of `echo_let`. Its definitions are in `Lets` of `lets`.
 use Rattle.std.specs.Prelude.{ℕ, suc, ◌-◌, ◌≤◌, ◌<◌, ◌≡◌, List, [], ◌∷◌, ◌++◌, not, ◌↔◌, T, length, take, drop, replicate, Result, Ok, Err}
 use Rattle.std.proofs.Common.{sym, ap, ◌∙◌}
 use Rattle.std.proofs.Math.Seq.{take-append_seam}
