@@ -24,6 +24,7 @@ use refusals::{MAX_ENTRIES, MAX_NODES};
 
 // So many bytes, and the closing brackets behind the operands of a form.
 #[tactic(auto, unfolding(crate::specs::LengthTable::closings))]
+#[inline(always)]
 fn closed(c: u64, f: Form) -> u64
     ensures { result ≡ held (c + closings f) }
 {

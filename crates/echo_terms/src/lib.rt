@@ -27,6 +27,7 @@ pub fn add_each(t: &[u64], c: u64, xs: &[u64]) -> u64
 
 // So much, and the entries of the operands of a form. Ruled out: a rotation's amount added; the values of stores left out.
 #[tactic(auto, unfolding(crate::specs::TermTable::form_sum, crate::specs::TermTable::counted, sizes::specs::Sums::sum_over))]
+#[inline(always)]
 pub fn form_sum(t: &[u64], c: u64, side: &[u64], f: Form) -> u64
     requires { FormInside side.now f }
     ensures { result ≡ form_sum t.now c side.now f }
