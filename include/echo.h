@@ -436,7 +436,7 @@ struct echo_answer echo_formulas(
  *
  * Refused: number is 1 to 9 or 12, which echo_ext answers whatever the output, and length and terms are 0.
  *
- * The length is below 2^42 and terms below 2^25, so neither ever wraps. It is as recursive as echo_ext.
+ * The length is below 2^42 and terms below 2^25, so neither ever wraps. It is not recursive.
  */
 struct size_answer echo_size(
     const uint8_t *nodes, size_t nodes_len,

@@ -341,7 +341,7 @@ pub struct Size {
 /// assert_eq!(echo_size(&Problem { roots: &[0], ..Problem::default() }), Err(Refusal::Malformed));
 /// ```
 ///
-/// The walk is recursive: see [Stack](crate#stack).
+/// It is not recursive.
 pub fn echo_size(problem: &Problem<'_>) -> Result<Size, Refusal> {
     let answer = raw::echo_size(problem);
     match answer.number {
