@@ -98,6 +98,10 @@ pub fn hidden(p: &Problem, want: &Answer<u8>, room: usize, fill: u8, lent: &mut 
     run(p, want, room, fill, lent, port::hidden)
 }
 
+pub fn lets(p: &Problem, want: &Answer<u8>, room: usize, fill: u8, lent: &mut Vec<u8>) -> Option<Found<u8>> {
+    run(p, want, room, fill, lent, port::lets)
+}
+
 /// What the port has to tell beforehand of the Rust's answer with endless room; a refusal has no length and no terms.
 pub fn expected_size(full: &Answer<u8>) -> Size {
     Size { number: full.number as u64, length: full.result.len() as u64, terms: terms::of_script(&full.result) }

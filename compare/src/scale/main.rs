@@ -1,5 +1,6 @@
 //! The comparison at scale: `scale COUNT SEED` makes COUNT problems that follow from SEED, asks the Rust (with added.rs around it)
-//! and the proved port, every entry point, and stops at the first difference, which it makes small and prints.
+//! and the proved port, and stops at the first difference, which it makes small and prints. Beside each problem stands a graph in which nodes are
+//! taken again and again; of both the script with `let` is compared too, with that of a printer of its own (lets.rs).
 #[path = "../added.rs"]
 #[allow(dead_code)]
 mod added;
@@ -9,6 +10,10 @@ mod clauses;
 #[path = "../hidden.rs"]
 mod hidden;
 mod lay;
+#[path = "../lets.rs"]
+mod lets;
+#[path = "../lets_graphs.rs"]
+mod lets_graphs;
 #[path = "../oracle.rs"]
 mod oracle;
 mod plan;
@@ -151,6 +156,10 @@ struct Tally {
     /// scripts that were read back, whole and with a change, by number
     read: BTreeMap<u32, usize>,
     changed_read: BTreeMap<u32, usize>,
+    /// scripts with `let`, of the problems and of the graphs, by number, and how many of the graphs' bind a term
+    lets: BTreeMap<u32, usize>,
+    graphs: BTreeMap<u32, usize>,
+    bound: usize,
 }
 
 fn row(name: &str, m: &BTreeMap<u32, usize>) {
@@ -190,6 +199,9 @@ impl Tally {
         row("sizes", &self.told);
         row("scripts read back", &self.read);
         row("scripts with a change read back", &self.changed_read);
+        row("scripts with let", &self.lets);
+        row("scripts with let, of graphs", &self.graphs);
+        println!("graphs of which a term is bound: {}", self.bound);
         println!("terms compared: {}, most of a problem {}", self.terms, self.most_terms);
         println!("script bytes compared: {}, longest script {}", self.script_bytes, self.longest);
         println!("distinct problems: {} of {count}", self.distinct.len());
@@ -200,19 +212,24 @@ impl Tally {
     }
 }
 
-/// A script's answer by the Rust, and the port's beside it.
-type Asked = (fn(&Problem, usize) -> Answer<u8>, fn(&Problem, &Answer<u8>, usize, u8, &mut Vec<u8>) -> Option<check::Found<u8>>);
+/// A script's answer by the Rust or a model, the port's beside it, and the length of the script.
+type Asked = (
+    fn(&Problem, usize) -> Answer<u8>,
+    fn(&Problem, &Answer<u8>, usize, u8, &mut Vec<u8>) -> Option<check::Found<u8>>,
+    fn(&Problem) -> Option<usize>,
+);
 
-const PLAIN: Asked = (added::print_answer, check::script);
-const HIDDEN: Asked = (hidden::answer, check::hidden);
+const PLAIN: Asked = (added::print_answer, check::script, added::script_len);
+const HIDDEN: Asked = (hidden::answer, check::hidden, added::script_len);
+const LET: Asked = (lets::answer, check::lets, lets::script_len);
 
-fn report_script((ask, check): Asked, what: &str, p: &Problem, room: usize, fill: u8) {
+fn report_script((ask, check, length): Asked, what: &str, p: &Problem, room: usize, fill: u8) {
     let differs = |q: &Problem, room: usize| {
         let want = ask(q, room);
         check(&q.clone(), &want, room, fill, &mut vec![]).is_some()
     };
     println!("the {what} scripts differ on a problem of {} nodes; made smaller:", p.count());
-    let (q, room) = reduce::reduce(p, room, Duration::from_secs(60), &differs, &added::script_len);
+    let (q, room) = reduce::reduce(p, room, Duration::from_secs(60), &differs, &length);
     show::problem(&q);
     let want = ask(&q, room);
     let found = check(&q, &want, room, fill, &mut vec![]).expect("the smaller problem differs too");
@@ -243,6 +260,27 @@ fn report_size(p: &Problem) {
     let full = added::print_answer(&q, usize::MAX);
     let (want, said) = check::size(&q, &full).expect("the smaller problem differs too");
     println!("expected {want:?}\nthe port {said:?}");
+}
+
+/// The graph that stands beside problem i, and the random numbers after it.
+fn graph_of(seed: u64, i: u64) -> (Problem, Rng) {
+    let mut rng = numbers_of(!seed, i);
+    let most = if i % 16 == 0 { 400 } else { 40 };
+    let nodes = 1 + rng.below(most);
+    (lets_graphs::graph(&mut rng, nodes), rng)
+}
+
+/// The model's answer with `let`, if the port's is the same. A difference is told of the problem that `again` makes, in case the port changed it.
+fn same_let(p: &Problem, again: impl Fn() -> Problem, rng: &mut Rng, bytes: &mut Vec<u8>) -> Option<Answer<u8>> {
+    let full = lets::answer(p, usize::MAX);
+    let (_, lent) = room(rng, (full.number == 0).then_some(full.count));
+    let want = added::with_room(full, lent);
+    let fill = if rng.one_in(4) { 127 } else { rng.from_to(11, 31) as u8 };
+    if check::lets(p, &want, lent, fill, bytes).is_some() {
+        report_script(LET, "let", &again(), lent, fill);
+        return None;
+    }
+    Some(want)
 }
 
 /// True if there is no difference.
@@ -284,6 +322,19 @@ fn compare(count: u64, seed: u64) -> bool {
             report_script(HIDDEN, "hidden", &problem_of(&all, i, &mut numbers_of(seed, i)).0, lent, fill);
             return false;
         }
+
+        let (graph, mut own) = graph_of(seed, i);
+        let Some(bound) = same_let(&p, || problem_of(&all, i, &mut numbers_of(seed, i)).0, &mut own, &mut bytes) else {
+            println!("problem {i} of seed {seed}");
+            return false;
+        };
+        *t.lets.entry(bound.number).or_default() += 1;
+        let Some(bound) = same_let(&graph, || graph_of(seed, i).0, &mut own, &mut bytes) else {
+            println!("the graph beside problem {i} of seed {seed}");
+            return false;
+        };
+        *t.graphs.entry(bound.number).or_default() += 1;
+        t.bound += bound.result.windows(6).any(|w| w == b"(let (") as usize;
 
         if want.number == 0 {
             match back::both(&want.result, &mut rng) {

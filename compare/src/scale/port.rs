@@ -65,6 +65,19 @@ unsafe extern "C" {
         fname_len: *const u64, fname_len_len: usize, func_width: *const u64, func_width_len: usize,
         out: *mut u8, out_len: usize,
     ) -> Said;
+    fn echo_let(
+        nodes: *const u8, nodes_len: usize, bits: *const u8, bits_len: usize,
+        side: *const u64, side_len: usize, roots: *const u64, roots_len: usize,
+        names: *const u8, names_len: usize, name_start: *const u64, name_start_len: usize,
+        name_len: *const u64, name_len_len: usize, var_node: *const u64, var_node_len: usize,
+        var_width: *const u64, var_width_len: usize,
+        anames: *const u8, anames_len: usize, aname_start: *const u64, aname_start_len: usize,
+        aname_len: *const u64, aname_len_len: usize,
+        index_width: *const u64, index_width_len: usize, value_width: *const u64, value_width_len: usize,
+        fnames: *const u8, fnames_len: usize, fname_start: *const u64, fname_start_len: usize,
+        fname_len: *const u64, fname_len_len: usize, func_width: *const u64, func_width_len: usize,
+        out: *mut u8, out_len: usize,
+    ) -> Said;
     fn echo_size(
         nodes: *const u8, nodes_len: usize, bits: *const u8, bits_len: usize,
         side: *const u64, side_len: usize, roots: *const u64, roots_len: usize,
@@ -109,6 +122,26 @@ pub fn script(p: &Problem, out: &mut [u8]) -> Said {
 pub fn hidden(p: &Problem, out: &mut [u8]) -> Said {
     unsafe {
         echo_hidden(
+            p.nodes.as_ptr(), p.nodes.len(), p.bits.as_ptr(), p.bits.len(),
+            p.side.as_ptr(), p.side.len(), p.roots.as_ptr(), p.roots.len(),
+            p.names.as_ptr(), p.names.len(), p.name_start.as_ptr(), p.name_start.len(),
+            p.name_len.as_ptr(), p.name_len.len(), p.var_node.as_ptr(), p.var_node.len(),
+            p.var_width.as_ptr(), p.var_width.len(),
+            p.anames.as_ptr(), p.anames.len(), p.aname_start.as_ptr(), p.aname_start.len(),
+            p.aname_len.as_ptr(), p.aname_len.len(),
+            p.index_width.as_ptr(), p.index_width.len(), p.value_width.as_ptr(), p.value_width.len(),
+            p.fnames.as_ptr(), p.fnames.len(), p.fname_start.as_ptr(), p.fname_start.len(),
+            p.fname_len.as_ptr(), p.fname_len.len(), p.func_width.as_ptr(), p.func_width.len(),
+            out.as_mut_ptr(), out.len(),
+        )
+    }
+}
+
+/// The printer, with shared terms bound by let.
+#[rustfmt::skip]
+pub fn lets(p: &Problem, out: &mut [u8]) -> Said {
+    unsafe {
+        echo_let(
             p.nodes.as_ptr(), p.nodes.len(), p.bits.as_ptr(), p.bits.len(),
             p.side.as_ptr(), p.side.len(), p.roots.as_ptr(), p.roots.len(),
             p.names.as_ptr(), p.names.len(), p.name_start.as_ptr(), p.name_start.len(),
