@@ -14,8 +14,8 @@ esac
 cd "$(dirname "$0")/.."
 folder=${folder:-$PWD/target/dist}
 library=target/staticlib/libecho_c.a
-if [ ! -f "$library" ]; then
-    echo "make.sh: $library is not there: sh tools/staticlib.sh" >&2
+if [ ! -f "$library" ] || [ -n "$(find crates crates.txt \( -name '*.rt' -o -name '*.antt' -o -name crates.txt \) -newer "$library")" ]; then
+    echo "make.sh: $library is not there, or older than its sources: sh tools/staticlib.sh" >&2
     sh tools/staticlib.sh >&2
 fi
 version=$(sed -n 's/^version = "\(.*\)"$/\1/p' bindings/rust/Cargo.toml)
