@@ -1,7 +1,7 @@
 #!/bin/sh
 # Measures read_script: its time beside that of printing the same problem, and the stack that deep scripts take. The library is
 # target/staticlib/libecho_c.a (`sh tools/staticlib.sh`), or that of the folder which ECHO_LIB_DIR names. It fails if more stack is taken than
-# `read_stack` of the Rust package, and `echo_read_stack` of the header, tell.
+# `read_stack` of the Rust package, and `echo_read_stack` of the header, tell, or more than 2 MB for a script within the depth.
 set -eu
 cd "$(dirname "$0")/.."
 library=${ECHO_LIB_DIR:-target/staticlib}

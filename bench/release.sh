@@ -1,7 +1,8 @@
 #!/bin/sh
 # Measures check_release on releases of 64 scripts: its time beside that of reading the scripts back twice, and the stack. The library is
 # target/staticlib/libecho_c.a (`sh tools/staticlib.sh`), or that of the folder which ECHO_LIB_DIR names. It fails if more stack is taken than
-# `release_stack` of the Rust package, and `echo_release_stack` of the header, tell of the longest script.
+# `release_stack` of the Rust package, and `echo_release_stack` of the header, tell of the longest script, or more than 2 MB where all
+# scripts are within the depth.
 set -eu
 cd "$(dirname "$0")/.."
 library=${ECHO_LIB_DIR:-target/staticlib}

@@ -11,7 +11,8 @@
  * The functions take slices: a pointer and a number of elements (not of bytes). For each slice the caller sees to it that
  *
  *   - the pointer is not null and is aligned for its element, also where the number is 0. For an empty slice hand in the address of
- *     any object of the element type, or use `struct echo_problem` at the end of this file, where it may be null;
+ *     any object of the element type. Only the inline functions of this file take null there: those over `struct echo_problem`, at its
+ *     end, echo_script_depth and echo_release_depth;
  *   - that many elements can be read there, and for an output be written too;
  *   - an output overlaps no input, and the two outputs of replay_trace, and the eighteen of read_script, do not overlap each other. Inputs
  *     may overlap each other, since they are only read;
@@ -297,8 +298,9 @@ struct release_answer {
  *
  * An output of out_len 0 is allowed; every script is longer than that, so that a problem is refused by some number then.
  *
- * The walk over the terms is recursive, and its depth comes from the input. README.md has the stack that it needs; the proofs say
- * nothing about the stack. On a thread with less a deep problem ends the process, as any overflow of the stack does.
+ * The walk over the terms is recursive, and its depth comes from the input. On the deepest problems found within the limits it took 243 KB
+ * of stack, as measured; the proofs say nothing about the stack. On a thread with less such a problem ends the process, as any overflow of
+ * the stack does. A thread of 1 MB holds every function that takes a problem.
  */
 struct echo_answer echo_ext(
     const uint8_t *nodes, size_t nodes_len,
@@ -402,7 +404,7 @@ struct echo_answer echo_let(
  * are echo_ext's; ECHO_ROOM is about the lines. No roots: length 0. Accepted or refused, the output is as echo_ext says.
  *
  * With the problem's declarations a line has one reading, the assertion's tree: with the same declarations, equal lines mean equal trees. It
- * is as recursive as echo_ext, and needs up to 300 KB more stack.
+ * is as recursive as echo_ext, and took up to 374 KB of stack, as measured.
  */
 struct echo_answer echo_formulas(
     const uint8_t *nodes, size_t nodes_len,
@@ -502,7 +504,8 @@ struct fewest_answer fewest_roots(
  * Refused: rows is 0, and all elements of masks and counts are 0. More than 64 roots is ECHO_LIMIT. The order is that of echo_ext but
  * for ECHO_ROOM; then ECHO_WIDE, ECHO_VALUES, and ECHO_ROOM where masks_len or counts_len is below the number of rows.
  *
- * The evaluation of a term is recursive, as echo_ext is. The checks are made once, not for each row; nothing is allocated.
+ * The evaluation of a term is recursive, as echo_ext is, and took up to 309 KB of stack, as measured. The checks are made once, not for each
+ * row; nothing is allocated.
  */
 struct trace_answer replay_trace(
     const uint8_t *nodes, size_t nodes_len,
@@ -556,6 +559,8 @@ struct width_answer ext_wf(
  *
  * No script that echo_ext prints is the beginning of a longer one, so that a file of scripts is cut in one way. The time is by length, or
  * by file_len where there is no such line; it is not recursive.
+ *
+ * file is not null, also where file_len is 0, as after the last script: the address just past it will do.
  */
 struct script_answer next_script(const uint8_t *file, size_t file_len);
 
@@ -579,10 +584,12 @@ struct script_answer next_script(const uint8_t *file, size_t file_len);
  * stands just before the first term, in the order of nodes, that uses it, several for one term in the order of the script. Bits, side
  * entries and names follow the nodes and tables without gaps; an empty list starts at the end so far.
  *
- * Stack: reading is recursive, and ECHO_NO_SCRIPT comes before ECHO_LIMIT, so that a script nested deeply is read to its end. What it
- * takes is no more than echo_read_stack(script_len) bytes, as measured; the proofs say nothing about the stack. Who takes files from
- * strangers either calls on a thread with that much, or asks echo_script_depth first: a script deeper than ECHO_MAX_SCRIPT_DEPTH is never
- * accepted, so that it can be turned away without the call, and 4 MB are enough for one that is not.
+ * script is not null, also where script_len is 0, and neither is an output of length 0.
+ *
+ * Stack: reading is recursive, and ECHO_NO_SCRIPT comes before ECHO_LIMIT, so that a script nested deeply is read to its end. 2 MB suffice for
+ * a script that is no deeper than ECHO_MAX_SCRIPT_DEPTH, as every script is that is accepted. A deeper one takes up to 20 bytes for each of its
+ * own: echo_read_stack(script_len) suffices for any script. So who takes files from strangers asks echo_script_depth first, and turns a deeper
+ * script away without the call, or calls on a thread with so much. This is measured; the proofs say nothing about the stack.
  */
 struct read_answer read_script(
     const uint8_t *script, size_t script_len,
@@ -605,13 +612,16 @@ struct read_answer read_script(
     uint64_t *fname_len, size_t fname_len_len,
     uint64_t *func_width, size_t func_width_len);
 
-/* The bytes of stack that read_script takes at most for a script of so many bytes, as measured. */
+/* Bytes of stack that suffice for read_script with any script of so many bytes, as measured. */
 static inline size_t echo_read_stack(size_t script_len)
 {
     return 1500000 + 20 * script_len;
 }
 
-/* The most brackets that are open at once in a script. A name stands between bars, and its brackets are none. Any bytes are answered. */
+/*
+ * The most brackets that are open at once in a script. A name stands between bars, and its brackets are none. Any bytes are answered. The
+ * pointer may be null where script_len is 0.
+ */
 static inline size_t echo_script_depth(const uint8_t *script, size_t script_len)
 {
     size_t depth = 0;
@@ -652,34 +662,38 @@ static inline size_t echo_script_depth(const uint8_t *script, size_t script_len)
  *
  * file is not null, also where file_len is 0: hand in any byte's address then. It is only read, and there is no output.
  *
- * Stack: reading is recursive here too, and beside it stands a table of the names. What it takes is no more than echo_release_stack of the
- * longest script's length (that of the file will do), as measured. Who takes files from strangers asks echo_release_depth first: a file with
- * a script deeper than ECHO_MAX_SCRIPT_DEPTH is never accepted, so that it can be turned away without the call, and 4 MB are enough for one
- * that has none.
+ * Stack: reading is recursive here too. 2 MB suffice for a file in which no script is deeper than ECHO_MAX_SCRIPT_DEPTH, as in every file that
+ * is accepted; for any other echo_release_stack of the longest script's length (that of the file will do). So who takes files from strangers
+ * asks echo_release_depth first, and turns a file with a deeper script away without the call, or calls on a thread with so much. This is
+ * measured.
  */
 struct release_answer check_release(const uint8_t *file, size_t file_len);
 
-/* The bytes of stack that check_release takes at most for a file whose longest script has so many bytes, as measured. */
+/* Bytes of stack that suffice for check_release with any file whose longest script has so many bytes, as measured. */
 static inline size_t echo_release_stack(size_t longest)
 {
     return 2200000 + 20 * longest;
 }
 
-/* The deepest script of a file of scripts, by echo_script_depth. What follows the last check-sat line is none. Any bytes are answered. */
+/*
+ * The depth of the deepest script of a file of scripts, by echo_script_depth. What follows the last check-sat line is no script. Any bytes are
+ * answered. The pointer may be null where file_len is 0.
+ */
 static inline size_t echo_release_depth(const uint8_t *file, size_t file_len)
 {
     size_t most = 0;
     size_t at = 0;
-    for (;;) {
+    while (at < file_len) {
         const struct script_answer next = next_script(file + at, file_len - at);
         if (next.found == 0) {
-            return most;
+            break;
         }
         const size_t length = next.length;
         const size_t depth = echo_script_depth(file + at, length);
         most = depth > most ? depth : most;
         at += length;
     }
+    return most;
 }
 
 /*
@@ -701,7 +715,7 @@ static inline size_t echo_release_depth(const uint8_t *file, size_t file_len)
  *                      ECHO_SHORT_RECORD: before that, the bytes end inside a record, or a kind is above 38.
  *                      ECHO_ROOM: the result is longer than the output.
  *
- * Neither is recursive.
+ * Neither is recursive. As above no pointer is null, also where its number of bytes is 0.
  */
 struct record_answer shorten_records(
     const uint8_t *old_nodes, size_t old_len,
@@ -713,8 +727,8 @@ struct record_answer lengthen_records(
 
 /*
  * A problem as one thing: the slices that echo_ext takes, under the same names. The functions below take it and call the plain ones. Here
- * a pointer may be null where its number of elements is 0, that of an output too; all else is as the plain functions ask and answer. A
- * struct of zeros is the empty problem: `= {0}` in C, `= {}` in C++.
+ * a pointer may be null where its number of elements is 0, that of an output too, but not the pointer to the struct; all else is as the plain
+ * functions ask and answer. A struct of zeros is the empty problem: `= {0}` in C, `= {}` in C++.
  */
 struct echo_problem {
     const uint8_t *nodes;

@@ -1,6 +1,6 @@
 //! Scripts read back: the time beside that of printing the same problem, and the stack for a byte of a script that is nested deeply.
 mod used;
-use smt_echo::{OwnedProblem, echo_ext, read_script, read_script_into, read_stack};
+use smt_echo::{MAX_SCRIPT_DEPTH, OwnedProblem, echo_ext, read_script, read_script_into, read_stack, script_depth};
 use std::hint::black_box;
 use std::time::Instant;
 use used::{stack, used};
@@ -62,6 +62,9 @@ fn shapes() -> Vec<(&'static str, String)> {
     ]
 }
 
+/// Bytes of stack that suffice for a script within the depth, as the header says.
+const WITHIN_DEPTH: usize = 2_000_000;
+
 /// The least time of a call in microseconds.
 fn time(mut call: impl FnMut()) -> f64 {
     (0..200)
@@ -85,7 +88,7 @@ fn main() {
         assert!(outputs == problem && out == bytes, "{label}");
         println!("| {label} | {} | {read:.0} | {print:.0} | {:.2} |", bytes.len(), read / print);
     }
-    println!("\n| nested | levels | number | stack, KB | a byte of script |\n|---|---|---|---|---|");
+    println!("\n| nested | levels | depth | number | stack, KB | a byte of script |\n|---|---|---|---|---|---|");
     let memory = "(declare-const |m| (Array (_ BitVec 8) (_ BitVec 8)))\n";
     let mut room = Vec::new();
     for (logic, declared, open, close) in [
@@ -100,7 +103,9 @@ fn main() {
         ("QF_ABV", memory, "(select (store |m| |x| ", ") |x|)"),
         ("QF_AUFBV", "(declare-fun |f| ((_ BitVec 8)) (_ BitVec 8))\n", "(|f| ", ")"),
     ] {
-        for levels in [0, 1_000, 2_000, 100_000] {
+        // The most levels within the depth: beside them stand (assert, a comparison and what a leaf has.
+        let deepest = (MAX_SCRIPT_DEPTH - 3) / (1 + usize::from(open.contains("(store")));
+        for levels in [0, 1_000, 2_000, deepest, 100_000] {
             let logical = open.starts_with("(not") || open.starts_with("(and");
             let term = nested(open, if logical { "(= |x| |x|)" } else { "|x|" }, close, levels);
             let term = if logical { term } else { format!("(= {term} |x|)") };
@@ -109,8 +114,15 @@ fn main() {
             let taken = used(stack(&mut room, (read_stack(text.len()) + (32 << 20)) / 4_096 * 4_096), &mut || {
                 number = read_script(text.as_bytes()).map_or_else(|refusal| refusal.number(), |_| 0);
             });
-            println!("| `{open}` | {levels} | {number} | {} | {:.2} |", taken.div_ceil(1_024), taken as f64 / text.len() as f64);
+            let depth = script_depth(text.as_bytes());
+            println!(
+                "| `{open}` | {levels} | {depth} | {number} | {} | {:.2} |",
+                taken.div_ceil(1_024),
+                taken as f64 / text.len() as f64
+            );
             assert!(taken <= read_stack(text.len()), "more than read_stack tells");
+            assert!(depth > MAX_SCRIPT_DEPTH || taken <= WITHIN_DEPTH, "more than 2 MB");
+            assert!(levels != deepest || (MAX_SCRIPT_DEPTH - 2..=MAX_SCRIPT_DEPTH).contains(&depth), "{depth}");
         }
     }
 }

@@ -154,7 +154,7 @@ fn main() {
         let file = deep.repeat(2).into_bytes();
         let number = if levels > 2_000 { 9 } else { 0 };
         let (depth, taken) = (release_depth(&file), stack_of(&file, number, &mut room));
-        assert!(depth > MAX_SCRIPT_DEPTH || taken <= 4 << 20, "{taken}: more than 4 MB");
+        assert!(depth > MAX_SCRIPT_DEPTH || taken <= 2_000_000, "{taken}: more than 2 MB");
         println!("| `{open}` | {levels} | {depth} | {number} | {} |", taken.div_ceil(1_024));
     }
 }

@@ -697,6 +697,7 @@ static void read_again(void)
         "(check-sat)\n");
     CHECK(echo_script_depth(bytes_of("(a |((| (b) ((c)))", 18), 18) == 3);
     CHECK(echo_script_depth(bytes_of("))((", 4), 4) == 2 && echo_script_depth(bytes_of("", 0), 0) == 0);
+    CHECK(echo_script_depth(NULL, 0) == 0 && echo_release_depth(NULL, 0) == 0);
     CHECK(echo_read_stack(1) > echo_read_stack(0) && echo_release_stack(1) > echo_read_stack(1));
 }
 

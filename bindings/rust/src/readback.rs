@@ -31,9 +31,9 @@ use std::fmt;
 /// # Ok::<(), ReadRefusal>(())
 /// ```
 ///
-/// Reading is recursive, and a script nested deeply is read to its end before it is refused. It takes no more than
-/// [`read_stack`]`(script.len())` bytes of stack, as measured: who takes files from strangers calls it on a thread with that much, or
-/// asks [`script_depth`] first.
+/// Reading is recursive, and a script nested deeply is read to its end before it is refused. As measured, 2 MB of stack suffice for a script that
+/// is no deeper than [`MAX_SCRIPT_DEPTH`], and [`read_stack`]`(script.len())` bytes for any other: who takes files from strangers asks
+/// [`script_depth`] first, or calls it on a thread with that much.
 pub fn read_script(script: &[u8]) -> Result<OwnedProblem, ReadRefusal> {
     let mut problem = OwnedProblem::default();
     for (output, most) in problem.inputs_mut().into_iter().zip(LIMITS) {
@@ -139,7 +139,8 @@ impl ReadSizes {
 /// The most brackets that are open at once in a script that is accepted: one of `(assert`, one a node, one a store, one of `(_`.
 pub const MAX_SCRIPT_DEPTH: usize = 6_146;
 
-/// The bytes of stack that [`read_script`] takes at most for a script of so many bytes, as measured.
+/// Bytes of stack that suffice for [`read_script`] with any script of so many bytes, as measured. One that is no deeper than
+/// [`MAX_SCRIPT_DEPTH`] takes 2 MB at most.
 ///
 /// A thread for any script of 100,000 bytes:
 ///
@@ -152,7 +153,7 @@ pub const fn read_stack(script_len: usize) -> usize {
 
 /// The most brackets that are open at once in a script. A name stands between bars, and its brackets are none. Any bytes are answered.
 ///
-/// A script deeper than [`MAX_SCRIPT_DEPTH`] is never accepted, so that it can be turned away unread; one within it takes no more than 4 MB of
+/// A script deeper than [`MAX_SCRIPT_DEPTH`] is never accepted, so that it can be turned away unread; one within it takes no more than 2 MB of
 /// stack.
 ///
 /// ```

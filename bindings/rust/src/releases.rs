@@ -32,7 +32,7 @@ pub const MAX_SCRIPTS: usize = 64;
 /// assert_eq!(check_release(short), Err(ReleaseRefusal::NoScript { script: 3 }));
 /// ```
 ///
-/// Reading is recursive: with the longest script's length it takes no more than [`release_stack`] bytes of stack, as measured, and 4 MB where
+/// Reading is recursive: with the longest script's length it takes no more than [`release_stack`] bytes of stack, as measured, and 2 MB where
 /// [`release_depth`] is no more than [`MAX_SCRIPT_DEPTH`](crate::MAX_SCRIPT_DEPTH).
 pub fn check_release(file: &[u8]) -> Result<(), ReleaseRefusal> {
     let answer = raw::check_release(file);
@@ -46,7 +46,7 @@ pub fn check_release(file: &[u8]) -> Result<(), ReleaseRefusal> {
     }
 }
 
-/// The bytes of stack that [`check_release`] takes at most for a file whose longest script has so many bytes, as measured.
+/// Bytes of stack that suffice for [`check_release`] with any file whose longest script has so many bytes, as measured.
 ///
 /// ```
 /// assert_eq!(smt_echo::release_stack(500_000), 12_200_000);

@@ -46,6 +46,22 @@ fn stack_of_a_reading() {
     assert!(HEADER.contains(&format!("    return {base} + {byte} * longest;\n")));
 }
 
+/// The stack of the calls that take a problem is told alike in the header and in README.md.
+#[test]
+fn stack_of_a_problem() {
+    const README: &str = include_str!("../../../README.md");
+    let told = |text: &'static str| {
+        let words: Vec<&str> = text.split_whitespace().filter(|word| *word != "*").collect();
+        let figures: Vec<&str> = words.windows(2).filter(|two| two[1].starts_with("KB")).map(|two| two[0]).collect();
+        figures
+    };
+    let (there, figures) = (told(README), told(HEADER));
+    assert_eq!(figures, ["243", "374", "309"]);
+    for figure in figures {
+        assert!(there.contains(&figure), "{figure}: {there:?}");
+    }
+}
+
 #[test]
 fn limits_numbers_and_kinds() {
     let mut here: BTreeMap<String, u64> = BTreeMap::new();

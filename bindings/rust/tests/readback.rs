@@ -288,6 +288,15 @@ fn deep_scripts() {
         let read = reader.spawn(move || read_script(script.as_bytes())).unwrap().join().unwrap();
         assert_eq!(read.expect_err("refused").number(), number);
     }
+    // As deep as a script can be that is accepted, and refused for its nodes or at its end.
+    for (inner, number) in [("(= |x| |x|)", 9), ("(= |x| |y|)", 13)] {
+        let levels = MAX_SCRIPT_DEPTH - 2;
+        let script = change("(= (bvadd |x| #b00000101) |x|)", &("(not ".repeat(levels) + inner + &")".repeat(levels)));
+        assert_eq!(script_depth(script.as_bytes()), MAX_SCRIPT_DEPTH);
+        let reader = std::thread::Builder::new().stack_size(2 << 20);
+        let read = reader.spawn(move || read_script(script.as_bytes())).unwrap().join().unwrap();
+        assert_eq!(read.expect_err("refused").number(), number);
+    }
     // the deepest that is accepted: nodes and stores
     let stores = "(store ".repeat(4_096) + "|m|" + &" |x| |x|)".repeat(4_096);
     let negated = "(not ".repeat(2_045) + &format!("(= (select {stores} |x|) |x|)") + &")".repeat(2_045);
