@@ -19,15 +19,22 @@ static struct fewest_answer fewest(const uint64_t *roots, size_t count)
     static const uint64_t zero[1] = {0};
     static const uint64_t one[1] = {1};
     static const uint64_t eight[1] = {8};
-    const struct echo_problem problem = {
-        .nodes = nodes, .nodes_len = sizeof nodes,
-        .roots = roots, .roots_len = count,
-        .names = x, .names_len = 1, /* one variable: node 0, of width 8 */
-        .name_start = zero, .name_start_len = 1,
-        .name_len = one, .name_len_len = 1,
-        .var_node = zero, .var_node_len = 1,
-        .var_width = eight, .var_width_len = 1,
-    };
+    struct echo_problem problem;
+    memset(&problem, 0, sizeof problem);
+    problem.nodes = nodes;
+    problem.nodes_len = sizeof nodes;
+    problem.roots = roots;
+    problem.roots_len = count;
+    problem.names = x; /* one variable: node 0, of width 8 */
+    problem.names_len = 1;
+    problem.name_start = zero;
+    problem.name_start_len = 1;
+    problem.name_len = one;
+    problem.name_len_len = 1;
+    problem.var_node = zero;
+    problem.var_node_len = 1;
+    problem.var_width = eight;
+    problem.var_width_len = 1;
     return echo_problem_fewest(&problem);
 }
 

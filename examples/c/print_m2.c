@@ -42,16 +42,24 @@ int main(void)
     const uint64_t var_width[1] = {8};
 
     /* What is not named is empty: no side entries, no arrays, no functions. */
-    const struct echo_problem problem = {
-        .nodes = nodes, .nodes_len = sizeof nodes,
-        .bits = bits, .bits_len = 8,
-        .roots = roots, .roots_len = 1,
-        .names = names, .names_len = 1,
-        .name_start = name_start, .name_start_len = 1,
-        .name_len = name_len, .name_len_len = 1,
-        .var_node = var_node, .var_node_len = 1,
-        .var_width = var_width, .var_width_len = 1,
-    };
+    struct echo_problem problem;
+    memset(&problem, 0, sizeof problem);
+    problem.nodes = nodes;
+    problem.nodes_len = sizeof nodes;
+    problem.bits = bits;
+    problem.bits_len = 8;
+    problem.roots = roots;
+    problem.roots_len = 1;
+    problem.names = names;
+    problem.names_len = 1;
+    problem.name_start = name_start;
+    problem.name_start_len = 1;
+    problem.name_len = name_len;
+    problem.name_len_len = 1;
+    problem.var_node = var_node;
+    problem.var_node_len = 1;
+    problem.var_width = var_width;
+    problem.var_width_len = 1;
 
     const struct size_answer size = echo_problem_size(&problem);
     if (size.number != ECHO_ACCEPTED) {
@@ -59,7 +67,7 @@ int main(void)
         return 1;
     }
     const size_t room = (size_t)size.length;
-    uint8_t *out = malloc(room);
+    uint8_t *out = (uint8_t *)malloc(room);
     if (out == NULL) {
         fprintf(stderr, "no memory for %llu bytes\n", (unsigned long long)size.length);
         return 3;

@@ -1,9 +1,9 @@
 #!/bin/sh
 # Compiles the programs of this folder against the library, runs them and compares what each writes with the .txt of its name (that of
-# print_m2 is expected.txt): as they would be delivered, and under the address and undefined-behaviour sanitizers. Then entry_points.c, a
-# test of every entry point, as C99 and as C++17, under the same sanitizers. CC and CXX name other compilers, ECHO_LIB_DIR another folder of
-# the library, OUT another folder to build in. Without a C++ compiler its part is left out, and the script says so. Exit status: 0 if all
-# is as expected.
+# print_m2 is expected.txt): as C99, as they would be delivered and under the address and undefined-behaviour sanitizers, and as C++17 under
+# these. Then entry_points.c, a test of every entry point, likewise under the sanitizers. CC and CXX name other compilers, ECHO_LIB_DIR another
+# folder of the library, OUT another folder to build in. Without a C++ compiler its part is left out, and the script says so. Exit status: 0 if
+# all is as expected.
 set -eu
 cd "$(dirname "$0")/../.."
 out=${OUT:-target/c}
@@ -31,12 +31,12 @@ built() {
     "$@" $warnings -Iinclude -o "$out/$program" "examples/c/$program.c" -x none "$library"
 }
 compared() {
-    for options in -O2 "$sanitizers"; do
-        built "$1" "$cc" -std=c99 $options
+    for compiler in "$cc -std=c99 -O2" "$cc -std=c99 $sanitizers" ${plus:+"$cxx -std=c++17 -x c++ $sanitizers"}; do
+        built "$1" $compiler
         "$out/$1" > "$out/$1.out"
         diff "examples/c/$2" "$out/$1.out"
     done
-    echo "run.sh: $1 wrote what is expected, under the sanitizers too"
+    echo "run.sh: $1 wrote what is expected, under the sanitizers too${plus:+, and as C++17}"
 }
 tested() {
     language=$1
@@ -45,6 +45,12 @@ tested() {
     said=$("$out/entry_points")
     echo "run.sh: as $language under the sanitizers: $said"
 }
+plus=
+if command -v "$cxx" > /dev/null; then
+    plus=yes
+else
+    echo "run.sh: no $cxx: nothing is compiled as C++17"
+fi
 compared print_m2 expected.txt
 compared cut_file cut_file.txt
 compared fewest_roots fewest_roots.txt
@@ -52,9 +58,7 @@ compared which_broke which_broke.txt
 compared map_lines map_lines.txt
 compared one_meaning one_meaning.txt
 tested C99 "$cc" -std=c99 -x c
-if command -v "$cxx" > /dev/null; then
+if [ -n "$plus" ]; then
     tested C++17 "$cxx" -std=c++17 -x c++
     echo '#include "echo.h"' | "$cxx" -std=c++17 $warnings -Wsign-conversion -Wshadow -Wold-style-cast -Iinclude -fsyntax-only -x c++ -
-else
-    echo "run.sh: no $cxx: the header was not compiled as C++17"
 fi

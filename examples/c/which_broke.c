@@ -3,6 +3,7 @@
  * base + size <= limit, size != 0 and base & 15 = 0. Each row of the log is checked against the rules that the script asks of the solver.
  */
 #include <stdio.h>
+#include <string.h>
 
 #include "echo.h"
 
@@ -48,16 +49,24 @@ int main(void)
     const uint64_t var_width[3] = {16, 16, 16};
 
     /* What is not named is empty: no side entries, no arrays, no functions. */
-    const struct echo_problem problem = {
-        .nodes = nodes, .nodes_len = sizeof nodes,
-        .bits = bits, .bits_len = sizeof bits,
-        .roots = roots, .roots_len = 3,
-        .names = names, .names_len = sizeof names,
-        .name_start = name_start, .name_start_len = 3,
-        .name_len = name_len, .name_len_len = 3,
-        .var_node = var_node, .var_node_len = 3,
-        .var_width = var_width, .var_width_len = 3,
-    };
+    struct echo_problem problem;
+    memset(&problem, 0, sizeof problem);
+    problem.nodes = nodes;
+    problem.nodes_len = sizeof nodes;
+    problem.bits = bits;
+    problem.bits_len = sizeof bits;
+    problem.roots = roots;
+    problem.roots_len = 3;
+    problem.names = names;
+    problem.names_len = sizeof names;
+    problem.name_start = name_start;
+    problem.name_start_len = 3;
+    problem.name_len = name_len;
+    problem.name_len_len = 3;
+    problem.var_node = var_node;
+    problem.var_node_len = 3;
+    problem.var_width = var_width;
+    problem.var_width_len = 3;
 
     /* The log: base, size and limit of each row. */
     const uint64_t values[3 * ROWS] = {
