@@ -89,9 +89,9 @@ fn run(words: &[OsString]) -> Result<(), Failure> {
         return Err(Failure::Usage("a subcommand is wanted".into()));
     };
     match first.to_str() {
-        Some("help") if let [word] = rest => {
-            let named = COMMANDS.iter().find(|command| word == command.name);
-            let command = named.ok_or_else(|| Failure::Usage(format!("there is no subcommand `{}`", word.display())))?;
+        Some("help") if rest.len() == 1 => {
+            let named = COMMANDS.iter().find(|command| rest[0] == command.name);
+            let command = named.ok_or_else(|| Failure::Usage(format!("there is no subcommand `{}`", rest[0].display())))?;
             return output::standard(help(command).as_bytes());
         }
         Some("--help" | "-h" | "help") => return output::standard(overview().as_bytes()),
@@ -112,7 +112,7 @@ fn run(words: &[OsString]) -> Result<(), Failure> {
 /// Options and statuses, which are those of every subcommand.
 const COMMON: &str = "\
 Options:
-    -o FILE    write the result to FILE, whole or not at all, and not to standard output
+    -o FILE    write the result to FILE, whole or not at all; to standard output where FILE is `-`, or without this option
     --help     write this and do nothing else
     --         what follows are files, also where they begin with a dash
 
@@ -139,8 +139,8 @@ fn overview() -> String {
     }
     text += "\n\
         FILE is read, or standard input where it is left out or `-`. A problem is in the binary layout, in the text form or a script, told\n\
-        by its first bytes; a trace is CSV. The result goes to standard output, or with `-o FILE` to a file, whole or not at all; all else to\n\
-        standard error.\n\n\
+        by its first bytes; a trace is CSV. The result goes to standard output, or with `-o FILE` to a file, whole or not at all (`-o -` is\n\
+        standard output again); all else to standard error.\n\n\
         Exit status: 0 done; 1 refused, with the number and what to look at; 2 a wrong command line, a file that cannot be read or\n\
         written, an input that is none, or a result over what memory allows.\n\n\
         `smt-echo SUBCOMMAND --help` has more and an example.\n";
