@@ -106,8 +106,14 @@ impl OwnedProblem {
         let word = line.word("a kind")?;
         let record = match word {
             b"const" => self.constant(line)?,
-            b"select" => self.with_side(kind::SELECT, "a select has pairs of an index and a value", 2, line)?,
-            b"call" => self.with_side(kind::CALL, "", 1, line)?,
+            b"select" => {
+                let [array, index] = [line.number("the number of an array")?, line.number("the node of the index")?];
+                self.with_side(kind::SELECT, [array, index], "a select has pairs of an index and a value", 2, line)?
+            }
+            b"call" => {
+                let [function, width] = [line.number("the number of a function")?, line.number("the width")?];
+                self.with_side(kind::CALL, [function, width], "", 1, line)?
+            }
             b"record" => {
                 let kind = line.number("the number of a kind")?;
                 node(kind, line.operands(4)?)
@@ -124,7 +130,7 @@ impl OwnedProblem {
 
     /// A constant: its bits; its value and width; or the place of its bits and its width.
     fn constant(&mut self, line: &mut Line<'_>) -> Result<[u8; NODE_BYTES], TextError> {
-        let word = line.word("`#b` and digits, a value, or `@` and a place")?;
+        let word = line.word("`#b` and digits, a decimal value, or `@` and a place,")?;
         if let Some(place) = word.strip_prefix(b"@") {
             let place = line.parse("a place in bits", place)?;
             return Ok(node(kind::CONST, [place, line.number("the width")?, 0, 0]));
@@ -137,7 +143,7 @@ impl OwnedProblem {
             self.bits.extend(digits.iter().rev().map(|d| d - b'0'));
             return Ok(node(kind::CONST, [place, line.fits("the width", digits.len())?, 0, 0]));
         }
-        let value: u128 = line.parse("`#b` and digits, a value below 2^128, or `@` and a place,", word)?;
+        let value: u128 = line.parse("`#b` and digits, a decimal value below 2^128, or `@` and a place,", word)?;
         let (start, width): (usize, u32) = (line.start, line.number("the width")?);
         if value.checked_shr(width).unwrap_or(0) != 0 {
             line.start = start;
@@ -150,9 +156,15 @@ impl OwnedProblem {
         Ok(node(kind::CONST, [place, width, 0, 0]))
     }
 
-    /// A select or call: two operands, and then its side entries, or where they start and how many (pairs) there are.
-    fn with_side(&mut self, kind: u8, uneven: &str, size: usize, line: &mut Line<'_>) -> Result<[u8; NODE_BYTES], TextError> {
-        let [a, b, ..] = line.operands(2)?;
+    /// A select or call behind its two operands: its side entries, or where they start and how many (pairs) there are.
+    fn with_side(
+        &mut self,
+        kind: u8,
+        [a, b]: [u32; 2],
+        uneven: &str,
+        size: usize,
+        line: &mut Line<'_>,
+    ) -> Result<[u8; NODE_BYTES], TextError> {
         let start = line.fits("the place of the side entries", self.side.len())?;
         let (start, count) = match line.next()? {
             None => (start, 0),
@@ -166,7 +178,7 @@ impl OwnedProblem {
                 (start, line.fits("how many side entries there are", entries / size)?)
             }
             Some(Token::Word(word)) if word[0] == b'@' => (line.parse("a place in side", &word[1..])?, line.number("a count")?),
-            Some(Token::Word(word)) => return Err(line.wanted("`:` and side entries, or `@` and a place", word)),
+            Some(Token::Word(word)) => return Err(line.wanted("`:` and side entries, or `@` and a place,", word)),
             Some(Token::Name(_)) => {
                 return Err(line.error("`:` and side entries, or `@` and a place, is wanted, and not a name".into()));
             }
