@@ -80,7 +80,11 @@ impl<'a> Trace<'a> {
                 row[*variable] = value(field).map_err(|message| error(number, *start, message))?;
             }
             if trace.values.try_reserve(row.len()).is_err() {
-                return Err(error(number, 0, "there are more rows than memory allows".into()));
+                return Err(error(
+                    number,
+                    0,
+                    "there are more rows than memory allows; replay it in parts, each with the head".into(),
+                ));
             }
             trace.values.extend(&row);
         }

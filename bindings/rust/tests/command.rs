@@ -147,6 +147,12 @@ fn the_manual() {
     for subcommand in SUBCOMMANDS {
         assert!(manual.contains(&format!("`{subcommand}`")), "{subcommand}");
     }
+    // The grammar has every kind.
+    let (_, node) = manual.split_once("\n    node     = ").expect("the grammar");
+    let (node, _) = node.split_once("\n    name     = ").expect("the grammar");
+    for kind in (0..kind::COUNT).filter_map(kind::name) {
+        assert!(node.contains(&format!("\"{}\"", kind.to_lowercase())), "{kind}");
+    }
 }
 
 #[test]
@@ -250,7 +256,11 @@ fn refusals() {
             "the columns of the arrays have different lengths: aname_start 0, aname_len 0, index_width 1, value_width 0",
         ),
         (m2("add 0 1", "add 0 2"), 1, "node 2, `add 0 2`, is not well formed: node 2 does not stand before it"),
-        (m2("5 8", "5 9"), 1, "node 2, `add 0 1`, is not well formed: node 0 is 8 wide, node 1 is 9 wide"),
+        (
+            m2("5 8", "5 9"),
+            1,
+            "node 2, `add 0 1`, is not well formed: node 0 is 8 wide, node 1 is 9 wide, and one width is wanted",
+        ),
         (
             m2("const 5 8", "const @1 8"),
             1,
@@ -282,16 +292,20 @@ fn refusals() {
         ),
         (rich("|f|", "|v|"), 2, "function 0, |v|, has the name of variable 1, |v|"),
         // 3
-        (m2("root 3", "root 0"), 3, "root 0: node 0, `var 8`, is a bit-vector, and a Bool is wanted"),
+        (
+            m2("root 3", "root 0"),
+            3,
+            "root 0: node 0, `var 8`, is a bit-vector, and a Bool is wanted; a comparison makes one of it",
+        ),
         (
             "problem\nvariable |b| 1 node 0\n0 var 1\n1 eq 0 0\n2 bv_not 1\n3 eq 2 0\nroot 3\n".into(),
             3,
-            "below node 2, `bv_not 1`: node 1, `eq 0 0`, is a Bool, and a bit-vector is wanted",
+            "below node 2, `bv_not 1`: node 1, `eq 0 0`, is a Bool, and a bit-vector is wanted; `ite` makes one of it",
         ),
         (
             "problem\nvariable |b| 1 node 0\n0 var 1\n1 ite 0 0 0\n2 eq 1 0\nroot 2\n".into(),
             3,
-            "below node 1, `ite 0 0 0`: node 0, `var 1`, is a bit-vector, and a Bool is wanted",
+            "below node 1, `ite 0 0 0`: node 0, `var 1`, is a bit-vector, and a Bool is wanted; a comparison makes one of it",
         ),
         // 4
         (m2("|x| 8", "|x| 0"), 4, "variable 0, |x|, has width 0"),
@@ -302,24 +316,33 @@ fn refusals() {
             "below node 2, `add 0 1`: node 0, `var 8`, has no entry in the table of variables",
         ),
         // 5
-        (m2("add 0 1", "rotl 0 0"), 5, "below node 3, `eq 2 0`: node 2, `rotl 0 0`, is by node 0, `var 8`, which is no constant"),
+        (
+            m2("add 0 1", "rotl 0 0"),
+            5,
+            "below node 3, `eq 2 0`: node 2, `rotl 0 0`, is by node 0, `var 8`, which is no constant; write it as shifts",
+        ),
         (
             "problem\n0 const 0 65537\n1 rotr 0 0\n2 eq 1 0\nroot 2\n".into(),
             5,
             "below node 2, `eq 1 0`: node 1, `rotr 0 0`, is 65537 wide, and a rotation has from 1 to 65536 bits",
         ),
         // 6
-        (m2("eq 2 0", "eq 2 2"), 6, "node 2, `add 0 1`, is used 2 times, by node 3, node 3"),
-        (more("root 3\n"), 6, "node 3, `eq 2 0`, is used 2 times, by root 0, root 1"),
-        (more(&"root 3\n".repeat(9)), 6, "node 3, `eq 2 0`, is used 10 times, by root 0, root 1, root 2, root 3, .."),
+        (m2("eq 2 0", "eq 2 2"), 6, "node 2, `add 0 1`, is used 2 times, by node 3, node 3; `smt-echo print --let` prints it"),
+        (more("root 3\n"), 6, "node 3, `eq 2 0`, is used 2 times, by root 0, root 1; `smt-echo print --let` prints it"),
+        (
+            more(&"root 3\n".repeat(9)),
+            6,
+            "node 3, `eq 2 0`, is used 10 times, by root 0, root 1, root 2, root 3, ..; `smt-echo print --let` prints it",
+        ),
         // 7
-        (more("function |f| 8\n"), 7, "function 0, |f|, is called by no node"),
+        (more("function |f| 8\n"), 7, "function 0, |f|, is called by no node; leave it out"),
         (rich("|f| 8", "|f| 0"), 7, "function 0, |f|, has width 0"),
         (rich("|f| 8", "|f| 9"), 7, "below node 4, `eq 2 3`: node 3, `call 0 8 @2 2`, has width 8, and function 0, |f|, has 9"),
         (
             rich("4 eq 2 3\nroot 4", "4 call 0 8 : 1\n5 eq 3 4\nroot 5"),
             7,
-            "below node 5, `eq 3 4`: node 4, `call 0 8 @4 1`, has arguments of widths [8], and the first call, node 3, [32, 8]",
+            "below node 5, `eq 3 4`: node 4, `call 0 8 @4 1`, has arguments of widths [8], and the first call, node 3, [32, 8]; declare \
+             a function for each",
         ),
         (
             "problem\nfunction |f| 8\n0 call 0 8 @1 0\n".into(),
@@ -332,7 +355,7 @@ fn refusals() {
         (more("4 record 29 3 0 5 0\n"), 8, "node 4, of kind `not` with 1 operands: operand 3 is 5, and should be 0"),
         (more("bits 0 1 2\n"), 8, "element 10 of bits is 2, and neither 0 nor 1"),
         // 9
-        (more(&"root 3\n".repeat(256)), 9, "roots has 257 elements, and its limit is 256"),
+        (more(&"root 3\n".repeat(256)), 9, "roots has 257 elements, and its limit is 256; `bool_and` makes one of two"),
         (
             more("1 var 1\n").replace("1 var 1", &format!("names{}", " 0".repeat(16_384))),
             9,
@@ -341,9 +364,13 @@ fn refusals() {
         (
             format!("problem\n{}", (0..2_049).map(|i| format!("{i} var 1\n")).collect::<String>()),
             9,
-            "nodes has 34833 elements, and its limit is 34816",
+            "nodes has 34833 elements, and its limit is 34816; with `smt-echo print --let` a term is one node, however often it is used",
         ),
-        (format!("problem\nbits{}\n", " 0".repeat(131_073)), 9, "bits has 131073 elements, and its limit is 131072"),
+        (
+            format!("problem\nbits{}\n", " 0".repeat(131_073)),
+            9,
+            "bits has 131073 elements, and its limit is 131072; equal constants may be one node",
+        ),
         (format!("problem\nside{}\n", " 0".repeat(8_193)), 9, "side has 8193 elements, and its limit is 8192"),
         (format!("problem\nvalue_width{}\n", " 0".repeat(513)), 9, "value_width has 513 elements, and its limit is 512"),
         // 12
@@ -364,11 +391,11 @@ fn refusals() {
         "variable 0, |d2|, has the name under which a term is bound: node 2, `add 0 1`, is used 2 times, by node 3, node 3";
     assert_eq!(run(&["print", "--let"], clash.as_bytes()).refused(), (11, look.into()));
     let root = m2("eq 2 0", "eq 2 2").replace("root 3", "root 2");
-    let look = "root 0: node 2, `add 0 1`, is a bit-vector, and a Bool is wanted";
+    let look = "root 0: node 2, `add 0 1`, is a bit-vector, and a Bool is wanted; a comparison makes one of it";
     assert_eq!(run(&["print", "--let"], root.as_bytes()).refused(), (3, look.into()));
     // A bound term is refused by itself before a use of the other sort is.
     let bound = m2("add 0 1", "rotl 0 0").replace("root 3", "4 eq 2 0\nroot 2");
-    let look = "root 0: node 2, `rotl 0 0`, is by node 0, `var 8`, which is no constant";
+    let look = "root 0: node 2, `rotl 0 0`, is by node 0, `var 8`, which is no constant; write it as shifts";
     assert_eq!(run(&["print", "--let"], bound.as_bytes()).refused(), (5, look.into()));
     seen.insert(11);
     // 10 is never met: the buffer is as long as the script.
@@ -380,7 +407,29 @@ fn refusals() {
 #[test]
 fn refusals_of_the_width_pass() {
     for (lines, number, look) in [
-        ("0 var 8\n1 not 0\n", 1, "node 1, `not 0`, is not well formed: node 0 is 8 wide"),
+        ("0 var 8\n1 not 0\n", 1, "node 1, `not 0`, is not well formed: node 0 is 8 wide, and a Bool is 1 wide"),
+        (
+            "0 var 8\n1 eq 0 0\n2 bool_or 1 0\n",
+            1,
+            "node 2, `bool_or 1 0`, is not well formed: node 1 is 1 wide, node 0 is 8 wide, and a Bool is 1 wide",
+        ),
+        (
+            "0 var 8\n1 var 9\n2 ite 0 1 1\n",
+            1,
+            "node 2, `ite 0 1 1`, is not well formed: node 0 is 8 wide, node 1 is 9 wide, and a Bool, which is 1 wide, and two of one width \
+             are wanted",
+        ),
+        (
+            "0 var 8\n1 extract 0 7 0\n",
+            1,
+            "node 1, `extract 0 7 0`, is not well formed: node 0 is 8 wide, and its highest bit and its lowest are wanted, in this order and \
+             counted from 0",
+        ),
+        (
+            "0 var 8\n1 var 9\n2 ult 0 1\n",
+            1,
+            "node 2, `ult 0 1`, is not well formed: node 0 is 8 wide, node 1 is 9 wide, and one width is wanted",
+        ),
         ("0 var 32\nindex_width 32\n", 1, "index_width has 1 elements, and value_width 0"),
         ("bits 3\n", 8, "element 0 of bits is 3, and neither 0 nor 1"),
         ("array || 32 0\n", 12, "element 0 of value_width is 0, and should be from 1 to 65536"),
@@ -519,13 +568,21 @@ fn refused_traces() {
     let head = "problem\nvariable |x| 8 node 0\n0 var 8\n";
     let select = head.replace("variable", "array |m| 8 8\nvariable") + "1 select 0 0\n2 eq 0 0\n3 eq 1 0\nroot 2\nroot 3\n";
     for (text, number, look) in [
-        (roots, 9, "there are 65 roots, and a trace is replayed for 64 at most"),
-        (format!("{head}roots{}\n", " 0".repeat(257)), 9, "roots has 257 elements, and its limit is 256"),
-        (select, 14, "below root 1: node 1, `select 0 0 @0 0`, is a select, which has no value in a trace"),
+        (roots, 9, "there are 65 roots, and a trace is replayed for 64 at most; `bool_and` makes one of two"),
+        (
+            format!("{head}roots{}\n", " 0".repeat(257)),
+            9,
+            "roots has 257 elements, and its limit is 256; `bool_and` makes one of two",
+        ),
+        (
+            select,
+            14,
+            "below root 1: node 1, `select 0 0 @0 0`, is a select, which has no value in a trace; leave the root out to replay the others",
+        ),
         (
             head.replace("variable", "function |f| 8\nvariable") + "1 call 0 8 : 0\n2 eq 0 1\nroot 2\n",
             14,
-            "below root 0: node 1, `call 0 8 @0 1`, is a call, which has no value in a trace",
+            "below root 0: node 1, `call 0 8 @0 1`, is a call, which has no value in a trace; leave the root out to replay the others",
         ),
         (
             head.to_string() + "1 zero_ext 0 57\n2 rotl 1 4\n3 extract 7 0 2\n4 const 1 65\n5 eq 3 0\nroot 5\n",
@@ -535,7 +592,7 @@ fn refused_traces() {
         (
             head.to_string() + "1 zero_ext 0 57\n2 extract 7 0 1\n3 eq 2 0\nroot 3\n",
             14,
-            "below root 0: node 1, `zero_ext 0 57`, is 65 wide, and 64 bits are the most",
+            "below root 0: node 1, `zero_ext 0 57`, is 65 wide, and 64 bits are the most; leave the root out to replay the others",
         ),
     ] {
         assert_eq!(run(&["replay", "-", &path("csv")], text.as_bytes()).refused(), (number, look.to_string()), "{text}");
@@ -689,6 +746,17 @@ fn files() {
         assert_eq!(run(&[subcommand, &path("huge")], b"").not_done(), format!("{}: {more}", path("huge")));
     }
 
+    // A script that is longer than a problem may be is read by `read`.
+    let mut long = String::from("problem\n");
+    long += &format!("0 const #b{}\n", "01".repeat(65_536));
+    (1..71).for_each(|i| long += &format!("{i} eq 0 0\nroot {i}\n"));
+    assert_eq!(run(&["print", "-o", &path("long")], long.as_bytes()).done(), b"");
+    let size = run(&["size"], long.as_bytes()).done();
+    let why = "is longer than 16777216 bytes, the most that are read of a problem; `smt-echo read` reads a longer script";
+    assert_eq!(run(&["size", &path("long")], b"").not_done(), format!("{}: {why}", path("long")));
+    assert_eq!(shell("smt-echo size < long 2>&1", &folder), (2, format!("smt-echo: standard input: {why}\n")));
+    assert_eq!(shell("smt-echo read long | smt-echo size", &folder), (0, String::from_utf8(size).unwrap()));
+
     // The mark in front of UTF-8 is passed over, in the text form. Of a long word the start is told.
     assert_eq!(run(&["print"], format!("\u{feff}{M2}").as_bytes()).done(), M2_SCRIPT.as_bytes());
     assert_eq!(
@@ -763,9 +831,98 @@ fn results_in_files() {
     }
 }
 
+/// `-` is standard output where a file is to be written, as it is standard input where one is to be read.
+#[test]
+fn results_on_standard_output() {
+    let folder = folder("standard_output");
+    fs::write(folder.join("m2"), M2).unwrap();
+    for subcommand in ["print", "size", "widths", "show", "formulas", "fewest"] {
+        let out = run(&[subcommand], M2.as_bytes()).done();
+        assert_eq!(run(&[subcommand, "-o", "-"], M2.as_bytes()).done(), out);
+    }
+    assert_eq!(shell("smt-echo size -o - m2 && smt-echo size - -o - < m2", &folder), (0, "length 103\nterms 5\n".repeat(2)));
+    assert_eq!(shell("smt-echo print -o - m2 > /dev/full", &folder).0, 2);
+    assert_eq!(names_in(&folder), ["m2"]);
+    assert_eq!(shell("smt-echo size -o ./- m2", &folder), (0, String::new()));
+    assert_eq!(fs::read(folder.join("-")).unwrap(), b"length 103\nterms 5\n");
+}
+
+/// Names that are nearly as long as a name can be, or too long; and the name of the part beside a file, where it is taken.
+#[test]
+fn results_under_long_names() {
+    let folder = folder("long_names");
+    let to = |name: &str| run(&["print".as_ref(), "-o".as_ref(), folder.join(name).as_os_str()], M2.as_bytes());
+    let accents = "é".repeat(127) + "x";
+    let names = ["n".repeat(250), "n".repeat(255), accents];
+    for name in &names {
+        assert_eq!(to(name).done(), b"");
+        assert_eq!(to(name).done(), b"");
+        assert_eq!(fs::read(folder.join(name)).unwrap(), M2_SCRIPT.as_bytes());
+    }
+    assert!(to(&"n".repeat(256)).not_done().ends_with("cannot be written: File name too long (os error 36)"));
+    assert_eq!(names_in(&folder), names);
+    let into = folder.join("s".repeat(255));
+    assert_eq!(run(&["split".as_ref(), "--into".as_ref(), into.as_os_str()], M2_SCRIPT.as_bytes()).done(), b"");
+    assert_eq!(names_in(&into), ["0.smt2"]);
+
+    // What a run that was killed left behind, by a process of the same number, is neither in the way nor taken away.
+    let command = "printf kept | tee out.$$.0.part > out.$$.1.part; mkdir cut.$$.0.part; echo $$; exec smt-echo";
+    for (name, args) in [("out", "print -o out"), ("cut", "split --into cut")] {
+        fs::write(folder.join("m2"), M2_SCRIPT).unwrap();
+        let (status, number) = shell(&format!("{command} {args} m2"), &folder);
+        assert_eq!(status, 0);
+        assert!(folder.join(name).exists());
+        for count in 0..2 {
+            assert_eq!(fs::read(folder.join(format!("out.{}.{count}.part", number.trim()))).unwrap(), b"kept");
+        }
+        assert!(!folder.join(format!("{name}.{}.2.part", number.trim())).exists());
+    }
+    assert_eq!(fs::read(folder.join("out")).unwrap(), M2_SCRIPT.as_bytes());
+}
+
+/// A link is followed, also where what it names is not there yet.
+#[test]
+fn results_through_links() {
+    use std::os::unix::fs::symlink;
+    let folder = folder("links");
+    let to = |name: &str, input: &str| run(&["print".as_ref(), "-o".as_ref(), folder.join(name).as_os_str()], input.as_bytes());
+    fs::create_dir(folder.join("sub")).unwrap();
+    symlink("../target", folder.join("sub/link")).unwrap();
+    symlink("sub/link", folder.join("chain")).unwrap();
+    symlink("none/target", folder.join("nowhere")).unwrap();
+    symlink("loop", folder.join("loop")).unwrap();
+    // Refused: nothing is made.
+    to("chain", &M2.replace("root 3", "root 0")).refused();
+    assert!(!folder.join("target").exists());
+    // Not there, and there.
+    for (name, input, script) in [("chain", M2, M2_SCRIPT), ("chain", "problem", M1_SCRIPT), ("sub/link", M2, M2_SCRIPT)] {
+        assert_eq!(to(name, input).done(), b"");
+        assert_eq!(fs::read_to_string(folder.join("target")).unwrap(), script);
+    }
+    // To an absolute path.
+    symlink(folder.join("other"), folder.join("sub/absolute")).unwrap();
+    assert_eq!(to("sub/absolute", M2).done(), b"");
+    assert_eq!(fs::read_to_string(folder.join("other")).unwrap(), M2_SCRIPT);
+    for (name, why) in
+        [("nowhere", "No such file or directory (os error 2)"), ("loop", "Too many levels of symbolic links (os error 40)")]
+    {
+        assert_eq!(to(name, M2).not_done(), format!("{}: cannot be written: {why}", folder.join(name).display()));
+    }
+    for link in ["chain", "loop", "nowhere", "sub/absolute", "sub/link"] {
+        assert!(fs::symlink_metadata(folder.join(link)).unwrap().is_symlink(), "{link}");
+    }
+    assert_eq!(names_in(&folder), ["chain", "loop", "nowhere", "other", "sub", "target"]);
+    assert_eq!(names_in(&folder.join("sub")), ["absolute", "link"]);
+    // Standard output by its name in the file system, where it is a pipe and where it is a file.
+    fs::write(folder.join("m2"), M2).unwrap();
+    let sizes = "smt-echo size -o /dev/stdout m2; smt-echo size -o /dev/stdout m2 > size; cat size";
+    assert_eq!(shell(sizes, &folder), (0, "length 103\nterms 5\n".repeat(2)));
+}
+
 /// A script of 1.6 terabytes, which tests/sizes.rs has too: its size is told, and so is that it cannot be printed.
 #[test]
 fn over_what_memory_allows() {
+    const SHORTER: &str = "fewer roots, or fewer uses of wide constants, make it shorter";
     let mut text =
         format!("problem\nfunction |f| 131072\nfunction |g| 131072\nbits{}\n0 const @0 131072\n", " 1".repeat(131_072));
     text += &format!("side{}\nside{}\n", " 0".repeat(6_148), (1..2_045).map(|i| format!(" {i}")).collect::<String>());
@@ -777,7 +934,8 @@ fn over_what_memory_allows() {
     let length = size.lines().next().unwrap().strip_prefix("length ").unwrap();
     assert!(length.parse::<u64>().unwrap() > 1_600_000_000_000, "{length}");
     for args in [&["print"][..], &["print", "--hidden"], &["formulas"]] {
-        assert_eq!(run(args, text.as_bytes()).not_done(), format!("the script has {length} bytes, more than memory allows"));
+        let told = format!("the script has {length} bytes, more than memory allows; {SHORTER}, as `smt-echo size` tells");
+        assert_eq!(run(args, text.as_bytes()).not_done(), told);
     }
 
     // With `let` nothing tells the length: the buffer grows, here up to what a limit leaves.
@@ -786,7 +944,7 @@ fn over_what_memory_allows() {
     (3..253).for_each(|i| text += &format!("{i} eq 0 0\nroot {i}\n"));
     fs::write(folder.join("wide"), &text).unwrap();
     let (_, told) = shell("ulimit -v 60000; smt-echo print --let wide 2>&1 > /dev/null; echo $?", &folder);
-    let more = |bytes: u32| format!("smt-echo: the script has more than {bytes} bytes, more than memory allows\n2\n");
+    let more = |bytes: u32| format!("smt-echo: the script has more than {bytes} bytes, more than memory allows; {SHORTER}\n2\n");
     assert!([8 << 20, 16 << 20, 32 << 20].map(more).contains(&told), "{told}");
     assert!(run(&["print", "--let"], text.as_bytes()).done().len() > 65_000_000);
 
@@ -795,7 +953,9 @@ fn over_what_memory_allows() {
     let rows = |count: usize| format!("x\n{}", "1\n".repeat(count));
     fs::write(folder.join("rows"), rows(500_000)).unwrap();
     let (_, told) = shell("ulimit -v 20000; smt-echo replay m2 rows 2>&1 > /dev/null; echo $?", &folder);
-    let more = ["has 500000 rows, more than memory allows\n2\n", "there are more rows than memory allows\n2\n"];
+    let parts = "replay it in parts, each with the head";
+    let more = ["has 500000 rows, more than memory allows", "there are more rows than memory allows"];
+    let more = more.map(|what| format!("{what}; {parts}\n2\n"));
     assert!(more.iter().any(|end| told.starts_with("smt-echo: rows:") && told.ends_with(end)), "{told}");
     let name = "x".repeat(16_000);
     let mut text = format!("problem\nvariable |{name}| 8 node 0\n0 var 8\n");
@@ -805,7 +965,15 @@ fn over_what_memory_allows() {
     let (_, told) = shell("ulimit -v 100000; smt-echo replay --formulas long rows 2>&1 > /dev/null; echo $?", &folder);
     let formulas: usize = (0..64).map(|root| format!(" {root}    {root}: |{name}| < |{name}|\n").len()).sum();
     let length: usize = (0..100).map(|row| format!("{row} fails\n").len() + formulas).sum();
-    assert_eq!(told, format!("smt-echo: the result has {length} bytes, more than memory allows\n2\n"));
+    let next = "it is shorter without `--formulas`";
+    assert_eq!(told, format!("smt-echo: the result has {length} bytes, more than memory allows; {next}\n2\n"));
+    fs::write(folder.join("short"), text.replace(&name, "x")).unwrap();
+    fs::write(folder.join("rows"), rows(500_000)).unwrap();
+    let (_, told) = shell("ulimit -v 80000; smt-echo replay short rows 2>&1 > /dev/null; echo $?", &folder);
+    let all: usize = (0..64).map(|root| format!(" {root}").len()).sum();
+    let length: usize = (0..500_000).map(|row| format!("{row} fails\n").len() + all).sum();
+    let next = "replay the trace in parts, each with the head";
+    assert_eq!(told, format!("smt-echo: the result has {length} bytes, more than memory allows; {next}\n2\n"));
 }
 
 /// Terms that double 40 times: as a tree a terabyte, with `let` a few lines. What to look at in one that is refused is found at once.

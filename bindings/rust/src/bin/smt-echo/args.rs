@@ -7,7 +7,7 @@ use std::path::PathBuf;
 
 pub struct Args {
     pub help: bool,
-    /// The file to write; none for standard output.
+    /// The file to write; none, or `-`, for standard output.
     pub out: Option<PathBuf>,
     sources: Vec<Source>,
     given: Vec<(&'static str, OsString)>,

@@ -34,27 +34,43 @@ impl fmt::Display for Source {
 impl Source {
     /// The bytes of the input, up to so many.
     pub fn bytes(&self, most: u64) -> Result<Vec<u8>, Failure> {
+        let (bytes, all) = self.first(most)?;
+        if all { Ok(bytes) } else { Err(self.too_long(most, "")) }
+    }
+
+    /// The bytes of the input up to one more than so many, and whether that is no more than these. Of a file that is known to have more only
+    /// the first few are read.
+    fn first(&self, most: u64) -> Result<(Vec<u8>, bool), Failure> {
         let failed = |error: io::Error| self.not_done(format!("cannot be read: {error}"));
         let mut bytes = Vec::new();
-        let too_long = match self {
+        let more = match self {
             Source::File(path) => {
                 let file = File::open(path).map_err(failed)?;
-                // Where the length is known, a file that is too long is not read at all.
-                let known = file.metadata().map_err(failed)?.len() > most;
-                known || file.take(most + 1).read_to_end(&mut bytes).map_err(failed)? as u64 > most
+                let more = file.metadata().map_err(failed)?.len() > most;
+                let taken = if more { read::HEAD.len() as u64 } else { most + 1 };
+                file.take(taken).read_to_end(&mut bytes).map_err(failed)?;
+                more
             }
-            Source::Standard => io::stdin().lock().take(most + 1).read_to_end(&mut bytes).map_err(failed)? as u64 > most,
+            Source::Standard => {
+                io::stdin().lock().take(most + 1).read_to_end(&mut bytes).map_err(failed)?;
+                false
+            }
         };
-        if too_long {
-            return Err(self.not_done(format!("is longer than {most} bytes, the most that are read")));
-        }
-        Ok(bytes)
+        let all = !more && bytes.len() as u64 <= most;
+        Ok((bytes, all))
+    }
+
+    fn too_long(&self, most: u64, next: &str) -> Failure {
+        self.not_done(format!("is longer than {most} bytes, the most that are read{next}"))
     }
 
     /// The problem of the input, in the form that its first bytes tell. The binary layout begins with a count whose upper bytes are 0.
     pub fn problem(&self) -> Result<OwnedProblem, Failure> {
-        let bytes = self.bytes(PROBLEM)?;
-        if bytes.is_empty() {
+        let (bytes, all) = self.first(PROBLEM)?;
+        if !all {
+            let script = bytes.starts_with(read::HEAD);
+            Err(self.too_long(PROBLEM, if script { " of a problem; `smt-echo read` reads a longer script" } else { "" }))
+        } else if bytes.is_empty() {
             Err(self.not_done("is empty, and no problem: the empty problem is the line `problem`".into()))
         } else if bytes.starts_with(read::HEAD) {
             read::script(&bytes)

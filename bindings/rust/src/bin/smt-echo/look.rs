@@ -13,7 +13,7 @@ pub fn problem(p: &Problem<'_>, refusal: Refusal) -> Option<String> {
         Refusal::Var => look.declared_variables().or_else(|| look.below_roots(refusal)),
         Refusal::Signature => look.declared_functions().or_else(|| look.below_roots(refusal)),
         Refusal::Sort | Refusal::Rotate => look.below_roots(refusal),
-        Refusal::Shared => look.shared().first().map(|(_, text)| text.clone()),
+        Refusal::Shared => look.shared().first().map(|(_, text)| format!("{text}; `smt-echo print --let` prints it")),
         Refusal::Clash => look.clash(),
         Refusal::Encoding => records(p.nodes).or_else(|| look.bits()),
         Refusal::Limit => look.limits(),
@@ -44,7 +44,8 @@ pub fn trace(p: &Problem<'_>, refusal: TraceRefusal) -> Option<String> {
     let look = Look { p, widths: widths(p) };
     match refusal {
         TraceRefusal::Printer(Refusal::Limit) => {
-            look.limits().or_else(|| Some(format!("there are {} roots, and a trace is replayed for 64 at most", p.roots.len())))
+            let roots = || format!("there are {} roots, and a trace is replayed for 64 at most; {FEWER_ROOTS}", p.roots.len());
+            look.limits().or_else(|| Some(roots()))
         }
         TraceRefusal::Printer(refusal) => problem(p, refusal),
         TraceRefusal::Wide => look.wide(),
@@ -115,6 +116,9 @@ fn widths(p: &Problem<'_>) -> Vec<u64> {
     widths
 }
 
+/// What makes fewer roots, and says the same.
+const FEWER_ROOTS: &str = "`bool_and` makes one of two";
+
 struct Look<'p, 'a> {
     p: &'p Problem<'a>,
     widths: Vec<u64>,
@@ -181,15 +185,18 @@ impl<'a> Look<'_, 'a> {
 
     fn limits(&self) -> Option<String> {
         self.p.inputs().into_iter().find_map(|(name, input)| {
-            let (count, limit) = match (name, input) {
-                ("nodes", Input::Bytes(bytes)) => (bytes.len(), MAX_NODES_LEN),
-                ("bits", Input::Bytes(bytes)) => (bytes.len(), MAX_BITS_LEN),
-                (_, Input::Bytes(bytes)) => (bytes.len(), MAX_ARENA_LEN),
-                ("side", Input::Numbers(numbers)) => (numbers.len(), MAX_SIDE_LEN),
-                ("roots", Input::Numbers(numbers)) => (numbers.len(), MAX_ROOTS_LEN),
-                (_, Input::Numbers(numbers)) => (numbers.len(), MAX_COLUMN_LEN),
+            let (count, limit, next) = match (name, input) {
+                ("nodes", Input::Bytes(bytes)) => {
+                    (bytes.len(), MAX_NODES_LEN, "with `smt-echo print --let` a term is one node, however often it is used")
+                }
+                ("bits", Input::Bytes(bytes)) => (bytes.len(), MAX_BITS_LEN, "equal constants may be one node"),
+                (_, Input::Bytes(bytes)) => (bytes.len(), MAX_ARENA_LEN, ""),
+                ("side", Input::Numbers(numbers)) => (numbers.len(), MAX_SIDE_LEN, ""),
+                ("roots", Input::Numbers(numbers)) => (numbers.len(), MAX_ROOTS_LEN, FEWER_ROOTS),
+                (_, Input::Numbers(numbers)) => (numbers.len(), MAX_COLUMN_LEN, ""),
             };
-            (count > limit).then(|| format!("{name} has {count} elements, and its limit is {limit}"))
+            let parted = if next.is_empty() { "" } else { "; " };
+            (count > limit).then(|| format!("{name} has {count} elements, and its limit is {limit}{parted}{next}"))
         })
     }
 
@@ -249,7 +256,15 @@ impl<'a> Look<'_, 'a> {
                 }
                 _ => String::new(),
             };
-            if widths.is_empty() { "a width is 0".into() } else { format!("{array}{}", widths.join(", ")) }
+            let wanted = match kind {
+                kind::NOT | kind::BOOL_AND | kind::BOOL_OR => ", and a Bool is 1 wide",
+                kind::ITE => ", and a Bool, which is 1 wide, and two of one width are wanted",
+                kind::EXTRACT => ", and its highest bit and its lowest are wanted, in this order and counted from 0",
+                kind::VAR | kind::CONST | kind::CONCAT | kind::ZERO_EXT | kind::SIGN_EXT => "",
+                kind::BV_NOT | kind::NEG | kind::SELECT | kind::CALL => "",
+                _ => ", and one width is wanted",
+            };
+            if widths.is_empty() { "a width is 0".into() } else { format!("{array}{}{wanted}", widths.join(", ")) }
         };
         Some(format!("{node} is not well formed: {why}"))
     }
@@ -335,7 +350,7 @@ impl<'a> Look<'_, 'a> {
                 return Some(format!("{} has width 0", self.entry(2, f)));
             }
             let Some(call) = self.first_call(f) else {
-                return Some(format!("{} is called by no node", self.entry(2, f)));
+                return Some(format!("{} is called by no node; leave it out", self.entry(2, f)));
             };
             let (_, [_, _, start, count]) = self.parts(call)?;
             let Some(arguments) = self.side(start, count as usize) else {
@@ -382,8 +397,12 @@ impl<'a> Look<'_, 'a> {
         let (kind, operands) = self.parts(i)?;
         let is_bool = matches!(kind, kind::EQ..=kind::BOOL_OR);
         let sort = (is_bool != wants_bool).then(|| {
-            let (is, wanted) = if is_bool { ("a Bool", "a bit-vector") } else { ("a bit-vector", "a Bool") };
-            (Refusal::Sort, format!("{} is {is}, and {wanted} is wanted", self.node(i)))
+            let text = if is_bool {
+                "is a Bool, and a bit-vector is wanted; `ite` makes one of it"
+            } else {
+                "is a bit-vector, and a Bool is wanted; a comparison makes one of it"
+            };
+            (Refusal::Sort, format!("{} {text}", self.node(i)))
         });
         // With `let` a term that is bound is looked at by itself, before the sort that its uses want.
         let own = [sort, self.asked(i, kind, operands)].into_iter().flatten().find_map(|(which, what)| faulty(which, what));
@@ -417,13 +436,14 @@ impl<'a> Look<'_, 'a> {
             while let Some(node) = ahead.pop() {
                 let i = usize::try_from(node).ok()?;
                 let (kind, operands) = self.parts(i)?;
-                let node = self.node(i);
+                let (node, without) = (self.node(i), "leave the root out to replay the others");
                 if let kind::SELECT | kind::CALL = kind {
                     let what = if kind == kind::SELECT { "select" } else { "call" };
-                    return Some(format!("below root {k}: {node} is a {what}, which has no value in a trace"));
+                    return Some(format!("below root {k}: {node} is a {what}, which has no value in a trace; {without}"));
                 }
                 if self.widths.get(i).is_some_and(|width| *width > 64) {
-                    return Some(format!("below root {k}: {node} is {} wide, and 64 bits are the most", self.widths[i]));
+                    let width = self.widths[i];
+                    return Some(format!("below root {k}: {node} is {width} wide, and 64 bits are the most; {without}"));
                 }
                 ahead.extend(self.walked(i, kind, operands).into_iter().rev());
             }
@@ -448,7 +468,8 @@ impl<'a> Look<'_, 'a> {
                 Some(_) => None,
             },
             kind::ROTL | kind::ROTR if !matches!(self.parts(b as usize), Some((kind::CONST, _))) => {
-                Some((Refusal::Rotate, format!("{node} is by {} which is no constant", self.node(b as usize))))
+                let by = self.node(b as usize);
+                Some((Refusal::Rotate, format!("{node} is by {by} which is no constant; write it as shifts")))
             }
             kind::ROTL | kind::ROTR if !(1..=65_536).contains(&self.widths[i]) => {
                 Some((Refusal::Rotate, format!("{node} is {} wide, and a rotation has from 1 to 65536 bits", self.widths[i])))
@@ -479,7 +500,7 @@ impl<'a> Look<'_, 'a> {
                 (here != there).then(|| {
                     let list = |widths: Option<Vec<u64>>| format!("{:?}", widths.unwrap_or_default());
                     let text = format!(
-                        "{node} has arguments of widths {}, and the first call, node {first}, {}",
+                        "{node} has arguments of widths {}, and the first call, node {first}, {}; declare a function for each",
                         list(here),
                         list(there)
                     );

@@ -47,7 +47,7 @@ fn run(args: &Args) -> Result<Vec<u8>, Failure> {
     let trace = Trace::from_csv(problem, &csv).map_err(|error| of_trace.malformed(error))?;
     let rows = trace.rows();
     let (Some(mut masks), Some(mut counts)) = (room::zeros(rows), room::zeros(rows)) else {
-        return Err(of_trace.not_done(format!("has {rows} rows, more than memory allows")));
+        return Err(of_trace.not_done(format!("has {rows} rows, more than memory allows; replay it in parts, each with the head")));
     };
     replay_trace(problem, trace.values(), &mut masks, &mut counts).map_err(|refusal| match refusal {
         TraceRefusal::Values => {
@@ -62,7 +62,8 @@ fn run(args: &Args) -> Result<Vec<u8>, Failure> {
     let mut length = 0usize;
     told(&masks, problem.roots.len(), &formulas, |part| length = length.saturating_add(part.len()));
     let Some(mut result) = room::empty(length) else {
-        return Err(Failure::NotDone(format!("the result has {length} bytes, more than memory allows")));
+        let next = if formulas.is_empty() { "replay the trace in parts, each with the head" } else { "it is shorter without `--formulas`" };
+        return Err(Failure::NotDone(format!("the result has {length} bytes, more than memory allows; {next}")));
     };
     told(&masks, problem.roots.len(), &formulas, |part| result.extend_from_slice(part));
     Ok(result)

@@ -11,13 +11,18 @@ pub fn refused(problem: &Problem<'_>, refusal: Refusal) -> Failure {
     Failure::Refused { refusal: refusal.to_string(), look: look::problem(problem, refusal) }
 }
 
+/// What makes a script shorter: a constant stands in it at each of its uses.
+const SHORTER: &str = "fewer roots, or fewer uses of wide constants, make it shorter";
+
 /// A text that has at most so many times the bytes of the plain script.
 pub fn measured(problem: &Problem<'_>, times: usize, write: Writer) -> Result<Vec<u8>, Failure> {
     let script = echo_size(problem).map_err(|refusal| refused(problem, refusal))?.length;
     let length = times * script;
     let fits = available().is_none_or(|bytes| length <= bytes);
     let Some(mut text) = fits.then(|| buffer(length)).flatten() else {
-        return Err(Failure::NotDone(format!("the script has {script} bytes, more than memory allows")));
+        return Err(Failure::NotDone(format!(
+            "the script has {script} bytes, more than memory allows; {SHORTER}, as `smt-echo size` tells"
+        )));
     };
     let length = write(problem, &mut text).map_err(|refusal| refused(problem, refusal))?;
     text.truncate(length);
@@ -30,7 +35,7 @@ pub fn grown(problem: &Problem<'_>, write: Writer) -> Result<Vec<u8>, Failure> {
     loop {
         let fits = available().is_none_or(|bytes| length <= bytes / 2);
         let Some(mut text) = fits.then(|| buffer(length)).flatten() else {
-            return Err(Failure::NotDone(format!("the script has more than {tried} bytes, more than memory allows")));
+            return Err(Failure::NotDone(format!("the script has more than {tried} bytes, more than memory allows; {SHORTER}")));
         };
         match write(problem, &mut text) {
             Ok(length) => {

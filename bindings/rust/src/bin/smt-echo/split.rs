@@ -78,8 +78,7 @@ fn into(folder: &Path, scripts: &[&[u8]]) -> io::Result<()> {
     if fs::symlink_metadata(folder).is_ok() {
         return Err(io::Error::new(io::ErrorKind::AlreadyExists, "it is there already"));
     }
-    let part = output::beside(folder)?;
-    fs::create_dir(&part)?;
+    let (part, ()) = output::beside(folder, |part| fs::create_dir(part))?;
     let written = scripts.iter().enumerate().try_for_each(|(number, script)| fs::write(part.join(format!("{number}.smt2")), script));
     let done = written.and_then(|()| fs::rename(&part, folder));
     if done.is_err() {
