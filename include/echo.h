@@ -5,8 +5,9 @@
  * `check_release`, which sees to it that a name has one meaning in a file of scripts, and the conversions of node records `shorten_records` and
  * `lengthen_records`, for C and C++.
  *
- * The library is target/staticlib/libecho_c.a, written by `sh tools/staticlib.sh`. It is for x86-64 with the System V calling
- * convention. It allocates nothing, keeps nothing between calls and needs only memcpy, memmove and memset of the C library.
+ * The library is target/staticlib/libecho_c.a, written by `sh tools/staticlib.sh`. It is for x86-64, level v2 (SSE4.2 and POPCNT) and above,
+ * with the System V calling convention, and can be linked into a program or into a shared library. It allocates nothing, keeps nothing
+ * between calls, so that threads may call it at one time, and needs only memcpy, memmove and memset of the C library.
  *
  * The functions take slices: a pointer and a number of elements (not of bytes). For each slice the caller sees to it that
  *

@@ -23,6 +23,8 @@ if [ -n "$others" ]; then
     echo "run.sh: the library needs more of the C library than the header says:" $others
     exit 1
 fi
+# It can be part of a shared library: nothing in it has to be moved when that is loaded, but for addresses in its data.
+"$cc" -shared -o "$out/libecho.so" -Wl,--whole-archive "$library" -Wl,--no-whole-archive -Wl,-z,defs -Wl,-z,text
 sanitizers='-g -O1 -fsanitize=address,undefined -fno-sanitize-recover=all'
 # built PROGRAM COMPILER OPTION ..: examples/c/PROGRAM.c
 built() {
