@@ -173,6 +173,9 @@ def main(program, paths):
     for path in paths:
         tally = Tally(path)
         title = open(path, 'rb').read(8)
+        if title not in WORDS:
+            print(path, 'is left out: it is no list of problems, traces, scripts read back or releases')
+            continue
         if title == b'TRACES 1':
             with tempfile.TemporaryDirectory() as folder:
                 traces(program, tally, os.path.join(folder, 'trace.csv'))
