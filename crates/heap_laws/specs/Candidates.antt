@@ -1,21 +1,18 @@
 -- A constant that may be new, behind the bits in use: its hash, its comparison with a constant that has a node, its bits from digits and
 -- from a number. Assumes nothing.
 use Prim.Native.Nat.{ℕ, zero, suc, ◌+◌, ◌*◌, ◌-◌, ◌/◌, ◌%◌, ◌≤◌, ◌<◌, min}
-use Rattle.std.specs.Prelude.{◌≡◌, refl, false, not, T, eqb, drop, get_or, set}
+use Rattle.std.specs.Prelude.{◌≡◌, refl, drop, get_or, set}
 use Rattle.std.proofs.Math.Path.{ap, sym}
-use Rattle.std.proofs.Common.{◌∙◌, subst, arith, add-one, eqb→eq, length-append, length-drop, length-take-le, take_all, take-suc-set, drop-cons, drop_of_length-le, get_or-take, get_or-drop, ext_get_or}
+use Rattle.std.proofs.Common.{◌∙◌, arith, add-one, length-append, length-drop, length-take-le, take_all, take-suc-set, drop-cons, drop_of_length-le, get_or-take, get_or-drop, ext_get_or}
 use mathlib.Core.List.{List, [], ◌∷◌, ◌++◌, append_assoc, append-nil}
 use borrow.Rule.Slice.PartMut.{put_mid}
 use lib.Seq.{drop-drop}
 use Rattle.std.proofs.Math.Option.{some}
 use Rattle.std.proofs.Math.ListN.{length, take, get_elem?}
-use Rattle.lists.specs.Tests.{All, or_elim, not-not}
 use Rattle.lists.specs.Places.{at_less}
-use Rattle.smtlib.specs.Lexicon.{binary_digit}
 use Rattle.smtlib.specs.Readings.{bits_of}
 use Rattle.readback.specs.Reader.{up_to}
 use Rattle.readback.specs.Rebuild.{Item, a_constant, low_bits, bits_in, joined}
-use Rattle.reader_laws.specs.TermsStrict.{up-to-fails}
 use Rattle.script_tokens.specs.Reached.{between, ends_digits}
 use Rattle.heap_laws.specs.Heap.{constant_at, hash_from, hash_of, bits_at, Held}
 use Rattle.heap_laws.specs.declared.Heap.{Heap}
@@ -26,10 +23,10 @@ use Rattle.heap_laws.specs.Adding.{by_equal}
 -- ---------------------------------------------------------------- hashes
 
 -- at each turn the hash so far goes on over the bits that are left
-pub hash-more : (l : List ℕ) (h i : ℕ) → i < length l → hash_from ((h * 2 + get_or l i 0) % 281474976710656) (drop (i + 1) l) ≡ hash_from h (drop i l)
+pub hash-more : (l : List ℕ) (h i : ℕ) → i < length l → hash_from ((h * 2 + get_or l i 0) % 18446744073709551616) (drop (i + 1) l) ≡ hash_from h (drop i l)
 unfolding hash_from
 hash-more l h i k =
-    ap (λ (n : ℕ). hash_from ((h * 2 + get_or l i 0) % 281474976710656) (drop n l)) (add-one i) ∙ sym (ap (hash_from h) (drop-cons l i 0 k))
+    ap (λ (n : ℕ). hash_from ((h * 2 + get_or l i 0) % 18446744073709551616) (drop n l)) (add-one i) ∙ sym (ap (hash_from h) (drop-cons l i 0 k))
 
 pub hash-end : (l : List ℕ) (h i : ℕ) → length l ≤ i → hash_from h (drop i l) ≡ h
 unfolding hash_from
@@ -143,28 +140,6 @@ pub digits-none : (script bits : List ℕ) (at e : ℕ) → bits ≡ filled bits
 digits-none script bits at e =
     let a : e - (e - 0) ≡ 0 = omega arith in
     sym (ap (λ (n : ℕ). filled bits at (bits_of (take n (drop (e - 0) script)))) a ∙ filled_none bits at)
-
--- a digit is 48 or 49
-binary-low : (c : ℕ) → T (not (ends_digits c)) → 48 ≤ c
-binary-low c h =
-    or_elim (eqb c 48) _ (not-not (binary_digit c) h) (λ t. omega (arith, eqb→eq c 48 t))
-    (λ t. or_elim (eqb c 49) false t (λ u. omega (arith, eqb→eq c 49 u)) (λ u. absurd u))
-
-all-at : (ds : List ℕ) → All (λ c. not (ends_digits c)) ds → (i : ℕ) → i < length ds → 48 ≤ get_or ds i 0
-all-at [] h i l = absurd (omega arith)
-all-at (c ∷ ds) h zero l = binary-low c h.0
-all-at (c ∷ ds) h (suc i) l = all-at ds h.1 i (omega arith)
-
--- each byte of the digits that are read
-pub digit_low : (script : List ℕ) (p e : ℕ) → e ≤ length script → (up_to ends_digits (drop p script)).value ≡ between script p e → (i : ℕ) → p ≤ i → i < e → 48 ≤ get_or script i 0
-digit_low script p e high q i l m =
-    let ds : List ℕ = between script p e in
-    let h : All (λ c. not (ends_digits c)) ds = subst (All (λ c. not (ends_digits c))) q (up-to-fails ends_digits (drop p script)) in
-    let n : length ds ≡ e - p = length-take-le (e - p) (drop p script) (omega (arith, length-drop p script)) in
-    let j : ℕ = i - p in
-    let z : p + j ≡ i = omega arith in
-    let a : get_or ds j 0 ≡ get_or script i 0 = get_or-take (e - p) (drop p script) j 0 (omega arith) ∙ get_or-drop p script j 0 ∙ ap (λ (k : ℕ). get_or script k 0) z in
-    omega (arith, all-at ds h j (omega arith))
 
 -- how many bits digits have
 pub bits-at-is : (script : List ℕ) (p e : ℕ) → (up_to ends_digits (drop p script)).value ≡ between script p e → bits_at script p ≡ bits_of (between script p e)

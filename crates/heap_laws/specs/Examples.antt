@@ -1,11 +1,11 @@
 -- The definitions at work on small values: each is computed.
-use Rattle.std.specs.Prelude.{◌≡◌, refl, [], ◌∷◌, true, false}
+use Rattle.std.specs.Prelude.{◌+◌, ◌*◌, ◌≡◌, refl, [], ◌∷◌, true, false}
 use Rattle.lists.specs.Bytes.{bytes}
 use Rattle.echo_spec.specs.Input.{nodes_within}
 use Rattle.readback.specs.Reader.{up_to}
 use Rattle.readback.specs.Records.{record_bytes, records_bytes}
 use Rattle.readback.specs.Rebuild.{a_variable, here, pending, bits_in, side_in, joined, record_of, records_from}
-use Rattle.heap_laws.specs.Heap.{within, bits_at, ref_at, pending_in, pairs_back}
+use Rattle.heap_laws.specs.Heap.{within, bits_at, bits_spanned, ref_at, pending_in, pairs_back}
 
 -- a width of 32 bits can be written, one of 33 cannot
 widest : within (a_variable 4294967295 ∷ []) ≡ true
@@ -25,6 +25,11 @@ a-node = refl
 a-constant : ref_at (bytes "#b110 #b0)") 5 ≡ pending (0 ∷ 1 ∷ 1 ∷ [])
 unfolding ref_at bits_at up_to bytes
 a-constant = refl
+
+-- so is one from 2^63 on, by the place of its digits and how many there are
+a-span : ref_at (bytes "#b110 #b0)") (2 * (4611686018427387904 + (2 + 17592186044416 * 3))) ≡ pending (0 ∷ 1 ∷ 1 ∷ [])
+unfolding ref_at bits_spanned bytes
+a-span = refl
 
 -- nodes that wait are no constants
 waiting : pending_in (here 4 ∷ pending (1 ∷ []) ∷ here 5 ∷ pending (0 ∷ 1 ∷ []) ∷ []) ≡ (1 ∷ []) ∷ (0 ∷ 1 ∷ []) ∷ []

@@ -103,8 +103,8 @@ module _ (script : List ℕ) {heap : Heap} {s : List Item} {refs : List Ref} {ba
 
     -- with this operand they are held
     pub going_more : {heap' : Heap} (x : Ref) (m : ℕ) → x ≡ next-ref → m ≡ node_of (with_constants (pending_in (x ∷ [])) t) x → Held heap' (with_constants (pending_in (x ∷ [])) t)
-        → heap'.top ≡ heap.top → heap'.stack ≡ heap.stack → Going script (record heap' { stack = set heap'.stack i (2 * m) }) s refs base (i + 1)
-    going_more {heap'} x m q e h a b =
+        → heap'.top ≡ heap.top → heap'.stack ≡ heap.stack → m < 4611686018427387904 → Going script (record heap' { stack = set heap'.stack i (2 * m) }) s refs base (i + 1)
+    going_more {heap'} x m q e h a b few =
         let u : List Item = reached s refs base (i + 1) in
         let z : with_constants (pending_in (x ∷ [])) t ≡ u = ap (λ (r : Ref). with_constants (pending_in (r ∷ [])) t) q ∙ sym reached-more in
         let k : Held heap' u = subst (Held heap') z h in
@@ -116,7 +116,7 @@ module _ (script : List ℕ) {heap : Heap} {s : List Item} {refs : List Ref} {ba
         let w : Stacked script (record heap' { stack = set heap'.stack i (2 * m) }) (front ++ (ref_at script (2 * m) ∷ drop (suc i) refs)) =
         stacked-set script {heap = heap'} front next-ref (drop (suc i) refs) i (2 * m) front_long (stacked-same script waiting {heap' = heap'} a b) in
         let f : front ++ (ref_at script (2 * m) ∷ drop (suc i) refs) ≡ take base refs ++ (settled u (done_to refs base (i + 1)) ++ drop (i + 1) refs) =
-        (λ j. front ++ (ref-node script m j ∷ drop (sym (add-one i) j) refs))
+        (λ j. front ++ (ref-node script m few j ∷ drop (sym (add-one i) j) refs))
         ∙ append_assoc (take base refs) (settled t done) (here m ∷ drop (i + 1) refs)
         ∙ ap (λ (y : List Ref). take base refs ++ y) (sym (append_assoc (settled t done) (here m ∷ []) (drop (i + 1) refs)) ∙ ap (λ (y : List Ref). y ++ drop (i + 1) refs) (sym both)) in
         record {

@@ -1,5 +1,5 @@
 -- The nodes that are rebuilt so far, as the arrays of `Heap` hold them.
-use Rattle.std.specs.Prelude.{ℕ, zero, suc, ◌+◌, ◌*◌, ◌/◌, ◌%◌, ◌≤◌, ◌<◌, ◌≡◌, List, [], ◌∷◌, map, Bool, true, false, ◌&&◌, T, eqb, length, take, drop, get_or, Option, Some, None}
+use Rattle.std.specs.Prelude.{ℕ, zero, suc, ◌+◌, ◌*◌, ◌-◌, ◌/◌, ◌%◌, ◌≤◌, ◌<◌, ◌≡◌, List, [], ◌∷◌, map, Bool, true, false, ◌&&◌, T, eqb, ltb, length, take, drop, get_or, Option, Some, None}
 use Rattle.std.proofs.Math.Option.{some}
 use Rattle.std.proofs.Math.ListN.{get_elem?}
 use Rattle.lists.specs.Tests.{every}
@@ -21,7 +21,7 @@ use Rattle.readback.specs.Rebuild.{
   joined,
   records_from,
 }
-use Rattle.script_tokens.specs.Reached.{ends_digits}
+use Rattle.script_tokens.specs.Reached.{between, ends_digits}
 use Rattle.heap_laws.specs.declared.TheConstants.{NODES, BITS, SIDE, STACK}
 use Rattle.heap_laws.specs.declared.Constant.{Constant}
 use Rattle.heap_laws.specs.declared.Heap.{Heap}
@@ -59,10 +59,10 @@ past (Some k) = k + 1
 
 -- ---------------------------------------------------------------- hashes of constants
 
--- the number goes on over the bits, as far as 48 bits hold it
+-- the number goes on over the bits, as far as 64 bits hold it
 unfoldable pub hash_from : ℕ → List ℕ → ℕ
 hash_from h [] = h
-hash_from h (b ∷ bs) = hash_from ((h * 2 + b) % 281474976710656) bs
+hash_from h (b ∷ bs) = hash_from ((h * 2 + b) % 18446744073709551616) bs
 
 -- by the lowest 48 bits and the width
 unfoldable pub hash_of : List ℕ → ℕ
@@ -106,9 +106,17 @@ pub record Held (heap : Heap) (s : List Item) : Type 0 where
 unfoldable pub bits_at : List ℕ → ℕ → List ℕ
 bits_at s p = bits_of (up_to ends_digits (drop p s)).value
 
--- 2 i is node i, 2 p + 1 a constant with its digits at place p of the script
+-- the bits of the digits that a number has: from place x modulo 2^44 on, x by 2^44 of them
+unfoldable pub bits_spanned : List ℕ → ℕ → List ℕ
+bits_spanned s x = bits_of (between s (x % 17592186044416) (x % 17592186044416 + x / 17592186044416))
+
+-- 2 i is node i, 2 p + 1 a constant with its digits at place p of the script, wherever they end; from 2^63 on, 2 (2^62 + x) a constant whose digits x has
 unfoldable pub ref_at : List ℕ → ℕ → Ref
-ref_at s c = elim (eqb (c % 2) 0) [ true ↦ here (c / 2) | false ↦ pending (bits_at s (c / 2)) ]
+ref_at s c =
+    elim (eqb (c % 2) 0) [
+      | true ↦ elim (ltb (c / 2) 4611686018427387904) [ true ↦ here (c / 2) | false ↦ pending (bits_spanned s (c / 2 - 4611686018427387904)) ]
+      | false ↦ pending (bits_at s (c / 2))
+    ]
 
 -- the operands that wait, the first at the bottom
 pub record Stacked (script : List ℕ) (heap : Heap) (refs : List Ref) : Type 0 where

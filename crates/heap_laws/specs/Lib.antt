@@ -12,4 +12,3 @@ pub mod Going
 pub mod Start
 pub mod Blank
 pub mod Examples
-pub mod Parts

@@ -1,13 +1,15 @@
 -- The operands that wait: one more, some fewer, one settled. Assumes nothing.
-use Rattle.std.specs.Prelude.{ℕ, zero, suc, ◌+◌, ◌*◌, ◌-◌, ◌/◌, ◌%◌, ◌≤◌, ◌<◌, ◌≡◌, refl, List, [], ◌∷◌, ◌++◌, map, Bool, true, false, eqb, length, take, drop, get_or, set}
-use Rattle.std.proofs.Common.{ap, sym, ◌∙◌, arith, add-one, length-append, length-drop}
+use Rattle.std.specs.Prelude.{ℕ, zero, suc, ◌+◌, ◌*◌, ◌-◌, ◌/◌, ◌%◌, ◌≤◌, ◌<◌, ◌≡◌, refl, List, [], ◌∷◌, ◌++◌, map, Bool, true, false, eqb, ltb, length, take, drop, get_or, set}
+use Rattle.std.proofs.Common.{ap, sym, ◌∙◌, arith, add-one, lt-ltb, le-ltb, length-append, length-drop}
 use Rattle.std.proofs.lemmas.List.{map-append, length-map}
 use Rattle.std.proofs.Math.Option.{some}
 use Rattle.std.proofs.Math.ListN.{get_elem?}
 use lib.Seq.{length-take-le, take-take, take-suc-set, take-set-lt, drop-set-lt, drop-set-add, set_at, get_or-take, get_or-drop, get_or-set_same, get_or-set_other}
 use Rattle.lists.specs.Places.{at_less}
 use Rattle.readback.specs.Rebuild.{Ref, here, pending}
-use Rattle.heap_laws.specs.Heap.{stack_size, bits_at, ref_at, halves, Stacked}
+use Rattle.smtlib.specs.Readings.{bits_of}
+use Rattle.script_tokens.specs.Reached.{between}
+use Rattle.heap_laws.specs.Heap.{stack_size, bits_at, bits_spanned, ref_at, halves, Stacked}
 use Rattle.heap_laws.specs.declared.Heap.{Heap}
 
 -- ---------------------------------------------------------------- lists
@@ -29,32 +31,53 @@ map_at f (x ∷ l) (suc i) d y e = map_at f l i d y e
 
 -- ---------------------------------------------------------------- a number as an operand
 
-pub ref-even : (script : List ℕ) (c : ℕ) → c % 2 ≡ 0 → ref_at script c ≡ here (c / 2)
+pub ref-even : (script : List ℕ) (c : ℕ) → c % 2 ≡ 0 → c / 2 < 4611686018427387904 → ref_at script c ≡ here (c / 2)
 unfolding ref_at
-ref-even script c e = rw (e, ref_at)
+ref-even script c e l = rw (e, ref_at, lt-ltb (c / 2) 4611686018427387904 l)
+
+pub ref-spanned : (script : List ℕ) (c : ℕ) → c % 2 ≡ 0 → 4611686018427387904 ≤ c / 2 → ref_at script c ≡ pending (bits_spanned script (c / 2 - 4611686018427387904))
+unfolding ref_at
+ref-spanned script c e l = rw (e, ref_at, le-ltb (c / 2) 4611686018427387904 l)
 
 pub ref-odd : (script : List ℕ) (c : ℕ) → c % 2 ≡ 1 → ref_at script c ≡ pending (bits_at script (c / 2))
 unfolding ref_at
 ref-odd script c e = rw (e, ref_at)
 
-pub ref-node : (script : List ℕ) (i : ℕ) → ref_at script (2 * i) ≡ here i
-ref-node script i =
+pub ref-node : (script : List ℕ) (i : ℕ) → i < 4611686018427387904 → ref_at script (2 * i) ≡ here i
+ref-node script i l =
     let b : 2 * i / 2 ≡ i = omega arith in
-    ref-even script (2 * i) (omega arith) ∙ ap here b
+    ref-even script (2 * i) (omega arith) (omega arith) ∙ ap here b
 
 pub ref-constant : (script : List ℕ) (p : ℕ) → ref_at script (2 * p + 1) ≡ pending (bits_at script p)
 ref-constant script p =
     let b : (2 * p + 1) / 2 ≡ p = omega arith in
     ref-odd script (2 * p + 1) (omega arith) ∙ ap (λ (k : ℕ). pending (bits_at script k)) b
 
+-- so many digits from a place on
+pub ref-digits : (script : List ℕ) (p w : ℕ) → p < 17592186044416 → ref_at script (2 * (4611686018427387904 + (p + 17592186044416 * w))) ≡ pending (bits_of (between script p (p + w)))
+unfolding bits_spanned
+ref-digits script p w l =
+    let x : ℕ = p + 17592186044416 * w in
+    let a : 2 * (4611686018427387904 + x) / 2 - 4611686018427387904 ≡ x = omega arith in
+    let b : x % 17592186044416 ≡ p = omega arith in
+    let c : x / 17592186044416 ≡ w = omega arith in
+    ref-spanned script (2 * (4611686018427387904 + x)) (omega arith) (omega arith)
+    ∙ ap (λ (y : ℕ). pending (bits_spanned script y)) a ∙ (λ i. pending (bits_of (between script (b i) (b i + c i))))
+
 -- the number of a node
 pub ref-half : (script : List ℕ) (c i : ℕ) → ref_at script c ≡ here i → c / 2 ≡ i
 unfolding ref_at
-ref-half script c i e = by-rest (eqb (c % 2) 0) refl e
+ref-half script c i e = by-rest (eqb (c % 2) 0) (ltb (c / 2) 4611686018427387904) e
   where
-    by-rest : (t : Bool) → eqb (c % 2) 0 ≡ t → elim t as (λ _. Ref) [ true ↦ here (c / 2) | false ↦ pending (bits_at script (c / 2)) ] ≡ here i → c / 2 ≡ i
-    by-rest true q e = cc
-    by-rest false q e = absurd (let z : ◌≡◌ {A = ℕ} 0 1 = cc in omega arith)
+    by-rest : (t u : Bool)
+        → elim t as (λ _. Ref) [
+          | true ↦ elim u as (λ _. Ref) [ true ↦ here (c / 2) | false ↦ pending (bits_spanned script (c / 2 - 4611686018427387904)) ]
+          | false ↦ pending (bits_at script (c / 2))
+        ] ≡ here i
+        → c / 2 ≡ i
+    by-rest true true e = cc
+    by-rest true false e = absurd (let z : ◌≡◌ {A = ℕ} 0 1 = cc in omega arith)
+    by-rest false u e = absurd (let z : ◌≡◌ {A = ℕ} 0 1 = cc in omega arith)
 
 -- ---------------------------------------------------------------- the operands that wait
 

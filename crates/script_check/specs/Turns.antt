@@ -1,7 +1,7 @@
 -- One turn over the assertions: what is read of an assertion, by the sort that is told of its term.
 use Rattle.std.specs.Prelude.{ℕ, zero, suc, ◌+◌, ◌≤◌, ◌<◌, ◌≡◌, refl, List, [], length, drop}
 use Rattle.std.proofs.Common.{ap, sym, ◌∙◌, subst, length-append, length-drop}
-use Rattle.std.specs.Prelude.{Some, None}
+use Rattle.std.specs.Prelude.{Option as Maybe, Some, None}
 use Rattle.std.proofs.Math.Option.{none}
 use native.Mathlib.Omega.{arith}
 use Rattle.lists.specs.Bytes.{bytes}
@@ -13,14 +13,14 @@ use Rattle.reader_laws.specs.TermsStrict.{expected}
 use Rattle.sort_reader.specs.Sorted.{sorted}
 use Rattle.script_names.specs.declared.Table.{Table}
 use Rattle.script_header.specs.declared.Header.{Header}
-use Rattle.script_header.specs.Header.{header_in, HeaderAt, NoHeader}
-use Rattle.script_entries.specs.Entries.{Entered, Known}
+use Rattle.script_header.specs.Header.{header_in, HeaderAt, HeaderTo, HeaderNoted, NoHeader}
+use Rattle.script_entries.specs.LinesMeasured.{known-noted}
 use Rattle.script_entries.specs.Named.{known-header}
 use Rattle.header_laws.specs.Body.{last_line, AssertionsAt}
 use Rattle.header_laws.specs.Whole.{header-none, header-reads, header-declarable}
 use Rattle.script_terms.specs.declared.Sorted.{Sorted}
 use Rattle.script_terms.specs.States.{sort_from, SortAt}
-use Rattle.script_check.specs.Check.{Topped, Checked, BodyAt, BodyTo}
+use Rattle.script_check.specs.Check.{Topped, TopTo, Checked, BodyAt, BodyTo}
 use Rattle.script_check.specs.Steps.{Going, going-read, going-last, going_next, going-bad, bad-none, bad-sort, bad-close, good-assertion}
 
 -- ---------------------------------------------------------------- sorts
@@ -89,19 +89,24 @@ turn_last g l e z q m = record { trees = g.trees; start = refl; read = going-rea
 
 -- ---------------------------------------------------------------- the whole script
 
-pub check-none : (s : List ℕ) → NoHeader s 0 → reading_in s ≡ none
+check-none : (s : List ℕ) → NoHeader s 0 → reading_in s ≡ none
 check-none s y = header-none s (y (suc (length s)) (omega arith))
 
 module _ {s : List ℕ} {t : Table} {h : Header} (x : HeaderAt s 0 t h.first h.variables h.arrays h.names h.end) where
   header_read : header_in (suc (length s)) s ≡ took x.value (drop h.end s)
   header_read = x.read (suc (length s)) (omega arith)
 
-  pub entered : Entered s t h x.value
-  entered = known-header x (header-declarable (suc (length s)) s x.value (drop h.end s) header_read)
+  topped : HeaderNoted s t (Some h) → Topped s t h h.end
+  topped n = record {
+    declarations = x.value;
+    known = known-noted (known-header x (header-declarable (suc (length s)) s x.value (drop h.end s) header_read)) n;
+    place = x.place;
+    read = header_read;
+  }
 
-  -- once the table u has what the lines declare
-  pub topped : {u : Table} → Known s u h x.value → Topped s u h h.end
-  topped κ = record { declarations = x.value; known = κ; place = x.place; read = header_read }
+pub topped-to : (s : List ℕ) (t : Table) (r : Maybe Header) → HeaderTo s 0 t r → HeaderNoted s t r → TopTo s t r
+topped-to s t None y n = check-none s y
+topped-to s t (Some h) x n = topped x n
 
 -- what the bytes after the header tell is what the script tells
 module _ {s : List ℕ} {t : Table} {h : Header} {e : ℕ} (x : Topped s t h e) where

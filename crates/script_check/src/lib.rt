@@ -12,7 +12,7 @@ ghost use Rattle.script_entries.specs.Entries.{Declares};
 ghost use Rattle.script_check.specs.Check.{TopTo, BodyTo, EndsTo};
 ghost use Rattle.script_check.specs.Steps.{Going};
 
-use script_entries::{Script, measure_lines};
+use script_entries::Script;
 use script_header::{Header, header_at_start};
 use script_names::Table;
 use script_terms::sort_at;
@@ -48,13 +48,11 @@ pub fn assertions(script: &Script, from: usize) -> Option<usize>
     last_line(script.text, p).then_some(n)
 }
 
-// The header: its names are in the table, measured; or that there is none. Ruled out: numbers that leave a table out; a place before the
-// header's last line.
+// The header: its names are in the table, and what each line declares; or that there is none. Ruled out: numbers that leave a table out; a place
+// before the header's last line.
 pub fn check_header(s: &[u8], t: &mut Table) -> Option<Header>
     requires { Empty t.old }
     ensures { TopTo s.now t.new result }
 {
-    let header = header_at_start(s, t)?;
-    measure_lines(s, t, &header);
-    Some(header)
+    header_at_start(s, t)
 }

@@ -11,7 +11,7 @@ use Rattle.readback.specs.Reader.{Took, took, and_then, expect, name_read}
 use Rattle.readback.specs.ScriptReader.{read_sort, separator}
 use Rattle.script_tokens.specs.Reached.{between}
 use Rattle.script_names.specs.Entries.{after_bar, entry_from, name_at, Named, Tabled}
-use Rattle.script_decls.specs.declared.Line.{Line}
+use Rattle.script_decls.specs.declared.Declaration.{Declaration}
 use Rattle.script_decls.specs.declared.Lines.{Lines}
 use Rattle.script_decls.specs.declared.Stage.{Stage}
 use Rattle.script_decls.specs.declared.Stage.TheVariants.{Variables, Arrays, Functions}
@@ -115,9 +115,9 @@ pub record LineAt (k : ℕ) (s : List ℕ) (at a f e : ℕ) : Type 0 where
   pub read : line_of k (drop at s) ≡ took value (drop e s)
   pub name : name_in k value ≡ between s a (f - 1)
 
-abbrev pub LineTo : ℕ → List ℕ → ℕ → Maybe Line → Type 0
+abbrev pub LineTo : ℕ → List ℕ → ℕ → Maybe Declaration → Type 0
 LineTo k s at None = line_of k (drop at s) ≡ none
-LineTo k s at (Some l) = LineAt k s at l.name l.name_end l.end
+LineTo k s at (Some d) = LineAt k s at d.line.name d.line.name_end d.line.end
 
 -- the first names
 unfoldable pub names_to : List ℕ → ℕ → List Name

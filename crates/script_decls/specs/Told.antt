@@ -1,17 +1,26 @@
 -- What the rest of a line after its name tells, by two numbers: of a variable the width; of an array the index width and the value width; of a
 -- function where the sorts of its arguments begin, and its width.
-use Rattle.std.specs.Prelude.{ℕ, suc, zero, ◌≤◌, ◌≡◌, List, [], true, length, drop}
+use Rattle.std.specs.Prelude.{ℕ, suc, zero, ◌+◌, ◌-◌, ◌≤◌, ◌<◌, ◌≡◌, List, [], Bool, true, false, eqb, length, drop}
 use Rattle.std.specs.Prelude.{Option as Maybe, Some, None}
-use Rattle.std.proofs.Common.{ap, sym, arith}
+use Rattle.std.proofs.Common.{ap, sym, ◌∙◌, subst, arith, eqb→eq}
+use Rattle.std.proofs.Math.Path.{refl}
+use Rattle.std.proofs.lemmas.Bool.{eqb-false}
 use Rattle.std.proofs.Math.Option.{none}
 use Rattle.lists.specs.Bytes.{bytes}
+use Rattle.lists.specs.Tests.{true→T}
 use Rattle.reading.specs.Trees.{Name, Variable, Array, Function}
 use Rattle.echo_spec.specs.Input.{largest}
 use Rattle.readback.specs.Reader.{took, and_then, expect}
 use Rattle.reader_laws.specs.TermsStrict.{and-then, took-both}
+use Rattle.script_tokens.specs.Reached.{between}
 use Rattle.script_names.specs.declared.Measure.{Measure}
+use Rattle.script_names.specs.declared.Table.{Table}
+use Rattle.script_names.specs.Entries.{after_bar, entry_from, measure_of, Noted}
+use Rattle.script_names.specs.Laws.{taken}
+use Rattle.script_decls.specs.declared.Declaration.{Declaration}
+use Rattle.script_decls.specs.declared.Lines.{Lines}
 use Rattle.script_decls.specs.declared.Rest.{Rest}
-use Rattle.script_decls.specs.Lines.{LineType, sort_in, variable_tail, array_tail_of, function_tail, tail_of, TailAt}
+use Rattle.script_decls.specs.Lines.{LineType, sort_in, variable_tail, array_tail_of, function_tail, tail_of, TailAt, LineAt, Ready}
 use Rattle.script_decls.specs.Tails.{SortsAt}
 
 -- sorts of these widths stand from place p on
@@ -30,6 +39,60 @@ Tells (suc (suc k)) s m g = SortsFrom s m.first g.arguments × (g.width ≡ m.se
 abbrev pub TailTold : ℕ → List ℕ → ℕ → Maybe Rest → Type 0
 TailTold k s f None = (n : Name) → tail_of k n (drop f s) ≡ none
 TailTold k s f (Some t) = TailAt k s f t.end × ((n : Name) (x : LineType k) (z : List ℕ) → tail_of k n (drop f s) ≡ took x z → Tells k s t.measure x)
+
+-- what the rest of a line tells, whose name ends before place f, by the numbers m
+abbrev pub Telling : ℕ → List ℕ → ℕ → Measure → Type 0
+Telling k s f m = (n : Name) (x : LineType k) (z : List ℕ) → tail_of k n (drop f s) ≡ took x z → Tells k s m x
+
+abbrev pub LineTold : ℕ → List ℕ → Maybe Declaration → Type 0
+LineTold k s None = Unit
+LineTold k s (Some d) = Telling k s d.line.name_end d.measure
+
+-- ---------------------------------------------------------------- the numbers of lines
+
+-- the numbers m are those of line j, of kind k, whose name ends before place `after`
+pub record LineNoted (k : ℕ) (s : List ℕ) (first j : ℕ) (m : Measure) : Type 0 where
+  pub after : ℕ
+  pub here : drop after s ≡ after_bar (entry_from j (drop first s))
+  pub told : Telling k s after m
+
+-- The table t' has the numbers of the lines from line `from` up to line c, of kind k, where it has room for all; those before stand as they are in t.
+pub record NotedFrom (k : ℕ) (s : List ℕ) (first from : ℕ) (t t' : Table) (c : ℕ) : Type 0 where
+  pub up : from ≤ c
+  pub before : (j : ℕ) → j < from → measure_of t' j ≡ measure_of t j
+  pub noted : c ≤ 1536 → (j : ℕ) → from ≤ j → j < c → LineNoted k s first j (measure_of t' j)
+
+abbrev pub NotedTo : ℕ → List ℕ → ℕ → ℕ → Table → Table → Maybe Lines → Type 0
+NotedTo k s first from t t' None = Unit
+NotedTo k s first from t t' (Some l) = NotedFrom k s first from t t' l.names
+
+-- no line yet
+pub noted_start : (k : ℕ) (s : List ℕ) (first from : ℕ) (t : Table) → NotedFrom k s first from t t from
+noted_start k s first from t = record { up = omega arith; before = λ j l. refl; noted = λ few j l m. absurd (omega arith) }
+
+-- a line more
+pub noted_more : {k : ℕ} {s : List ℕ} {first from c p : ℕ} {t u v : Table} (d : Declaration) → NotedFrom k s first from t u c → Ready s first u c p → LineAt k s p d.line.name d.line.name_end d.line.end
+    → LineTold k s (Some d) → Noted u v c d.measure → NotedFrom k s first from t v (c + 1)
+noted_more {k} {s} {first} {from} {c} {p} {t} {u} {v} d x y a told z = record {
+  up = omega (arith, x.up);
+  before = λ j m. z.others j (λ e. omega (arith, x.up)) ∙ x.before j m;
+  noted = λ few j m i. by_line few j m i (eqb j c) refl;
+}
+  where
+    own : LineNoted k s first c d.measure
+    own = record {
+      after = d.line.name_end;
+      here = sym (taken (drop d.line.name s) (between s d.line.name (d.line.name_end - 1)) (drop d.line.name_end s) a.named.read).after ∙ ap after_bar (a.start ∙ sym y.here);
+      told = told;
+    }
+
+    by_line : c + 1 ≤ 1536 → (j : ℕ) → from ≤ j → j < c + 1 → (b : Bool) → eqb j c ≡ b → LineNoted k s first j (measure_of v j)
+    by_line few j m i true e =
+        let q : j ≡ c = eqb→eq j c (true→T e) in
+        subst (λ (n : ℕ). LineNoted k s first n (measure_of v n)) (sym q) (subst (LineNoted k s first c) (sym (z.own (omega arith))) own)
+    by_line few j m i false e =
+        let q = eqb-false j c e in
+        subst (LineNoted k s first j) (sym (z.others j q)) (x.noted (omega arith) j m (omega arith))
 
 -- ---------------------------------------------------------------- widths
 

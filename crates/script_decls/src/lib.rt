@@ -7,10 +7,10 @@ ghost use Rattle.echo_spec.specs.Input.{largest};
 ghost use Rattle.echo_spec.specs.Names.{entry_ok};
 ghost use Rattle.readback.specs.Reader.{expect};
 ghost use Rattle.script_tokens.specs.Reached.{Reached, Numbered, between};
-ghost use Rattle.script_names.specs.Entries.{entry_from, Named, Tabled};
+ghost use Rattle.script_names.specs.Entries.{entry_from, Named, Tabled, Noted};
 ghost use Rattle.script_decls.specs.Tails.{SortsTo};
 ghost use Rattle.script_decls.specs.Lines.{sort_in, stage_number, word_of, LineTo, StageTo, Ready, names_to};
-ghost use Rattle.script_decls.specs.Told.{TailTold};
+ghost use Rattle.script_decls.specs.Told.{TailTold, LineTold, NotedTo};
 
 use echo_names::{bytes_ok, first_ok, is_reserved};
 use refusals::MAX_ARRAY_WIDTH;
@@ -32,6 +32,13 @@ pub struct Line {
     pub name: usize,
     pub name_end: usize,
     pub end: usize,
+}
+
+// A line of a declaration, and the numbers of what it declares.
+#[derive(Clone, Copy)]
+struct Declaration {
+    line: Line,
+    measure: Measure,
 }
 
 // What stands after the name of a line: the numbers of what the line declares, and the place after the line.
@@ -186,27 +193,31 @@ pub fn tail(stage: Stage, s: &[u8], at: usize) -> Option<Rest>
 }
 
 // A line of a stage: a variable's, an array's or a function's.
-fn read_line(stage: Stage, s: &[u8], at: usize) -> Option<Line>
+fn read_line(stage: Stage, s: &[u8], at: usize) -> Option<Declaration>
     requires { at ≤ length s.now }
-    ensures { LineTo (stage_number stage) s.now at result }
+    ensures line { LineTo (stage_number stage) s.now at result }
+    ensures told { LineTold (stage_number stage) s.now result }
 {
     let name = head(stage, s, at)?;
     let name_end = name_end(s, name)?;
     let rest = tail(stage, s, name_end)?;
-    Some(Line {
-        name,
-        name_end,
-        end: rest.end,
+    Some(Declaration {
+        line: Line {
+            name,
+            name_end,
+            end: rest.end,
+        },
+        measure: rest.measure,
     })
 }
 
 // ---------------------------------------------------------------- names
 
 // May the name be declared after those before it? Where it may, it is entered into the table.
-fn declare(s: &[u8], t: &mut Table, lines: Declared, a: usize, f: usize) -> bool
+fn declare(s: &[u8], t: &mut Table, lines: Declared, a: usize, f: usize, measure: Measure) -> bool
     requires { (lines.first ≤ length s.now) × Named s.now a f × Tabled s.now lines.first t.old lines.count × (drop a s.now ≡ entry_from lines.count (drop lines.first s.now)) }
     ensures { (result ≡ entry_ok (names_to (drop lines.first s.now) lines.count) (between s.now a (f - 1)))
-        × (result ≡ true → Tabled s.now lines.first t.new (lines.count + 1)) }
+        × (result ≡ true → Tabled s.now lines.first t.new (lines.count + 1) × Noted t.old t.new lines.count measure) }
 {
     let name = &s[a..f - 1];
     if !bytes_ok(name) || !first_ok(name) || is_reserved(name) {
@@ -215,14 +226,15 @@ fn declare(s: &[u8], t: &mut Table, lines: Declared, a: usize, f: usize) -> bool
     match find_line(s, t, lines, a, f) {
         Some(_) => false,
         None => {
-            enter(s, t, lines, a, f);
+            enter(s, t, lines, a, f, measure);
             true
         }
     }
 }
 
-// As many lines of a stage as there are, entered into the table after those that are there. Ruled out: lines read past a name
-// that is declared twice; a count that leaves the last line out.
+// As many lines of a stage as there are, entered into the table after those that are there, with the numbers of what they declare, so that a use
+// of a name need not read its line again. Ruled out: lines read past a name that is declared twice; a count that leaves the last line out; a line
+// whose numbers are left out.
 pub fn read_lines(
     stage: Stage,
     s: &[u8],
@@ -231,17 +243,18 @@ pub fn read_lines(
     at: usize,
 ) -> Option<Lines>
     requires { Ready s.now lines.first t.old lines.count at }
-    ensures { StageTo (stage_number stage) s.now lines.first lines.count at t.new result }
+    ensures stage { StageTo (stage_number stage) s.now lines.first lines.count at t.new result }
+    ensures noted { NotedTo (stage_number stage) s.now lines.first lines.count t.old t.new result }
 {
     let mut so_far = lines;
     let mut p = at;
     // Kept: each line tells where the next one begins.
-    while let Some(line) = read_line(stage, s, p) {
-        if !declare(s, t, so_far, line.name, line.name_end) {
+    while let Some(d) = read_line(stage, s, p) {
+        if !declare(s, t, so_far, d.line.name, d.line.name_end, d.measure) {
             return None;
         }
         so_far.count += 1;
-        p = line.end;
+        p = d.line.end;
     }
     Some(Lines {
         names: so_far.count,

@@ -12,8 +12,6 @@ use Rattle.script_names.specs.declared.Table.{Table}
 use Rattle.script_tokens.specs.declared.Number.{Number}
 use Rattle.script_names.specs.Entries.{measure_of, Tabled}
 use Rattle.script_decls.specs.Lines.{sorts_in, names_to}
-use Rattle.script_decls.specs.declared.Stage.{Stage}
-use Rattle.script_decls.specs.declared.Stage.TheVariants.{Variables, Arrays, Functions}
 use Rattle.script_header.specs.Header.{declared}
 use Rattle.script_entries.specs.declared.Script.{Script}
 use Rattle.script_entries.specs.declared.Entry.{Entry}
@@ -33,12 +31,6 @@ arrays_of h = h.arrays
 
 abbrev pub names_of : Header → ℕ
 names_of h = h.names
-
--- line k is of the stage
-abbrev pub Within : Header → ℕ → Stage → Type 0
-Within h k Variables = k < variables_of h
-Within h k Arrays = (variables_of h ≤ k) × (k < arrays_of h)
-Within h k Functions = arrays_of h ≤ k
 
 -- ---------------------------------------------------------------- sorts of arguments
 

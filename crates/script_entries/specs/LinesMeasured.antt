@@ -1,39 +1,31 @@
--- The table gets what the lines declare, a line at a time.
-use Rattle.std.specs.Prelude.{ℕ, ◌+◌, ◌-◌, ◌≤◌, ◌<◌, ◌≡◌, List}
-use Rattle.std.proofs.Common.{sym, subst, arith}
+-- The table has what the lines declare.
+use Rattle.std.specs.Prelude.{ℕ, ◌+◌, ◌-◌, ◌≤◌, ◌<◌, ◌≡◌, List, Bool, true, false, ltb}
+use Rattle.std.specs.Prelude.{Some}
+use Rattle.std.proofs.Common.{subst, arith, ltb→lt, nltb→le}
+use Rattle.std.proofs.Math.Path.{refl}
+use Rattle.lists.specs.Tests.{true→T}
 use Rattle.reading.specs.Trees.{Declarations}
 use Rattle.rebuilt.specs.Built.{variable_at, array_at, function_at}
 use Rattle.script_header.specs.declared.Header.{Header}
 use Rattle.script_names.specs.declared.Table.{Table}
-use Rattle.script_names.specs.declared.Measure.{Measure}
 use Rattle.script_names.specs.Entries.{measure_of}
-use Rattle.script_names.specs.Laws.{all_more, noted, tabled-kept, measure-own, measure-other}
-use Rattle.script_entries.specs.Entries.{variables_of, arrays_of, names_of, ArgumentsAt, Measured, KnownTo, Known}
+use Rattle.script_decls.specs.declared.Stage.{Stage}
+use Rattle.script_decls.specs.declared.Stage.TheVariants.{Variables, Arrays, Functions}
+use Rattle.script_header.specs.Header.{Within, HeaderNoted}
+use Rattle.script_entries.specs.Entries.{variables_of, arrays_of, names_of, ArgumentsAt, Entered, Known}
+use Rattle.script_entries.specs.Telling.{stage-measured}
 
-measured-as : {s : List ℕ} {h : Header} {D : Declarations} {k : ℕ} {x u : Measure} → x ≡ u → Measured s h D k u.first u.second → Measured s h D k x.first x.second
-measured-as {s} {h} {D} {k} p m = subst (λ (i : Measure). Measured s h D k i.first i.second) (sym p) m
+stage_of : (h : Header) (k : ℕ) → (S : Stage) × Within h k S
+stage_of h k = by_variables (ltb k h.variables) refl (ltb k h.arrays) refl
+  where
+    by_variables : (b : Bool) → ltb k h.variables ≡ b → (c : Bool) → ltb k h.arrays ≡ c → (S : Stage) × Within h k S
+    by_variables true e c f = (Variables, ltb→lt k h.variables (true→T e))
+    by_variables false e true f = (Arrays, (nltb→le k h.variables (rw e tt), ltb→lt k h.arrays (true→T f)))
+    by_variables false e false f = (Functions, nltb→le k h.arrays (rw f tt))
 
--- one line more
-pub known_more : {k : ℕ} {s : List ℕ} {t : Table} {h : Header} {D : Declarations} (x : Measure) → KnownTo k s t h D → k < 1536 → Measured s h D k x.first x.second → KnownTo (k + 1) s (noted t k x) h D
-known_more {k} {s} {t} {h} {D} x κ l m = record {
-  begin = κ.begin;
-  end = κ.end;
-  inside = κ.inside;
-  read = κ.read;
-  variables = κ.variables;
-  arrays = κ.arrays;
-  functions = κ.functions;
-  names = κ.names;
-  tabled = tabled-kept t k x (omega (arith, κ.tabled.long.lines)) κ.tabled;
-  declarable = κ.declarable;
-  measured = λ few. all_more (λ j. Measured s h D j (measure_of (noted t k x) j).first (measure_of (noted t k x) j).second) k
-      (λ j p. measured-as (measure-other t k x (omega (arith, κ.tabled.long.lines)) j (λ e. omega arith)) (κ.measured few j p))
-      (measured-as (measure-own t k x (omega (arith, κ.tabled.long.lines))) m);
-}
-
--- every line
-pub known-all : {k : ℕ} {s : List ℕ} {t : Table} {h : Header} {D : Declarations} → KnownTo k s t h D → (names_of h ≤ 1536 → names_of h ≤ k) → Known s t h D
-known-all {k} {s} {t} {h} {D} κ all = record {
+-- the header is read, and the table has the numbers of its lines
+pub known-noted : {s : List ℕ} {t : Table} {h : Header} {D : Declarations} → Entered s t h D → HeaderNoted s t (Some h) → Known s t h D
+known-noted {s} {t} {h} {D} κ n = record {
   begin = κ.begin;
   end = κ.end;
   inside = κ.inside;
@@ -44,7 +36,7 @@ known-all {k} {s} {t} {h} {D} κ all = record {
   names = κ.names;
   tabled = κ.tabled;
   declarable = κ.declarable;
-  measured = λ few j l. κ.measured few j (let a = all few in omega arith);
+  measured = λ few k l. (let (S, w) = stage_of h k in let x = n few k S w l in stage-measured κ k x.after x.here S w l x.told);
 }
 
 -- ---------------------------------------------------------------- an entry of each table by its number

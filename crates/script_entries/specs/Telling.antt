@@ -20,7 +20,8 @@ use Rattle.script_decls.specs.Lines.{LineType, stage_number, tail_of, variable_t
 use Rattle.script_decls.specs.Told.{Tells}
 use Rattle.script_entries.specs.declared.Entry.{Entry}
 use Rattle.script_entries.specs.declared.Entry.TheVariants.{Variable as VariableEntry, Array as ArrayEntry, Function as FunctionEntry}
-use Rattle.script_entries.specs.Entries.{first_of, variables_of, arrays_of, names_of, Measured, KnownTo, Within, ArgumentsAt, Numbers, EntryIs, EntryOf}
+use Rattle.script_header.specs.Header.{Within}
+use Rattle.script_entries.specs.Entries.{first_of, variables_of, arrays_of, names_of, Measured, KnownTo, ArgumentsAt, Numbers, EntryIs, EntryOf}
 use Rattle.script_entries.specs.Lined.{DeclaredLines, declared-lines}
 use Rattle.script_entries.specs.Widths.{arguments-at}
 use Rattle.script_entries.specs.Finding.{no-numbers, variable-numbers, array-numbers, function-numbers}

@@ -11,11 +11,12 @@ ghost use Rattle.script_tokens.specs.Reached.{between};
 ghost use Rattle.script_names.specs.Entries.{after_bar, entry_from, Named, Tabled};
 ghost use Rattle.script_decls.specs.Lines.{LineType, stage_number, tail_of};
 ghost use Rattle.script_decls.specs.Told.{Tells};
-ghost use Rattle.script_entries.specs.Entries.{first_of, variables_of, arrays_of, names_of, Measured, KnownTo, Entered, Known, Within, Declares, ArgumentsAt, NextArgument, EntryIs, EntryOf};
+ghost use Rattle.script_header.specs.Header.{Within};
+ghost use Rattle.script_entries.specs.Entries.{first_of, variables_of, arrays_of, names_of, Measured, KnownTo, Declares, ArgumentsAt, NextArgument, EntryIs, EntryOf};
 
 use script_decls::{Stage, sort_in, tail};
 use script_header::Header;
-use script_names::{Declared, LINES, Measure, Table, UNREAD, after_bar, find_line};
+use script_names::{Declared, LINES, Measure, Table, UNREAD, find_line};
 use script_tokens::Number;
 
 // The widths of an array.
@@ -65,16 +66,7 @@ pub fn next_argument(s: &[u8], p: usize) -> Option<Number>
     sort_in(s, p, u64::MAX)
 }
 
-// ---------------------------------------------------------------- what the lines declare, put into the table
-
-// The place after the name of line k, which the table has.
-fn after_name(s: &[u8], t: &Table, k: usize) -> usize
-    requires { (first : ℕ) × (c : ℕ) × Tabled s.now first t.now c × (k < c) × (c ≤ LINES) }
-    ensures { (result ≤ length s.now)
-        × ((first c : ℕ) → Tabled s.now first t.now c → k < c → c ≤ LINES → drop result s.now ≡ after_bar (entry_from k (drop first s.now))) }
-{
-    after_bar(s, t.lines[k].place)
-}
+// ---------------------------------------------------------------- what a line declares
 
 // The stage that line k is of.
 fn stage_of(h: &Header, k: usize) -> Stage
@@ -107,22 +99,6 @@ fn measure_after(s: &[u8], h: &Header, k: usize, e: usize) -> Measure
         → drop e s.now ≡ after_bar (entry_from k (drop (first_of h.now) s.now)) → Measured s.now h.now D k result.first result.second }
 {
     told(stage_of(h, k), s, e)
-}
-
-// The table gets what each line declares, so that a use of a name need not read its line again; of more lines than the table holds it gets
-// nothing. Ruled out: the last line left out; the numbers of a line put where those of the line before it stand; none of the lines.
-pub fn measure_lines(s: &[u8], t: &mut Table, h: &Header)
-    requires { (D : Declarations) × Entered s.now t.old h.now D }
-    ensures { (D : Declarations) → Entered s.now t.old h.now D → Known s.now t.new h.now D }
-{
-    if h.names > LINES {
-        return;
-    }
-    for k in 0..h.names {
-        let e = after_name(s, t, k);
-        let x = measure_after(s, h, k, e);
-        t.lines[k].measure = x;
-    }
 }
 
 // ---------------------------------------------------------------- a name

@@ -9,8 +9,11 @@ use Rattle.reading.specs.Trees.{Declarations}
 use Rattle.echo_spec.specs.Render.{logic_of}
 use Rattle.readback.specs.Printable.{variable_names_in, array_names_in, function_names_in}
 use Rattle.readback.specs.Reader.{Took, took, and_then, expect, up_to}
-use Rattle.script_names.specs.Entries.{Tabled}
-use Rattle.script_decls.specs.Lines.{checked, names_to}
+use Rattle.script_names.specs.Entries.{measure_of, Tabled}
+use Rattle.script_decls.specs.Lines.{checked, names_to, stage_number}
+use Rattle.script_decls.specs.Told.{LineNoted}
+use Rattle.script_decls.specs.declared.Stage.{Stage}
+use Rattle.script_decls.specs.declared.Stage.TheVariants.{Variables, Arrays, Functions}
 use Rattle.script_header.specs.declared.Header.{Header}
 use Rattle.script_names.specs.declared.Table.{Table}
 
@@ -67,3 +70,14 @@ NoHeader s at = (f : ℕ) → length s < f → header_in f (drop at s) ≡ none
 abbrev pub HeaderTo : List ℕ → ℕ → Table → Maybe Header → Type 0
 HeaderTo s at t None = NoHeader s at
 HeaderTo s at t (Some h) = HeaderAt s at t h.first h.variables h.arrays h.names h.end
+
+-- line k is of the stage
+abbrev pub Within : Header → ℕ → Stage → Type 0
+Within h k Variables = k < h.variables
+Within h k Arrays = (h.variables ≤ k) × (k < h.arrays)
+Within h k Functions = h.arrays ≤ k
+
+-- the table has the numbers of every line, where it has room for all
+abbrev pub HeaderNoted : List ℕ → Table → Maybe Header → Type 0
+HeaderNoted s t None = Unit
+HeaderNoted s t (Some h) = h.names ≤ 1536 → (k : ℕ) (S : Stage) → Within h k S → k < h.names → LineNoted (stage_number S) s h.first k (measure_of t k)

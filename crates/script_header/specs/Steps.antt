@@ -1,7 +1,7 @@
 -- Laws of the header, a step at a time.
 use Rattle.std.specs.Prelude.{ℕ, ◌-◌, ◌≤◌, ◌<◌, ◌≡◌, Bool, true, false, ◌&&◌, cond, length, drop}
 use Rattle.std.proofs.Math.Path.{refl, ap, sym}
-use Rattle.std.proofs.Common.{◌∙◌, arith, length-drop}
+use Rattle.std.proofs.Common.{◌∙◌, subst, arith, length-drop}
 use mathlib.Core.List.{List, [], ◌∷◌, ◌++◌, map}
 use Rattle.std.specs.Prelude.{Option as Maybe, Some, None, is_some}
 use Rattle.std.proofs.Math.Option.{none}
@@ -13,10 +13,15 @@ use Rattle.readback.specs.Printable.{array_names_in, function_names_in}
 use Rattle.readback.specs.Reader.{took, and_then, expect}
 use Rattle.script_tokens.specs.Reached.{between, Stretch, Reached}
 use Rattle.script_names.specs.declared.Table.{Table}
-use Rattle.script_names.specs.Entries.{entry_from, Empty}
+use Rattle.script_names.specs.Entries.{entry_from, measure_of, Empty}
 use Rattle.script_names.specs.Laws.{tabled_start}
 use Rattle.script_decls.specs.Lines.{name_in, checked, names_to, Ready, StageAt, StageTo}
-use Rattle.script_header.specs.Header.{ends_logic, begins, begun, declared, header_in, logic_for, HeaderAt, NoHeader}
+use Rattle.script_header.specs.Header.{ends_logic, begins, begun, declared, header_in, logic_for, Within, HeaderAt, NoHeader, HeaderNoted}
+use Rattle.script_header.specs.declared.Header.{Header}
+use Rattle.script_decls.specs.Lines.{stage_number}
+use Rattle.script_decls.specs.Told.{LineNoted, NotedFrom}
+use Rattle.script_decls.specs.declared.Stage.{Stage}
+use Rattle.script_decls.specs.declared.Stage.TheVariants.{Variables, Arrays, Functions}
 
 pub ready-start : (s : List ℕ) (t : Table) (first : ℕ) → first ≤ length s → Empty t → Ready s first t 0 first
 unfolding entry_from
@@ -118,3 +123,15 @@ module _ (s : List ℕ) (at : ℕ) where
               names = k.names ∙ ap (λ (ns : List Name). ns ++ function_names_in D) (y.names ∙ ap (λ (ns : List Name). ns ++ array_names_in D) x.names);
               tabled = k.ready.tabled;
             }
+
+-- ---------------------------------------------------------------- what the lines declare
+
+-- the numbers of three kinds of lines, one kind after the other
+pub header-noted : {s : List ℕ} {t₀ t₁ t₂ t₃ : Table} (h : Header) → NotedFrom 0 s h.first 0 t₀ t₁ h.variables → NotedFrom 1 s h.first h.variables t₁ t₂ h.arrays → NotedFrom 2 s h.first h.arrays t₂ t₃ h.names
+    → HeaderNoted s t₃ (Some h)
+header-noted {s} {t₀} {t₁} {t₂} {t₃} h x y z few k S w l = by_stage S w
+  where
+    by_stage : (S : Stage) → Within h k S → LineNoted (stage_number S) s h.first k (measure_of t₃ k)
+    by_stage Variables i = subst (LineNoted 0 s h.first k) (sym (z.before k (omega (arith, i, y.up)) ∙ y.before k i)) (x.noted (omega (arith, y.up, z.up)) k (omega arith) i)
+    by_stage Arrays (i, j) = subst (LineNoted 1 s h.first k) (sym (z.before k j)) (y.noted (omega (arith, z.up)) k i j)
+    by_stage Functions i = z.noted few k i l

@@ -6,7 +6,7 @@ ghost use Rattle.std.specs.Prelude.{◌≡◌, ℕ, Bool, ◌≤◌, length, dro
 ghost use Rattle.lists.specs.Tests.{same};
 ghost use Rattle.script_tokens.specs.Reached.{between};
 ghost use Rattle.script_names.specs.Entries.{Empty};
-ghost use Rattle.script_header.specs.Header.{ends_logic, begun, logic_for, HeaderTo};
+ghost use Rattle.script_header.specs.Header.{ends_logic, begun, logic_for, HeaderTo, HeaderNoted};
 
 use echo_names::same_bytes;
 use script_decls::{Stage, read_lines};
@@ -65,10 +65,11 @@ fn has_begun(s: &[u8], at: usize) -> bool
     literal(s, at, b"(assert ").is_some() || literal(s, at, b"(check-sat)\n").is_some()
 }
 
-// The logic and the declarations from place `at` on; the table has every name.
+// The logic and the declarations from place `at` on; the table has every name, and what each line declares.
 fn read_header(s: &[u8], t: &mut Table, at: usize) -> Option<Header>
     requires { (at ≤ length s.now) × Empty t.old }
-    ensures { HeaderTo s.now at t.new result }
+    ensures header { HeaderTo s.now at t.new result }
+    ensures noted { HeaderNoted s.now t.new result }
 {
     let p = literal(s, at, b"(set-logic ")?;
     let z = stretch_end::<Bracket>(s, p);
@@ -121,17 +122,19 @@ impl<'a> Reader<'a> {
     // The header from the reader's place on, and the place after it. Ruled out: the header read at the start, wherever the reader is.
     pub fn read_header(self, t: &mut Table) -> Option<Header>
         requires { (self.at ≤ length self.src.now) × Empty t.old }
-        ensures { HeaderTo self.entry.src.now self.entry.at t.new result }
+        ensures header { HeaderTo self.entry.src.now self.entry.at t.new result }
+        ensures noted { HeaderNoted self.entry.src.now t.new result }
     {
         read_header(self.src, t, self.at)
     }
 }
 
-// The header of a script; the table has every name. Ruled out: another logic than that of the declarations; a line of a function before one of an
+// The header of a script; the table has every name, and what each line declares. Ruled out: another logic than that of the declarations; a line of a function before one of an
 // array; a name declared in two tables; lines that nothing of a script follows.
 pub fn header_at_start(s: &[u8], t: &mut Table) -> Option<Header>
     requires { Empty t.old }
-    ensures { HeaderTo s.now 0 t.new result }
+    ensures header { HeaderTo s.now 0 t.new result }
+    ensures noted { HeaderNoted s.now t.new result }
 {
     Reader::new(s).read_header(t)
 }

@@ -1,7 +1,10 @@
 -- Constants: found, or entered as the next node. Assumes nothing.
-use Rattle.std.specs.Prelude.{ℕ, ◌+◌, ◌*◌, ◌-◌, ◌≤◌, ◌<◌, ◌≡◌, List, [], ◌∷◌, ◌++◌, Bool, true, false, T, length, take, drop, get_or, set, Option, Some, None, Result, Ok, Err}
+use Rattle.std.specs.Prelude.{ℕ, ◌+◌, ◌*◌, ◌-◌, ◌/◌, ◌%◌, ◌≤◌, ◌<◌, ◌≡◌, List, [], ◌∷◌, ◌++◌, Bool, true, false, T, leb, min, length, take, drop, get_or, set, Option, Some, None, Result, Ok, Err}
 use Rattle.std.proofs.Math.Path.{refl, ap, sym, subst}
-use Rattle.std.proofs.Common.{◌∙◌, inl, inr, arith, length-drop, drop_of_length-le, length-take-le}
+use Rattle.std.proofs.Common.{◌∙◌, inl, inr, arith, leb→le, length-drop, drop_of_length-le, length-take-le}
+use Rattle.std.proofs.lemmas.Bool.{leb-false}
+use Rattle.std.proofs.Math.Nat.{min-eq_left, min-eq_right}
+use lib.Seq.{take_all, take-nil}
 use Rattle.std.proofs.Math.Option as maybe
 use Rattle.std.proofs.Math.Option.{none, some}
 use Rattle.std.proofs.Math.ListN.{get_elem?}
@@ -14,7 +17,8 @@ use Rattle.readback.specs.Records.{record_bytes, holdable}
 use Rattle.readback.specs.Rebuild.{Item, a_constant, find_constant, with_constant, with_constants, Ref, here, pending, node_of, bits_in, record_of}
 use Rattle.rebuilt.specs.Constants.{HasAll, node-of-constant, with-constants-has}
 use Rattle.script_tokens.specs.Reached.{between, ends_digits, Stretch}
-use Rattle.heap_laws.specs.Heap.{within, bits_size, constant_at, past, hash_of, bits_at, pending_in, Held}
+use Rattle.heap_laws.specs.Heap.{within, bits_size, constant_at, past, hash_of, bits_at, bits_spanned, ref_at, pending_in, Held}
+use Rattle.heap_laws.specs.Stacks.{ref-odd, ref-spanned}
 use Rattle.heap_laws.specs.declared.Heap.{Heap}
 use Rattle.heap_laws.specs.declared.OverLimit.{OverLimit}
 use Rattle.heap_laws.specs.Filled.{filled, length-filled, front-filled, part_filled}
@@ -22,7 +26,7 @@ use Rattle.heap_laws.specs.Within.{within-parts, over-nodes, over-bits, over-rec
 use Rattle.heap_laws.specs.Adding.{held-bits}
 use Rattle.heap_laws.specs.Entering.{entered, held-entered}
 use Rattle.heap_laws.specs.Settling.{constant-found, constant-new}
-use Rattle.heap_laws.specs.Candidates.{bits-at-is, length-between}
+use Rattle.heap_laws.specs.Candidates.{bits-at-is}
 use Rattle.heap_laws.specs.Chains.{Sought, sought-next, sought-less, sought-none, sought-found}
 use Rattle.script_heap.specs.Told.{ConstantTold, RefTold, Entered, Half, constant_record, Compared, DigitsTo, found_as}
 
@@ -145,13 +149,6 @@ digits-past script p l =
 pub digits-stretch : {script : List ℕ} {p e : ℕ} → Stretch ends_digits script p e → DigitsTo script p e
 digits-stretch v = record { low = v.low; high = λ k. v.high; read = ap (λ (t : Took (List ℕ)). t.value) v.read }
 
-module _ (script : List ℕ) (p e : ℕ) (d : DigitsTo script p e) where
-  pub digits_are : bits_of (between script p e) ≡ bits_at script p
-  digits_are = sym (bits-at-is script p e d.read)
-
-  pub digits-size : length (bits_of (between script p e)) ≡ e - p
-  digits-size = length-between script p e d.high
-
 -- ---------------------------------------------------------------- operands
 
 module _ {heap : Heap} {s : List Item} (x : Ref) where
@@ -197,15 +194,50 @@ chain-none h bs w = sym (ap found_as (sought-none h bs w))
 pub compared-as : (xs ys : List ℕ) (r q : Bool) → r ≡ q → Compared xs ys r → Compared xs ys q
 compared-as xs ys r q e v = subst (Compared xs ys) e v
 
--- the digits as the bits of a place
-module _ (script : List ℕ) (p e : ℕ) (d : DigitsTo script p e) where
-  pub digits_long : length (bits_at script p) ≡ e - p
-  digits_long = ap length (sym (digits_are script p e d)) ∙ digits-size script p e d
+-- digits between two places, as far as there are any
+spanned-at : (script : List ℕ) (p e f q : ℕ) → p ≤ e → f ≡ min e (length script) → q ≡ min p f → bits_of (between script q f) ≡ bits_of (between script p e)
+spanned-at script p e f q l a b = ap bits_of (by_end (leb e (length script)) refl)
+  where
+    by_end : (t : Bool) → leb e (length script) ≡ t → between script q f ≡ between script p e
+    by_end true h =
+        let c : f ≡ e = a ∙ min-eq_left (leb→le e (length script) (true→T h)) in
+        let d : q ≡ p = b ∙ ap (min p) c ∙ min-eq_left l in
+        λ i. between script (d i) (c i)
+    by_end false h =
+        let k : length script < e = leb-false e (length script) h in
+        let c : f ≡ length script = a ∙ min-eq_right (omega arith) in
+        by-start k c (leb p (length script)) refl
+      where
+        by-start : length script < e → f ≡ length script → (t : Bool) → leb p (length script) ≡ t → between script q f ≡ between script p e
+        by-start k c true g =
+            let m = leb→le p (length script) (true→T g) in
+            let d : q ≡ p = b ∙ min-eq_left (omega arith) in
+            let n = length-drop p script in
+            (λ i. between script (d i) (c i)) ∙ take_all (length script - p) (drop p script) (omega arith) ∙ sym (take_all (e - p) (drop p script) (omega arith))
+        by-start k c false g =
+            let m = leb-false p (length script) g in
+            let d : q ≡ length script = b ∙ ap (min p) c ∙ min-eq_right (omega arith) in
+            let z : length script - length script ≡ 0 = omega arith in
+            (λ i. between script (d i) (c i)) ∙ ap (λ (n : ℕ). take n (drop (length script) script)) z
+            ∙ sym (ap (take (e - p)) (drop_of_length-le script {i = p} (omega arith)) ∙ take-nil (e - p))
 
-  pub digits-filled : (bits bits' : List ℕ) (at : ℕ) → (length bits ≡ bits_size → bits' ≡ filled bits at (bits_of (between script p e))) → length bits ≡ bits_size → bits' ≡ filled bits at (bits_at script p)
-  digits-filled bits bits' at f long = f long ∙ ap (filled bits at) (digits_are script p e d)
+-- the bits of digits that are read from a place on
+spanned-all : (script : List ℕ) (p e : ℕ) → DigitsTo script p e → bits_of (between script p e) ≡ bits_at script p
+spanned-all script p e d = sym (bits-at-is script p e d.read)
 
--- twice the number of a constant's node has 64 bits
+-- an operand that has the place of its digits and how many there are, with the digits that the script has
+pub ref-span : (script : List ℕ) (c f q : ℕ) → c % 2 ≡ 0 → 4611686018427387904 ≤ c / 2
+    → f ≡ min ((c / 2 - 4611686018427387904) % 17592186044416 + (c / 2 - 4611686018427387904) / 17592186044416) (length script) → q ≡ min ((c / 2 - 4611686018427387904) % 17592186044416) f
+    → ref_at script c ≡ pending (bits_of (between script q f))
+unfolding bits_spanned
+ref-span script c f q e l a b =
+    let x : ℕ = c / 2 - 4611686018427387904 in
+    ref-spanned script c e l ∙ ap pending (sym (spanned-at script (x % 17592186044416) (x % 17592186044416 + x / 17592186044416) f q (omega arith) a b))
+
+pub ref-counted : (script : List ℕ) (c e : ℕ) → c % 2 ≡ 1 → DigitsTo script (c / 2) e → ref_at script c ≡ pending (bits_of (between script (c / 2) e))
+ref-counted script c e o d = ref-odd script c o ∙ ap pending (sym (spanned-all script (c / 2) e d))
+
+-- the number of a constant's node is small
 pub half-constant : (heap heap' : Heap) (bs : List ℕ) (s : List Item) (r : Result ℕ OverLimit) → ConstantTold heap heap' bs s r → Half r
 unfolding with_constants
 half-constant heap heap' bs s (Err _) v = tt

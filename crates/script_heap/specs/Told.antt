@@ -1,5 +1,5 @@
 -- What an addition to the nodes answers.
-use Rattle.std.specs.Prelude.{ℕ, ◌+◌, ◌*◌, ◌^◌, ◌≤◌, ◌<◌, ◌≡◌, List, [], ◌∷◌, ◌++◌, Bool, true, false, ◌⊎◌, T, length, take, drop, Option, Some, None, Result, Ok, Err, ⊤}
+use Rattle.std.specs.Prelude.{ℕ, ◌+◌, ◌*◌, ◌≤◌, ◌<◌, ◌≡◌, List, [], ◌∷◌, ◌++◌, Bool, true, false, ◌⊎◌, T, length, take, drop, Option, Some, None, Result, Ok, Err, ⊤}
 use Rattle.std.proofs.Math.Option as maybe
 use Rattle.std.proofs.Math.Option.{none, some}
 use Rattle.std.proofs.Math.ListN.{get_elem?}
@@ -35,10 +35,10 @@ ConstantTold heap heap' bs s r = Told heap heap' heap.top (with_constant bs s) (
 abbrev pub RefTold : Heap → Heap → Ref → List Item → Result ℕ OverLimit → Type 0
 RefTold heap heap' x s r = Told heap heap' heap.top (with_constants (pending_in (x ∷ [])) s) (node_of (with_constants (pending_in (x ∷ [])) s) x) r
 
--- twice the number has 64 bits
+-- it is the number of a node, as an operand
 abbrev pub Half : Result ℕ OverLimit → Type 0
 Half (Err _) = Unit
-Half (Ok m) = 2 * m < 2 ^ 64
+Half (Ok m) = m < 4611686018427387904
 
 -- The record is written and counted; or it is one too many, or cannot be written.
 abbrev pub Recorded : Heap → Heap → Node → Result ℕ OverLimit → Type 0

@@ -39,13 +39,20 @@ use script_tokens::digits_end;
 // The largest number that a record can hold.
 const LARGEST: u64 = u32::MAX as u64;
 
-// Of a long constant only the lowest bits count for its hash, as a number of so many bits.
+// Of a long constant only so many of the lowest bits count for its hash.
 const HASHED_BITS: usize = 48;
-
-const HASH_RANGE: u64 = 1 << HASHED_BITS;
 
 // The hashes that are used: the largest prime up to `HASHES`.
 const HASH_PRIME: u64 = 4093;
+
+// Of an even operand below twice this the half is a node's number; from there on what the half has above it is a constant's: the place of its digits,
+// and so many places times how many digits there are.
+const SPANNED: u64 = 1 << 62;
+
+const PLACES: usize = 1 << 44;
+
+// A constant with as many digits or more, or farther on in the script, is an operand by its place alone.
+const COUNTS: usize = 1 << 18;
 
 // The kinds of nodes that no operator has, as a record numbers them.
 #[derive(Clone, Copy)]
@@ -151,7 +158,7 @@ fn push(heap: &mut Heap, v: u64) -> Result<(), OverLimit>
 // A node waits as an operand, where there is room. Ruled out: one that is put below the last; a number that is taken for a
 // constant's place.
 pub fn push_node(heap: &mut Heap, i: u64) -> Result<(), OverLimit>
-    requires { i < 2 ^ 63 }
+    requires { i < SPANNED }
     ensures same { SameStores heap.old heap.new }
     ensures held { StillHeld heap.old heap.new }
     ensures pushed { (script : List ℕ) → Waits script heap.old heap.new (here i) result }
@@ -159,14 +166,25 @@ pub fn push_node(heap: &mut Heap, i: u64) -> Result<(), OverLimit>
     push(heap, 2 * i)
 }
 
-// A constant, by the place of its digits. Ruled out: the place taken for a node's number; the digits one place on.
-pub fn push_constant(s: &[u8], heap: &mut Heap, p: usize) -> Result<(), OverLimit>
-    requires { p ≤ length s.now }
+// A constant as an operand: by the place of its digits and how many there are, as far as one number holds both, so that they are not counted again.
+fn constant_operand(s: &[u8], p: usize, w: usize) -> u64
+    requires { (p ≤ length s.now) × (bits_of (between s.now p (p + w)) ≡ bits_at s.now p) }
+    ensures { ref_at s.now result ≡ pending (bits_at s.now p) }
+{
+    if p < PLACES && w < COUNTS {
+        return 2 * (SPANNED + (p + PLACES * w) as u64);
+    }
+    2 * (p as u64) + 1
+}
+
+// A constant, by the place of its digits and their number. Ruled out: the place taken for a node's number; the digits one place on.
+pub fn push_constant(s: &[u8], heap: &mut Heap, p: usize, w: usize) -> Result<(), OverLimit>
+    requires { (p ≤ length s.now) × (bits_of (between s.now p (p + w)) ≡ bits_at s.now p) }
     ensures same { SameStores heap.old heap.new }
     ensures held { StillHeld heap.old heap.new }
     ensures pushed { Waits s.now heap.old heap.new (pending (bits_at s.now p)) result }
 {
-    push(heap, 2 * (p as u64) + 1)
+    push(heap, constant_operand(s, p, w))
 }
 
 // The node that waits at place i. Ruled out: the one above it; twice its number.
@@ -269,15 +287,14 @@ pub fn add_select(heap: &mut Heap, base: usize, stores: usize, array: u64) -> Re
 
 // ---------------------------------------------------------------- constants, found by hash
 
-// The number of the bits, as far as 48 bits hold it.
+// The number of the bits, as far as 64 bits hold it.
 fn hash_bits(bits: &[u8]) -> u64
-    ensures value { result ≡ hash_from 0 bits.now }
-    ensures small { result < HASH_RANGE }
+    ensures { result ≡ hash_from 0 bits.now }
 {
     let mut h: u64 = 0;
-    // Kept: a loop in place of `fold`, whose closure would not know that the sum stays small.
+    // Kept: a loop in place of `fold`, since its law tells the hash of the bits that are left.
     for b in bits {
-        h = (h * 2 + u64::from(*b)) % HASH_RANGE;
+        h = h.wrapping_mul(2).wrapping_add(u64::from(*b));
     }
     h
 }
@@ -287,7 +304,7 @@ fn hash_at(bits: &[u8]) -> usize
     ensures { result ≡ hash_of bits.now }
 {
     let lowest = &bits[..bits.len().min(HASHED_BITS)];
-    ((hash_bits(lowest) + bits.len() as u64) % HASH_PRIME) as usize
+    ((hash_bits(lowest) % HASH_PRIME + bits.len() as u64) % HASH_PRIME) as usize
 }
 
 // Is node k, a constant, that of these bits?
@@ -382,7 +399,8 @@ fn digits_to(s: &[u8], p: usize) -> usize
 
 // The bits of the digits between two places, stored from place `at` on, the lowest first.
 fn digits_in(s: &[u8], bits: &mut [u8], at: usize, p: usize, e: usize)
-    requires digits { DigitsTo s.now p e }
+    requires low { p ≤ e }
+    requires inside { p < e → e ≤ length s.now }
     requires room { at + (e - p) ≤ length bits.old }
     ensures { bits.new ≡ filled bits.old at (bits_of (between s.now p e)) }
 {
@@ -391,7 +409,7 @@ fn digits_in(s: &[u8], bits: &mut [u8], at: usize, p: usize, e: usize)
     // is about both.
     for i in 0..n {
         let k = n - 1 - i;
-        bits[at + i] = s[p + k] - b'0';
+        bits[at + i] = s[p + k].saturating_sub(b'0');
     }
 }
 
@@ -407,12 +425,13 @@ fn number_in(bits: &mut [u8], at: usize, value: u64, w: usize)
     }
 }
 
-// The constant whose digits begin at place p has its node.
-fn settle_digits(s: &[u8], heap: &mut Heap, p: usize) -> Result<u64, OverLimit>
-    requires { Holds heap.old }
-    ensures { (t : List Item) → Held heap.old t → ConstantTold heap.old heap.new (bits_at s.now p) t result }
+// The constant of the digits between two places has its node.
+fn settle_digits(s: &[u8], heap: &mut Heap, p: usize, e: usize) -> Result<u64, OverLimit>
+    requires holds { Holds heap.old }
+    requires low { p ≤ e }
+    requires inside { p < e → e ≤ length s.now }
+    ensures { (t : List Item) → Held heap.old t → ConstantTold heap.old heap.new (bits_of (between s.now p e)) t result }
 {
-    let e = digits_to(s, p);
     let w = e - p;
     if w > MAX_BITS {
         return Err(OverLimit);
@@ -442,10 +461,19 @@ fn settle_one(s: &[u8], heap: &mut Heap, c: u64) -> Result<u64, OverLimit>
     ensures told { (t : List Item) → Held heap.old t → RefTold heap.old heap.new (ref_at s.now c) t result }
     ensures half { Half result }
 {
-    if c % 2 == 0 {
-        return Ok(c / 2);
+    let half = c / 2;
+    if c % 2 == 1 {
+        let p = half as usize;
+        let e = digits_to(s, p);
+        return settle_digits(s, heap, p, e);
     }
-    settle_digits(s, heap, (c / 2) as usize)
+    if half < SPANNED {
+        return Ok(half);
+    }
+    let x = (half - SPANNED) as usize;
+    let p = x % PLACES;
+    let e = (p + x / PLACES).min(s.len());
+    settle_digits(s, heap, p.min(e), e)
 }
 
 // Every operand from place `base` on has its node, in order. Ruled out: a constant that is used twice placed twice; one past the last

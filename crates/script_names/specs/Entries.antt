@@ -106,6 +106,11 @@ pub record Empty (t : Table) : Type 0 where
   pub long : Long t
   pub zeros : (h : ℕ) → h < 4096 → last_of t h ≡ 0
 
+-- The numbers of line k are noted in the table t', where it has room for them; those of other lines are as they were in t.
+pub record Noted (t t' : Table) (k : ℕ) (m : Measure) : Type 0 where
+  pub own : k < 1536 → measure_of t' k ≡ m
+  pub others : (j : ℕ) → (j ≡ k → ⊥) → measure_of t' j ≡ measure_of t j
+
 -- The table of the first `count` lines from place `first` on. Past 1,536 lines nothing is asked of it: the lines themselves are looked at.
 pub record Tabled (s : List ℕ) (first : ℕ) (t : Table) (count : ℕ) : Type 0 where
   pub long : Long t

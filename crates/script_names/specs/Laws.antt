@@ -1,7 +1,7 @@
 -- Laws of the names between bars, and of their hashes.
-use Rattle.std.specs.Prelude.{ℕ, zero, suc, ◌+◌, ◌*◌, ◌-◌, ◌%◌, ◌≤◌, ◌<◌, ◌≡◌, refl, List, [], ◌∷◌, ◌++◌, Bool, true, false, T, eqb, leb, ltb, length, take, drop, get_or, set, Some, None, unwrap_or}
+use Rattle.std.specs.Prelude.{ℕ, zero, suc, ◌+◌, ◌*◌, ◌-◌, ◌%◌, ◌≤◌, ◌<◌, ◌≡◌, refl, List, [], ◌∷◌, ◌++◌, Bool, true, false, T, eqb, leb, ltb, length, take, drop, get_or, Some, None, unwrap_or}
 use Rattle.std.specs.Prelude.{Option as Maybe}
-use Rattle.std.proofs.Common.{drop_of_length-le, ap, sym, ◌∙◌, subst, append_assoc, arith, eqb→eq, ltb→lt, nltb→le, le-leb, length-drop, length-set, get_or-set_same, get_or-set_other, take-append-drop, drop-cons, length-take-le}
+use Rattle.std.proofs.Common.{drop_of_length-le, ap, sym, ◌∙◌, subst, append_assoc, arith, eqb→eq, ltb→lt, nltb→le, le-leb, length-drop, take-append-drop, drop-cons, length-take-le}
 use Rattle.std.proofs.Math.Option.{Option, none}
 use Rattle.std.proofs.lemmas.Bool.{eqb-false, lt-leb}
 use Rattle.std.proofs.Math.Seq.{drop-length}
@@ -11,11 +11,10 @@ use Rattle.reading.specs.Trees.{Name}
 use Rattle.readback.specs.Reader.{Took, took, and_then, expect, up_to, name_read}
 use Rattle.reader_laws.specs.TermsStrict.{impossible, took-both, name-strict}
 use Rattle.script_tokens.specs.Reached.{between, NameTo, ends_name}
-use Rattle.script_names.specs.declared.Line.{Line}
 use Rattle.script_names.specs.declared.Measure.{Measure}
 use Rattle.script_names.specs.declared.Table.{Table}
 use Rattle.script_names.specs.Chains.{entered, entered-long, chains-more}
-use Rattle.script_names.specs.Entries.{after_bar, entry_from, name_here, name_at, Named, Closed, hash_from, hash_of, hash_at, no_line, link_of, place_of, before_of, last_of, measure_of, Chains, Sought, Empty, Tabled}
+use Rattle.script_names.specs.Entries.{after_bar, entry_from, name_here, name_at, Named, Closed, hash_from, hash_of, hash_at, link_of, place_of, before_of, last_of, Chains, Sought, Empty, Tabled}
 
 -- ---------------------------------------------------------------- a name and its bar
 
@@ -241,16 +240,16 @@ entered-closed s a f y h e = record {
   read = ap name_read (sym e) ∙ h.read ∙ ap (λ (m : Name). took m (drop f s)) (sym (entered-name s a f y h e));
 }
 
-pub tabled-more : (s : List ℕ) (first : ℕ) (t : Table) (count a f h : ℕ) → Tabled s first t count → Named s a f → drop a s ≡ entry_from count (drop first s)
-    → count < 1536 → h ≡ hash_of (between s a (f - 1)) → Tabled s first (entered t count a h) (count + 1)
-tabled-more s first t count a f h x n e room q =
+pub tabled-more : (s : List ℕ) (first : ℕ) (t : Table) (count a f h : ℕ) (m : Measure) → Tabled s first t count → Named s a f → drop a s ≡ entry_from count (drop first s)
+    → count < 1536 → h ≡ hash_of (between s a (f - 1)) → Tabled s first (entered t count a h m) (count + 1)
+tabled-more s first t count a f h m x n e room q =
     let y : List ℕ = entry_from count (drop first s) in
     let g : h ≡ hash_at (drop first s) count = q ∙ ap hash_of (sym (entered-name s a f y n e)) in
     record {
-      long = entered-long t count a h x.long;
+      long = entered-long t count a h m x.long;
       closed = all_more (λ k. Closed (entry_from k (drop first s))) count x.closed (entered-closed s a f y n e);
-      chains = λ m. subst (λ (i : ℕ). Chains s (drop first s) (entered t count a i) (count + 1)) (sym g)
-          (chains-more s (drop first s) t count a room x.long (x.chains (omega arith)) (omega (arith, n.low, n.high)) e);
+      chains = λ l. subst (λ (i : ℕ). Chains s (drop first s) (entered t count a i m) (count + 1)) (sym g)
+          (chains-more s (drop first s) t count a m room x.long (x.chains (omega arith)) (omega (arith, n.low, n.high)) e);
     }
 
 -- past the table's room
@@ -276,48 +275,3 @@ tabled_start s first t z = record {
     next_own = λ k q. absurd (omega arith);
   };
 }
-
--- ---------------------------------------------------------------- the numbers of lines
-
--- the numbers of line k written
-abbrev pub noted : Table → ℕ → Measure → Table
-noted t k x = record t { lines = set t.lines k (record (get_or t.lines k no_line) { measure = x }) }
-
-module _ (t : Table) (k : ℕ) (x : Measure) (inside : k < length t.lines) where
-  -- what a line has beside them is as before
-  aside : {A : Type 0} (g : Line → A) → ((y : Line) → g (record y { measure = x }) ≡ g y) → (j : ℕ) → g (get_or (noted t k x).lines j no_line) ≡ g (get_or t.lines j no_line)
-  aside g f j = by_line (eqb j k) refl
-    where
-      by_line : (b : Bool) → eqb j k ≡ b → g (get_or (noted t k x).lines j no_line) ≡ g (get_or t.lines j no_line)
-      by_line true e = let z : j ≡ k = eqb→eq j k (true→T e) in rw z (ap g (get_or-set_same t.lines k _ no_line inside) ∙ f (get_or t.lines k no_line))
-      by_line false e = ap g (get_or-set_other t.lines k j _ no_line (eqb-false j k e))
-
-  place-kept : (j : ℕ) → place_of (noted t k x) j ≡ place_of t j
-  place-kept = aside (λ (y : Line). y.place) (λ y. refl)
-
-  before-kept : (j : ℕ) → before_of (noted t k x) j ≡ before_of t j
-  before-kept = aside (λ (y : Line). link_of y.before) (λ y. refl)
-
-  -- what is written there leaves the chains as they are
-  chains-kept : (s b : List ℕ) (count : ℕ) → Chains s b t count → Chains s b (noted t k x) count
-  chains-kept s b count c = record {
-    place = λ j l. rw (place-kept j) (c.place j l);
-    entry = λ j l. rw (place-kept j) (c.entry j l);
-    head_all = c.head_all;
-    head-own = c.head-own;
-    next_all = λ j l i m q. rw (before-kept j) (c.next_all j l i m q);
-    next_own = λ j l i q. c.next_own j l i (sym (before-kept j) ∙ q);
-  }
-
-  pub tabled-kept : {s : List ℕ} {first count : ℕ} → Tabled s first t count → Tabled s first (noted t k x) count
-  tabled-kept {s} {first} {count} y = record {
-    long = record { lines = length-set t.lines k _ ∙ y.long.lines; last = y.long.last };
-    closed = y.closed;
-    chains = λ m. chains-kept s (drop first s) count (y.chains m);
-  }
-
-  pub measure-own : measure_of (noted t k x) k ≡ x
-  measure-own = ap (λ (y : Line). y.measure) (get_or-set_same t.lines k _ no_line inside)
-
-  pub measure-other : (j : ℕ) → (j ≡ k → ⊥) → measure_of (noted t k x) j ≡ measure_of t j
-  measure-other j f = ap (λ (y : Line). y.measure) (get_or-set_other t.lines k j _ no_line f)

@@ -8,7 +8,7 @@
 ghost use Rattle.std.specs.Prelude.{◌≡◌, ◌+◌, ◌-◌, ◌≤◌, ◌<◌, length, take, drop};
 ghost use Rattle.lists.specs.Tests.{same};
 ghost use Rattle.script_tokens.specs.Reached.{between};
-ghost use Rattle.script_names.specs.Entries.{after_bar, entry_from, hash_of, hash_from, AllClosed, Named, Sought, Empty, Tabled};
+ghost use Rattle.script_names.specs.Entries.{after_bar, entry_from, hash_of, hash_from, AllClosed, Named, Sought, Empty, Tabled, Noted};
 
 use script_tokens::name_end;
 
@@ -136,6 +136,7 @@ fn scanned(s: &[u8], lines: Declared, a: usize, f: usize) -> Option<Found>
 }
 
 // The lines with the hash of the name, the last first.
+#[inline(always)]
 fn chained(s: &[u8], t: &Table, lines: Declared, a: usize, f: usize) -> Option<Found>
     requires { (lines.count ≤ LINES) × Named s.now a f × Tabled s.now lines.first t.now lines.count }
     ensures { Sought s.now lines.first lines.count (between s.now a (f - 1)) result }
@@ -155,6 +156,7 @@ fn chained(s: &[u8], t: &Table, lines: Declared, a: usize, f: usize) -> Option<F
 
 // The line that declares the name from place a on, up to and with its bar before place f. Ruled out: a line whose name begins with this
 // one; one that has the same hash and another name; none where a line past the table has it.
+#[inline(always)]
 pub fn find_line(s: &[u8], t: &Table, lines: Declared, a: usize, f: usize) -> Option<Found>
     requires { (lines.first ≤ length s.now) × Named s.now a f × Tabled s.now lines.first t.now lines.count }
     ensures { Sought s.now lines.first lines.count (between s.now a (f - 1)) result }
@@ -166,18 +168,19 @@ pub fn find_line(s: &[u8], t: &Table, lines: Declared, a: usize, f: usize) -> Op
     }
 }
 
-// The next line, with its name from place a on, is entered into the table. Ruled out: a line that the one before it in the chain is
-// forgotten by; a place one off.
-pub fn enter(s: &[u8], t: &mut Table, lines: Declared, a: usize, f: usize)
+// The next line, with its name from place a on and the numbers of what it declares, is entered into the table. Ruled out: a line that the one
+// before it in the chain is forgotten by; a place one off; the second number put where the first stands.
+pub fn enter(s: &[u8], t: &mut Table, lines: Declared, a: usize, f: usize, measure: Measure)
     requires { Named s.now a f × Tabled s.now lines.first t.old lines.count × (drop a s.now ≡ entry_from lines.count (drop lines.first s.now)) }
-    ensures { Tabled s.now lines.first t.new (lines.count + 1) }
+    ensures tabled { Tabled s.now lines.first t.new (lines.count + 1) }
+    ensures noted { Noted t.old t.new lines.count measure }
 {
     if lines.count < LINES {
         let h = hash_of(&s[a..f - 1]);
         t.lines[lines.count] = Line {
             place: a,
             before: t.last[h],
-            measure: UNREAD,
+            measure,
         };
         t.last[h] = Some(lines.count as u16);
     }

@@ -11,6 +11,8 @@ use Rattle.readback.specs.Reader.{Took, took}
 use Rattle.reader_laws.specs.TermsStrict.{impossible, took-both}
 use Rattle.sort_reader.specs.Sorted.{sorted}
 use Rattle.sort_reader.specs.Selects.{raised, raised_by}
+use Rattle.smtlib.specs.Readings.{bits_of}
+use Rattle.script_tokens.specs.Reached.{between}
 use Rattle.heap_laws.specs.Heap.{Held}
 use Rattle.heap_laws.specs.declared.Heap.{Heap}
 use Rattle.heap_laws.specs.declared.OverLimit.{OverLimit}
@@ -165,6 +167,7 @@ module _ {s : List ℕ} {t : Table} {h : Header} {heap : Heap} {at levels : ℕ}
       let d = constant-digits s D at (suc q.steps) _ (drop e s) (x.read q.steps) in
       let l = x.low in
       let k = x.high in
+      let counted : at + 2 + (e - (at + 2)) ≡ e = omega arith in
       let p : put D q.tree g.items ≡ record { items = g.items; ref = pending _ } = ap (λ (u : Tree). put D u g.items) (sym is) in (
         record {
           low = omega arith;
@@ -175,7 +178,7 @@ module _ {s : List ℕ} {t : Table} {h : Header} {heap : Heap} {at levels : ℕ}
           held = subst (λ (y : Put). Held heap y.items) (sym p) g.held;
           stacked = g.stacked;
         },
-        omega arith,
+        (omega arith, ap (λ (j : ℕ). bits_of (between s (at + 2) j)) counted ∙ sym d),
       )
 
   variable-placed : (k w e : ℕ) → VariableAt s D at k w e → PlacedAs q g heap (Ok (record { operand = Node k; width = w; end = e }))

@@ -5,6 +5,8 @@ use Rattle.reading.specs.Trees.{Tree, none as noTrees, Declarations}
 use Rattle.echo_spec.specs.TreeSorts.{TreeSort, width_of, tree_sort}
 use Rattle.readback.specs.Rebuild.{Item, Ref, here, pending, Put, put}
 use Rattle.readback.specs.Reader.{took, read_term}
+use Rattle.smtlib.specs.Readings.{bits_of}
+use Rattle.script_tokens.specs.Reached.{between}
 use Rattle.heap_laws.specs.Heap.{stack_size, bits_at, Held, Stacked}
 use Rattle.heap_laws.specs.declared.Heap.{Heap}
 use Rattle.heap_laws.specs.declared.OverLimit.{OverLimit}
@@ -70,10 +72,10 @@ abbrev pub ref_of : List ℕ → Operand → Ref
 ref_of s (Node i) = here i
 ref_of s (Digits q) = pending (bits_at s q)
 
--- it can wait
-abbrev pub Pushable : List ℕ → Operand → Type 0
-Pushable s (Node i) = i ≤ 2048
-Pushable s (Digits q) = q ≤ length s
+-- it can wait, of width w
+abbrev pub Pushable : List ℕ → ℕ → Operand → Type 0
+Pushable s w (Node i) = i ≤ 2048
+Pushable s w (Digits q) = (q ≤ length s) × (bits_of (between s q (q + w)) ≡ bits_at s q)
 
 -- the sort of a term that is placed, whatever was there before
 abbrev pub SortIs : List ℕ → Declarations → ℕ → Result Placed Unread → Type 0
@@ -85,7 +87,7 @@ SortIs s D at (Ok p) = SortAt s D at (Some (record { sort = p.width; end = p.end
 abbrev pub PlacedTo : (s : List ℕ) (heap : Heap) (at : ℕ) (rest : List ℕ) (width : ℕ) (p : Put) (refs : List Ref) (levels side : ℕ) → Result Placed Unread → Type 0
 PlacedTo s heap at rest width p refs levels side (Err NoScript) = ⊥
 PlacedTo s heap at rest width p refs levels side (Err Limit) = Room levels side p.items → ⊥
-PlacedTo s heap at rest width p refs levels side (Ok z) = After s heap at rest width p refs (ref_of s z.operand) z.width z.end × Pushable s z.operand
+PlacedTo s heap at rest width p refs levels side (Ok z) = After s heap at rest width p refs (ref_of s z.operand) z.width z.end × Pushable s z.width z.operand
 
 abbrev pub PlacedAs : {s : List ℕ} {t : Table} {h : Header} {heap : Heap} {at levels : ℕ} (q : Term s t h at) (g : State q.declarations s heap levels) (heap' : Heap) → Result Placed Unread → Type 0
 PlacedAs {s} {t} {h} {heap} {at} {levels} q g heap' r =

@@ -92,7 +92,7 @@ pub record Ready (s : List ℕ) (t : Table) (h : Header) (heap : Heap) (levels :
   pub many : length sorts ≤ length state.refs
 
 module _ {s : List ℕ} {t : Table} {h : Header} {heap heap₁ : Heap} {levels p : ℕ} {v : Seen} (r : Ready s t h heap levels v) where
-  pub ready-pushable : (z : Placed) → PlacedAt s t h heap p (levels + 1) heap₁ (Ok z) → Pushable s z.operand
+  pub ready-pushable : (z : Placed) → PlacedAt s t h heap p (levels + 1) heap₁ (Ok z) → Pushable s z.width z.operand
   ready-pushable z x = (x.placed (term_told z.width z.end r.known (x.sorted r.declarations r.known)) r.state).1
 
   ready-next : (z : Placed) (heap₂ : Heap) (u : ⊤) (v' : Seen) → PlacedAt s t h heap p (levels + 1) heap₁ (Ok z) → MoreTo s heap₁ heap₂ z.operand (Ok u) → OneMore v z.width v' → Ready s t h heap₂ levels v'

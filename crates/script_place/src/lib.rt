@@ -99,13 +99,13 @@ fn begin(x: Head, at: usize) -> Begun
 
 // The operand waits for the term around it to end. Kept: beside the two functions of script_heap, since a call on zeros (place_script) has nodes
 // alone, and no script to take a constant from.
-fn pushed(s: &[u8], heap: &mut Heap, x: Operand) -> Result<(), OverLimit>
-    requires { Pushable s.now x }
-    ensures { MoreTo s.now heap.old heap.new x result }
+fn pushed(s: &[u8], heap: &mut Heap, x: &Placed) -> Result<(), OverLimit>
+    requires { Pushable s.now x.now.width x.now.operand }
+    ensures { MoreTo s.now heap.old heap.new x.now.operand result }
 {
-    match x {
+    match x.operand {
         Operand::Node(i) => push_node(heap, i),
-        Operand::Constant(p) => push_constant(s, heap, p),
+        Operand::Constant(p) => push_constant(s, heap, p, x.width as usize),
     }
 }
 
@@ -225,7 +225,7 @@ fn place_term(script: &Script, heap: &mut Heap, at: usize, levels: usize) -> Res
             // Kept: a term tells by its state whether an operand follows.
             while more(script.text, &mut e, &mut w) {
                 let z = place(script, heap, e, levels + 1)?;
-                pushed(script.text, heap, z.operand)?;
+                pushed(script.text, heap, &z)?;
                 v = v.one_more(z.width);
                 e = z.end;
                 step(script.text, &mut w, z.width);

@@ -23,6 +23,9 @@ pub struct Number {
 // So many bytes are looked at together.
 const BLOCK: usize = 16;
 
+// So many of a long stretch.
+const LONG_BLOCK: usize = 64;
+
 // The byte at a place, and 0, which no script has, past the end. Ruled out: the last byte past the end; the byte after the place.
 pub fn byte_at(s: &[u8], at: usize) -> u8
     ensures { result ≡ get_or s.now at 0 }
@@ -91,14 +94,14 @@ impl Ending for WordEnd {
     }
 }
 
-// Does none of the bytes of the block from place e on end a stretch?
-fn none_ends<E: Ending>(s: &[u8], e: usize) -> bool
-    requires { e + BLOCK ≤ length s.now }
-    ensures { result ≡ true → Runs E.ends s.now e (e + BLOCK) }
+// Does none of the N bytes from place e on end a stretch?
+fn none_ends<E: Ending, const N: usize>(s: &[u8], e: usize) -> bool
+    requires { e + N ≤ length s.now }
+    ensures { result ≡ true → Runs E.ends s.now e (e + N) }
 {
     let mut ok = true;
-    // Kept: `any` would leave the loop midway, and one that looks at all sixteen is done at once.
-    for c in &s[e..e + BLOCK] {
+    // Kept: `any` would leave the loop midway, and one that looks at all of them is done at once.
+    for c in &s[e..e + N] {
         if E::ends(*c) {
             ok = false;
         }
@@ -120,20 +123,31 @@ fn end_from<E: Ending>(s: &[u8], at: usize, from: usize) -> usize
     s.len()
 }
 
-// The same, a block at a time.
+// The place after as many blocks of N bytes as end no stretch.
+#[inline(always)]
+fn past_blocks<E: Ending, const N: usize>(s: &[u8], at: usize, from: usize) -> usize
+    requires { (0 < N) × Within E.ends s.now at from }
+    ensures { Within E.ends s.now at result }
+{
+    let mut e = from;
+    // Kept: an iterator over parts of N would have to be asked for the place where it stopped.
+    while s.len() - e >= N {
+        if !none_ends::<E, N>(s, e) {
+            return e;
+        }
+        e += N;
+    }
+    e
+}
+
+// The first byte that ends the stretch, or the end; long blocks first, then shorter ones, then byte by byte.
 fn far_end<E: Ending>(s: &[u8], at: usize, from: usize) -> usize
     requires { Within E.ends s.now at from }
     ensures { Stretch E.ends s.now at result }
 {
-    let mut e = from;
-    // Kept: an iterator over parts of sixteen would have to be asked for the place where it stopped.
-    while s.len() - e >= BLOCK {
-        if !none_ends::<E>(s, e) {
-            return end_from::<E>(s, at, e);
-        }
-        e += BLOCK;
-    }
-    end_from::<E>(s, at, e)
+    let long = past_blocks::<E, LONG_BLOCK>(s, at, from);
+    let near = past_blocks::<E, BLOCK>(s, at, long);
+    end_from::<E>(s, at, near)
 }
 
 // The place of the first byte from here on that ends the stretch, or the end. Ruled out: the place after that byte; a place before it.

@@ -20,4 +20,4 @@ pub returns-in-Some : goal.returns-in-Some
 returns-in-Some c = (name-before (names_to (drop c.args.lines.first c.args.s.now) c.args.lines.count) (between c.args.s.now c.args.a (c.args.f - 1)) c.bytes_ok.ensures c.if-not-bytes_ok.false c.first_ok.ensures c.if-not-first_ok.false c.is_reserved.ensures c.if-is_reserved.false true (found_before c.args.s.now c.args.lines.first c.args.lines.count (between c.args.s.now c.args.a (c.args.f - 1)) c.in-Some.ensures), no_way)
 
 pub returns-in-None : goal.returns-in-None
-returns-in-None c = (name-before (names_to (drop c.args.lines.first c.args.s.now) c.args.lines.count) (between c.args.s.now c.args.a (c.args.f - 1)) c.bytes_ok.ensures c.if-not-bytes_ok.false c.first_ok.ensures c.if-not-first_ok.false c.is_reserved.ensures c.if-is_reserved.false false (not-before c.args.s.now c.args.lines.first c.args.lines.count (between c.args.s.now c.args.a (c.args.f - 1)) c.in-None.ensures), λ e. c.enter.ensures)
+returns-in-None c = (name-before (names_to (drop c.args.lines.first c.args.s.now) c.args.lines.count) (between c.args.s.now c.args.a (c.args.f - 1)) c.bytes_ok.ensures c.if-not-bytes_ok.false c.first_ok.ensures c.if-not-first_ok.false c.is_reserved.ensures c.if-is_reserved.false false (not-before c.args.s.now c.args.lines.first c.args.lines.count (between c.args.s.now c.args.a (c.args.f - 1)) c.in-None.ensures), λ e. (c.enter.ensures.tabled, c.enter.ensures.noted))

@@ -6,4 +6,4 @@ use Rattle.script_heap.specs.Told.{Pushed}
 use Rattle.script_heap.proofs.push_node.Goals as goal
 
 pub returns-clause-pushed : goal.returns-clause-pushed
-returns-clause-pushed c = λ script records bits s refs h w. subst (λ (x : Ref). Pushed script c.push.new.heap refs x c.push.result) (ref-node script c.args.i) (c.push.ensures.pushed script records bits s refs h w)
+returns-clause-pushed c = λ script records bits s refs h w. subst (λ (x : Ref). Pushed script c.push.new.heap refs x c.push.result) (ref-node script c.args.i c.requires) (c.push.ensures.pushed script records bits s refs h w)

@@ -25,7 +25,7 @@ loop-i-preserved c =
     (let g = c.loop-i.invariant t refs h w in
     let l : c.loop-i.i < length refs = omega (arith, w.top) in
     let q = c.in_ok-m.ensures.told _ g.held in
-    going_more c.args.s.now g l (ref_at c.args.s.now (get_or c.loop-i.heap.stack c.loop-i.i 0)) c.in_ok-m.m (going-ref c.args.s.now g l) q.0 q.1 q.2 q.3)
+    going_more c.args.s.now g l (ref_at c.args.s.now (get_or c.loop-i.heap.stack c.loop-i.i 0)) c.in_ok-m.m (going-ref c.args.s.now g l) q.0 q.1 q.2 q.3 c.in_ok-m.ensures.half)
 
 pub returns : goal.returns
 returns c = λ t refs h w. going-all c.args.s.now (c.loop-i.invariant t refs h w) (omega (arith, c.loop-i-test.false, w.top))

@@ -9,8 +9,8 @@ pub loop-c-preserved : goal.loop-c-preserved
 loop-c-preserved g c = λ q.
     let e = c.args.e in
     let part = drop e c.args.s.now in
-    let n = length-take-le (e + 16 - e) part (omega (arith, c.requires, length-drop e c.args.s.now)) in
-    let z = get_or-take (e + 16 - e) part c.loop-c.c-index 0 (omega (arith, n, c.loop-c-test.true)) ∙ get_or-drop e c.args.s.now c.loop-c.c-index 0 in
+    let n = length-take-le (e + g.row.N - e) part (omega (arith, c.requires, length-drop e c.args.s.now)) in
+    let z = get_or-take (e + g.row.N - e) part c.loop-c.c-index 0 (omega (arith, n, c.loop-c-test.true)) ∙ get_or-drop e c.args.s.now c.loop-c.c-index 0 in
     runs-at {e = e + c.loop-c.c-index + 1}
     (elim c.if-ends.branch [
       | then-ends w ↦ absurd (true≢false (sym q ∙ w.ok-is))
@@ -21,5 +21,5 @@ loop-c-preserved g c = λ q.
 pub returns : goal.returns
 returns g c = λ q.
     let e = c.args.e in
-    let n = length-take-le (e + 16 - e) (drop e c.args.s.now) (omega (arith, c.requires, length-drop e c.args.s.now)) in
+    let n = length-take-le (e + g.row.N - e) (drop e c.args.s.now) (omega (arith, c.requires, length-drop e c.args.s.now)) in
     runs-at (c.loop-c.invariant q) (omega (arith, n, c.loop-c.auto.c-index-end, c.loop-c-test.false))
