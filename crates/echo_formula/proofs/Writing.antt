@@ -6,22 +6,28 @@ use mathlib.Core.Bool.{Bool, true, false}
 use mathlib.Core.List.{List, [], ◌∷◌, ◌++◌, append-nil}
 use native.Mathlib.Omega.{arith}
 use borrow.Author.Tests.{lt-ltb, le-ltb}
-use lib.Dec.{T, ltb, ltb→lt}
+use lib.Dec.{T, ltb, eqb, ltb→lt, eqb→eq}
 use lib.ListN.{length, get_or, drop, length-drop}
 use lib.Seq.{drop-length}
 use Rattle.lists.specs.Bytes.{bytes}
-use Rattle.lists.specs.Tests.{every_from, every-at, true→T}
+use Rattle.lists.specs.Tests.{every_from, every-at, true→T, T→true}
 use Rattle.reading.specs.Trees.{Tree}
-use Rattle.echo_spec.specs.Shapes.{Shape, var, const, binary, concat, comparison, connective, shapes, shape_of, is_leaf}
+use Rattle.echo_spec.specs.Shapes.{Shape, var, const, binary, rotation, extraction, concat, extension, comparison, negation, connective, unary, select, call, shapes, shape_of, is_leaf}
 use Rattle.echo_spec.specs.Input.{Node, shape, nodes_of, Dag, dag_of}
 use Rattle.echo_spec.specs.Trees.{tree_as, tree_step, tree_of}
 use Rattle.echo_spec.specs.Walk.{Operand}
+use Rattle.std.proofs.Common.{◌⊎◌, inl, inr}
+use Rattle.blast_kernel.specs.Kinds.{shape_in}
+use Rattle.blast_kernel.specs.declared.Extension as extensions
+use Rattle.blast_kernel.specs.declared.Rotation as rotations
+use Rattle.blast_kernel.specs.declared.Shape as code
+use Rattle.blast_kernel.specs.declared.Shape.TheVariants as codes
 use Rattle.echo_bytes.specs.declared.Place.{Place}
 use Rattle.echo_bytes.specs.Page.{Page, page, written}
-use Rattle.echo_bytes.specs.Laws.{written-nil, written_then}
+use Rattle.echo_bytes.specs.Laws.{written-nil, written_then, need-written}
 use Rattle.echo_tables.specs.declared.Form.{Form}
 use Rattle.echo_tables.specs.declared.Form.TheVariants.{Leaf, One, Two, Choice, Chain, Arguments}
-use Rattle.echo_tables.specs.Forms.{form_as, form_operands}
+use Rattle.echo_tables.specs.Forms.{form_as, form_operands, call-some}
 use Rattle.echo_tables.specs.Uses.{FormInside}
 use Rattle.echo_tables.specs.Refused.{Each, form-passes}
 use Rattle.echo_walk.specs.Operands.{Entries, OverForm, over-form}
@@ -32,12 +38,12 @@ use Rattle.formula_text.specs.Notation.{notations, level, placed, formula}
 use Rattle.echo_pieces.specs.Signs.{sign_of, level_of}
 use Rattle.echo_pieces.specs.declared.Behind.TheVariants.{Comma, Close, CloseComma}
 use Rattle.echo_pieces.specs.declared.Piece.{Piece}
-use Rattle.echo_pieces.specs.Pieces.{piece, behind_text, two_pieces, store_pieces, chain_pieces, arg_pieces, pieces_of, count_of, pieces_text}
+use Rattle.echo_pieces.specs.Pieces.{piece, behind_text, one_pieces, two_pieces, store_pieces, chain_pieces, arg_pieces, pieces_of, count_of, pieces_text}
 use Rattle.echo_pieces.specs.PieceLaws.{no_piece, pieces-count, arg-more, arg-last, Wanted, pieces-each, each_at, text-step}
 use Rattle.echo_openings.specs.Openings.{plain_opening, opening_as}
 use Rattle.echo_openings.specs.NodeText.{placed_tree, own-inside, node-level, node-kind, node-text}
 use Rattle.echo_openings.specs.Placed.{opening_of, placed_at}
-use Rattle.echo_formula.specs.Texts.{bracket_text, list_text, operands_text}
+use Rattle.echo_formula.specs.Texts.{bracket_text, form_at, list_text, operands_text}
 
 -- ---------------------------------------------------------------- leaves
 
@@ -109,6 +115,60 @@ infix-kinds = tt
 infix-kind : (k : ℕ) → k < 39 → level_of k < 10 → T (two (shape_of k))
 infix-kind k h l =
     subst (λ (b : Bool). T (fits k b)) (lt-ltb (level_of k) 10 l) (every-at (λ k. fits k (ltb (level_of k) 10)) 0 39 infix-kinds k (omega arith) (omega arith))
+
+-- ---------------------------------------------------------------- named shapes that are told apart
+
+abbrev pub is_named : Shape → Bool
+is_named rotation = true
+is_named extraction = true
+is_named extension = true
+is_named select = true
+is_named call = true
+is_named _ = false
+
+abbrev named_fits : ℕ → Bool → Bool
+named_fits k b = elim b [ true ↦ eqb (level_of k) 11 | false ↦ true ]
+
+named-kinds : T (every_from (λ k. named_fits k (is_named (shape_of k))) 0 39)
+unfolding shapes notations
+named-kinds = tt
+
+named-level : (k : ℕ) → k < 39 → T (is_named (shape_of k)) → level_of k ≡ 11
+named-level k h n =
+    eqb→eq (level_of k) 11
+    (subst (λ (b : Bool). T (named_fits k b)) (T→true (is_named (shape_of k)) n) (every-at (λ k. named_fits k (is_named (shape_of k))) 0 39 named-kinds k (omega arith) (omega arith)))
+
+-- ---------------------------------------------------------------- an operator before its operand
+
+abbrev pub is_prefix : Shape → Bool
+is_prefix negation = true
+is_prefix unary = true
+is_prefix _ = false
+
+abbrev prefix_fits : ℕ → Bool → Bool
+prefix_fits k b = elim b [ true ↦ is_prefix (shape_of k) | false ↦ true ]
+
+prefix-kinds : T (every_from (λ k. prefix_fits k (eqb (level_of k) 10)) 0 39)
+unfolding shapes notations
+prefix-kinds = tt
+
+prefix-kind : (k : ℕ) → k < 39 → level_of k ≡ 10 → T (is_prefix (shape_of k))
+prefix-kind k h l =
+    subst (λ (b : Bool). T (prefix_fits k b)) (ap (λ (n : ℕ). eqb n 10) l) (every-at (λ k. prefix_fits k (eqb (level_of k) 10)) 0 39 prefix-kinds k (omega arith) (omega arith))
+
+by_prefix : (P : Shape → Type 0) → P negation → P unary → (s : Shape) → T (is_prefix s) → P s
+by_prefix P n u negation h = n
+by_prefix P n u unary h = u
+by_prefix P n u _ h = absurd h
+
+-- the sign, and the operand behind it
+prefix-text : (d : Dag) (ws bits : List ℕ) (i : ℕ) (n : Node) (g : ℕ → ℕ → List ℕ) → level_of n.kind ≡ 10 → (s : Shape) → T (is_prefix s)
+    → opening_as d ws bits i n s ++ pieces_text g (sign_of n.kind) (pieces_of (level_of n.kind) d.side (form_as n s)) ≡ sign_of n.kind ++ g 10 n.a
+unfolding opening_as plain_opening form_as pieces_of one_pieces pieces_text behind_text
+prefix-text d ws bits i n g l = by_prefix _ text text
+  where
+    text : plain_opening n.kind ++ pieces_text g (sign_of n.kind) (one_pieces (level_of n.kind) n.a) ≡ sign_of n.kind ++ g 10 n.a
+    text = rw (l, plain_opening, one_pieces) (ap (λ (z : List ℕ). sign_of n.kind ++ z) (append-nil (g 10 n.a)))
 
 -- no opening, and the sign between the operands
 infix-text : (d : Dag) (ws bits : List ℕ) (i : ℕ) (n : Node) (g : ℕ → ℕ → List ℕ) → level_of n.kind < 10 → (s : Shape) → T (two s)
@@ -217,6 +277,11 @@ module _ (W : Walk) where
 
   module _ (kind own : ℕ) (f : Form) where
     -- of stores and arguments
+    -- one inside parentheses
+    pub last-all : own ≡ 11 → {a : ℕ} {w : Bool} → f ≡ One a w → {q : Page} (p : Page) → q ≡ written p (placed_at W 0 a ++ bytes ")") → q ≡ written p (operands_text W kind (pieces_of own side f))
+    unfolding pieces_of one_pieces pieces_text behind_text bytes
+    last-all h e p w = rw (e, h) w
+
     pub chain-all : {j s n : ℕ} → f ≡ Chain j s n → {q : Page} (p : Page) → q ≡ written p (list_text W (chain_pieces side j s n)) → q ≡ written p (operands_text W kind (pieces_of own side f))
     unfolding pieces_of
     chain-all e p w = rw e (w ∙ ap (written p) (chain-any g (sign_of kind) side _ _ _))
@@ -251,13 +316,13 @@ module _ (W : Walk) (i : ℕ) (fine : Fine W i) where
   kind_fits = node-kind (dag_in W) (length (problem_in W).bits) (widths_in W) (problem_in W).bits W.ready.widths i fine.here
 
   abbrev form : Form
-  form = form_as (node_within W i) (shape (node_within W i))
+  form = form_at W i
 
-  inside-as : FormInside (problem_in W).side form
+  pub inside-as : FormInside (problem_in W).side form
   unfolding dag_of
   inside-as = own-inside (dag_in W) (length (problem_in W).bits) (widths_in W) (problem_in W).bits W.ready.widths i fine.here
 
-  under : OverForm (Under W i) (problem_in W).side form
+  pub under : OverForm (Under W i) (problem_in W).side form
   unfolding dag_of
   under =
       over-form (Under W i) (problem_in W).side form inside-as
@@ -279,9 +344,24 @@ module _ (W : Walk) (i : ℕ) (fine : Fine W i) where
     pub level-low : true ≡ ltb (level_of m.kind) 10 → level_of (node_within W i).kind < 10
     level-low f = rw (← e) (ltb→lt (level_of m.kind) 10 (true→T (sym f)))
 
+    pub level-own : {own : ℕ} → own ≡ level_of m.kind → own ≡ level_of (node_within W i).kind
+    level-own f = f ∙ ap (λ (n : Node). level_of n.kind) e
+
+    pub sign-own : {s : List ℕ} → s ≡ sign_of m.kind → s ≡ sign_of (node_within W i).kind
+    sign-own f = f ∙ ap (λ (n : Node). sign_of n.kind) e
+
+    pub named-own : T (is_named (shape (node_within W i))) → level_of m.kind ≡ 11
+    named-own n = ap (λ (n : Node). level_of n.kind) e ∙ named-level (node_within W i).kind kind_fits n
+
     module _ {f : Form} (g : f ≡ form_as m (shape m)) where
-      form-is : f ≡ form
+      pub form-is : f ≡ form
       form-is = g ∙ ap (λ (n : Node). form_as n (shape n)) e
+
+      pub form-count : {k : ℕ} → k < count_of form → k < count_of f
+      form-count h = rw form-is h
+
+      pub form-piece : (k : ℕ) {x : Piece} → x ≡ get_or (pieces_of (level_of m.kind) (problem_in W).side f) k no_piece → x ≡ get_or (pieces_of (level_of (node_within W i).kind) (problem_in W).side form) k no_piece
+      form-piece k h = h ∙ rw (form-is, e) refl
 
       pub form-inside : FormInside (problem_in W).side f
       form-inside = rw form-is inside-as
@@ -301,6 +381,65 @@ module _ (W : Walk) (i : ℕ) (fine : Fine W i) where
           (node-text (dag_in W) (length (problem_in W).bits) (widths_in W) (problem_in W).bits W.ready.widths i fine.here)))
           x
 
+      -- the same where no level is tighter
+      pub named-done : T (is_named (shape (node_within W i))) → {l : ℕ} → l ≤ 11 → (p : Page) → p.place.need < 2 ^ 64 → {b c : Page} → b ≡ written p (opening_of W i)
+          → c ≡ written b (operands_text W m.kind (pieces_of (level_of m.kind) (problem_in W).side f)) → c ≡ written p (placed_at W l i)
+      unfolding bracket_text
+      named-done n {l} h p small {b} {c} v w =
+          let k : level_of m.kind ≡ 11 = named-own n in
+          let z : ltb (level_of m.kind) l ≡ false = le-ltb (level_of m.kind) l (omega arith) in
+          let s : c.place.need < 2 ^ 64 = rw w (need-written b _) in
+          other-done refl l p (rw (z, bracket_text) (sym (written-nil p small))) v w (rw (z, bracket_text) (sym (written-nil c s)))
+
+    pub form-own : form ≡ form_as m (shape m)
+    form-own = ap (λ (n : Node). form_as n (shape n)) (sym e)
+
+    -- by its shape: that it is one of these, and its form
+    form-of : {s : Shape} → shape (node_within W i) ≡ s → T (is_named s) → T (is_named (shape (node_within W i))) × (form_as m s ≡ form_as m (shape m))
+    form-of h n = (rw h n, ap (form_as m) (sym (ap shape e ∙ h)))
+
+    pub extraction-form : shape (node_within W i) ≡ extraction → T (is_named (shape (node_within W i))) × (One m.c false ≡ form_as m (shape m))
+    unfolding form_as
+    extraction-form h = form-of h tt
+
+    pub select-form : shape (node_within W i) ≡ select → T (is_named (shape (node_within W i))) × (Chain m.b m.c m.d ≡ form_as m (shape m))
+    unfolding form_as
+    select-form h = form-of h tt
+
+    pub call-form : shape (node_within W i) ≡ call → 0 < m.d → T (is_named (shape (node_within W i))) × (Arguments m.c m.d ≡ form_as m (shape m))
+    unfolding form_as
+    call-form h l = let x = form-of h tt in (x.0, call-some m.c m.d (λ z. absurd (omega arith)) ∙ x.1)
+
+    pub first-form : {r : code.Shape} → shape (node_within W i) ≡ shape_in r → ((o : rotations.Rotation) × (r ≡ codes.Rotation o)) ⊎ ((o : extensions.Extension) × (r ≡ codes.Extension o))
+        → T (is_named (shape (node_within W i))) × (One m.a false ≡ form_as m (shape m))
+    unfolding form_as
+    first-form h (inl (o, f)) = form-of (h ∙ ap shape_in f) tt
+    first-form h (inr (o, f)) = form-of (h ∙ ap shape_in f) tt
+
+    -- an operator before its operand
+    module _ (mid : level_of (node_within W i).kind ≡ 10) where
+      prefixed : T (is_prefix (shape (node_within W i)))
+      prefixed = prefix-kind (node_within W i).kind kind_fits mid
+
+      pub one_under : Under W i m.a
+      unfolding form_as
+      one_under =
+          rw e
+          (by_prefix (λ s. OverForm (Under W i) (problem_in W).side (form_as (node_within W i) s) → Under W i (node_within W i).a) (λ h. h) (λ h. h) (shape (node_within W i)) prefixed under)
+
+      one-text : sign_of (node_within W i).kind ++ placed_at W 10 m.a ≡ formula (tree_of (dag_in W) (widths_in W) (problem_in W).bits i)
+      unfolding dag_of
+      one-text =
+          rw e
+          (sym (prefix-text (dag_in W) (widths_in W) (problem_in W).bits i (node_within W i) (λ l j. placed_at W l j) mid (shape (node_within W i)) prefixed)
+          ∙ node-text (dag_in W) (length (problem_in W).bits) (widths_in W) (problem_in W).bits W.ready.widths i fine.here)
+
+      pub prefix-done : (l : ℕ) {s : List ℕ} → s ≡ sign_of (node_within W i).kind → {r : Page} (p : Page) {a b c : Page} → a ≡ written p (bracket_text (ltb 10 l) 40)
+          → b ≡ written a s → c ≡ written b (placed_at W 10 m.a) → r ≡ written c (bracket_text (ltb 10 l) 41) → r ≡ written p (placed_at W l i)
+      prefix-done l {s} g p {a} u v w y =
+          node-placed l p (sym mid) u
+          (written_then a _ _ (v ∙ ap (written a) g) w ∙ ap (written a) one-text) y
+
     -- an operator between its operands
     module _ (low : level_of (node_within W i).kind < 10) where
       two_shaped : T (two (shape (node_within W i)))
@@ -313,19 +452,19 @@ module _ (W : Walk) (i : ℕ) (fine : Fine W i) where
           (by_two (λ s. OverForm (Under W i) (problem_in W).side (form_as (node_within W i) s) → Under W i (node_within W i).a × Under W i (node_within W i).b)
           (λ h. h) (λ h. h) (λ h. h) (λ h. h) (shape (node_within W i)) two_shaped under)
 
-      module _ {own : ℕ} (f : own ≡ level_of m.kind) where
+      module _ {own : ℕ} (f : own ≡ level_of (node_within W i).kind) where
         pub own-low : own < 10
-        own-low = rw (f, e) low
+        own-low = rw f low
 
-        both-text : placed_at W own m.a ++ (sign_of m.kind ++ placed_at W (own + 1) m.b) ≡ formula (tree_of (dag_in W) (widths_in W) (problem_in W).bits i)
+        both-text : placed_at W own m.a ++ (sign_of (node_within W i).kind ++ placed_at W (own + 1) m.b) ≡ formula (tree_of (dag_in W) (widths_in W) (problem_in W).bits i)
         unfolding dag_of
         both-text =
             rw (f, e)
             (sym (infix-text (dag_in W) (widths_in W) (problem_in W).bits i (node_within W i) (λ l j. placed_at W l j) low (shape (node_within W i)) two_shaped)
             ∙ node-text (dag_in W) (length (problem_in W).bits) (widths_in W) (problem_in W).bits W.ready.widths i fine.here)
 
-        pub infix-done : (l : ℕ) {r : Page} (p : Page) {a b c d : Page} → a ≡ written p (bracket_text (ltb own l) 40) → b ≡ written a (placed_at W own m.a)
-            → c ≡ written b (sign_of m.kind) → d ≡ written c (placed_at W (own + 1) m.b) → r ≡ written d (bracket_text (ltb own l) 41) → r ≡ written p (placed_at W l i)
-        infix-done l p {a} {b} u v w x y =
-            node-placed l p (f ∙ ap (λ (n : Node). level_of n.kind) e) u
-            (written_then a _ _ v (written_then b _ _ w x) ∙ ap (written a) both-text) y
+        pub infix-done : (l : ℕ) {s : List ℕ} → s ≡ sign_of (node_within W i).kind → {r : Page} (p : Page) {a b c d : Page} → a ≡ written p (bracket_text (ltb own l) 40)
+            → b ≡ written a (placed_at W own m.a) → c ≡ written b s → d ≡ written c (placed_at W (own + 1) m.b) → r ≡ written d (bracket_text (ltb own l) 41) → r ≡ written p (placed_at W l i)
+        infix-done l g p {a} {b} u v w x y =
+            node-placed l p f u
+            (written_then a _ _ v (written_then b _ _ (w ∙ ap (written b) g) x) ∙ ap (written a) both-text) y

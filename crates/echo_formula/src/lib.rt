@@ -1,23 +1,28 @@
 // A node as a formula: functions that call each other, the level that is wanted passed down: leaves, operators between their operands,
-// stores, arguments, and all others, with a loop over the operands.
+// named shapes with one operand, stores, arguments, and all others, with a loop over the operands.
 //
 // A place that came back from a writer is taken apart before it is handed on, and `lim` stands among the arguments, as in the walk.
 #![tactic(auto)]
 
-ghost use Rattle.std.specs.Prelude.{◌≡◌, ◌≤◌, ◌<◌};
+ghost use Rattle.std.specs.Prelude.{◌≡◌, ◌++◌, ◌≤◌, ◌<◌, get_or};
+ghost use Rattle.lists.specs.Bytes.{bytes as literal};
 ghost use Rattle.echo_bytes.specs.Page.{page, written};
 ghost use Rattle.echo_tables.specs.Uses.{FormInside};
 ghost use Rattle.echo_walk.specs.Operands.{OverForm};
 ghost use Rattle.echo_walk.specs.Walks.{problem_in, node_within, Fine, Under, TermAt};
 ghost use Rattle.echo_pieces.specs.declared.TheConstants.{PREFIX, CLOSED};
 ghost use Rattle.echo_pieces.specs.Signs.{sign_of, level_of};
-ghost use Rattle.echo_pieces.specs.Pieces.{chain_pieces, arg_pieces, pieces_of};
+ghost use Rattle.echo_pieces.specs.Pieces.{chain_pieces, arg_pieces, pieces_of, count_of};
+ghost use Rattle.echo_pieces.specs.PieceLaws.{no_piece};
 ghost use Rattle.echo_openings.specs.Placed.{placed_at};
-ghost use Rattle.echo_formula.specs.Texts.{bracket_text, list_text, operands_text};
+ghost use Rattle.echo_formula.specs.Texts.{bracket_text, form_at, list_text, operands_text};
 
+use blast_kernel::Shape;
 use echo_bytes::Place;
 use echo_openings::{open_leaf, open_term};
-use echo_pieces::{Notation, count, level, operand, push_behind, push_sign};
+use echo_pieces::{
+    Notation, PREFIX, Piece, count, level, operand, push_behind, push_between, push_sign,
+};
 use echo_tables::{Form, operands};
 use echo_walk::Walk;
 use lent::get;
@@ -33,14 +38,24 @@ fn push_bracket(there: bool, b: u8, p: Place, out: &mut [u8]) -> Place
     p
 }
 
-// An operator between its operands: its sign between them, and nothing before the first.
+// An operator between its operands: its sign between them, and nothing before the first. Its level and its sign are what is told of its kind.
 #[cycle(formula)]
-fn formula_infix(walk: &Walk, p: Place, i: u64, l: u64, out: &mut [u8]) -> Place
-    requires { Fine walk.now i × (level_of (node_within walk.now i).kind < PREFIX) }
+#[inline(always)]
+fn formula_infix(
+    walk: &Walk,
+    p: Place,
+    i: u64,
+    l: u64,
+    own: u64,
+    sign: &[u8],
+    out: &mut [u8],
+) -> Place
+    requires fine { Fine walk.now i × (level_of (node_within walk.now i).kind < PREFIX) }
+    requires own { own ≡ level_of (node_within walk.now i).kind }
+    requires sign { sign.now ≡ sign_of (node_within walk.now i).kind }
     ensures { page result out.new ≡ written (page p out.old) (placed_at walk.now l i) }
 {
     let n = walk.node(i);
-    let own = level(n.kind);
     let a = push_bracket(own < l, b'(', p, out);
     let b = formula_node(
         walk,
@@ -52,8 +67,8 @@ fn formula_infix(walk: &Walk, p: Place, i: u64, l: u64, out: &mut [u8]) -> Place
         own,
         out,
     );
-    let c = push_sign(
-        n.kind,
+    let c = push_between(
+        sign,
         Place {
             at: b.at,
             need: b.need,
@@ -81,9 +96,25 @@ fn formula_infix(walk: &Walk, p: Place, i: u64, l: u64, out: &mut [u8]) -> Place
     )
 }
 
+// The last operand inside parentheses, where any level may stand, and what closes them. lim is what it is below.
+#[cycle(formula)]
+#[inline(always)]
+fn formula_last(walk: &Walk, p: Place, lim: u64, a: u64, out: &mut [u8]) -> Place
+    requires { Under walk.now lim a }
+    ensures { page result out.new ≡ written (page p out.old) (placed_at walk.now 0 a ++ literal ")") }
+{
+    let q = formula_node(walk, p, a, 0, out);
+    Place {
+        at: q.at,
+        need: q.need,
+    }
+    .byte(out, b')')
+}
+
 // n stores over the pairs of side entries from place s on, the last pair first, and then the index j; all of these nodes are below lim.
 // Kept: two entries by their numbers in each turn; a chain over pairs from the last would take them by number as well.
 #[cycle(formula)]
+#[inline(always)]
 fn formula_chain(walk: &Walk, p: Place, lim: u64, j: u64, s: u64, n: u64, out: &mut [u8]) -> Place
     requires { OverForm (Under walk.now lim) (problem_in walk.now).side (Form.Chain j s n) }
     ensures { page result out.new ≡ written (page p out.old) (list_text walk.now (chain_pieces (problem_in walk.now).side j s n)) }
@@ -133,6 +164,7 @@ fn formula_chain(walk: &Walk, p: Place, lim: u64, j: u64, s: u64, n: u64, out: &
 // n arguments, the side entries from place s on; all of these nodes are below lim.
 // Kept: by their numbers, by which it is known that each is below lim; the last one apart, since another text stands behind it.
 #[cycle(formula)]
+#[inline(always)]
 fn formula_args(walk: &Walk, p: Place, lim: u64, s: u64, n: u64, out: &mut [u8]) -> Place
     requires { OverForm (Under walk.now lim) (problem_in walk.now).side (Form.Arguments s n) }
     ensures { page result out.new ≡ written (page p out.old) (list_text walk.now (arg_pieces (problem_in walk.now).side s n)) }
@@ -168,49 +200,85 @@ fn formula_args(walk: &Walk, p: Place, lim: u64, s: u64, n: u64, out: &mut [u8])
     .byte(out, b')')
 }
 
-// The operands of a form, each with what is behind it: stores and arguments by their own loops. The kind is the operator's; all of these
-// nodes are below lim.
-// Kept: an operand by its number, for three forms in one loop; an arm for each form would write an operand and what is behind it six times.
-#[cycle(formula)]
-fn formula_operands(walk: &Walk, p: Place, lim: u64, kind: u8, form: Form, out: &mut [u8]) -> Place
-    requires { OverForm (Under walk.now lim) (problem_in walk.now).side form × FormInside (problem_in walk.now).side form }
-    ensures { page result out.new ≡ written (page p out.old) (operands_text walk.now kind (pieces_of (level_of kind) (problem_in walk.now).side form)) }
+// Operand k of node i.
+// Kept: a function by itself, with a node's record and form that are taken apart for each operand, so that `formula_operands` has a small frame.
+#[inline(never)]
+fn operand_at(walk: &Walk, i: u64, k: u64) -> Piece
+    requires { Fine walk.now i × (k < count_of (form_at walk.now i)) }
+    ensures { result ≡ get_or (pieces_of (level_of (node_within walk.now i).kind) (problem_in walk.now).side (form_at walk.now i)) k no_piece }
 {
-    match form {
-        Form::Chain(j, s, n) => formula_chain(walk, p, lim, j, s, n, out),
-        Form::Arguments(s, n) => formula_args(walk, p, lim, s, n, out),
-        _ => {
-            let side = walk.problem.side;
-            let mut q = Place {
-                at: p.at,
-                need: p.need,
-            };
-            for k in 0..count(form) {
-                let x = operand(form, side, kind, k);
-                let a = formula_node(walk, q, x.node, x.level, out);
-                let b = push_behind(
-                    kind,
-                    x.behind,
-                    Place {
-                        at: a.at,
-                        need: a.need,
-                    },
-                    out,
-                );
-                q = Place {
-                    at: b.at,
-                    need: b.need,
-                };
-            }
-            q
-        }
-    }
+    let n = walk.node(i);
+    operand(operands(n), walk.problem.side, n.kind, k)
 }
 
-// Any other node that is no leaf: its opening, and its operands.
+// The operands of node i, which is of this kind and has so many, each with what is behind it.
+// Kept: an operand by its number, for any form in one loop; an arm for each form would write an operand and what is behind it six times.
 #[cycle(formula)]
+#[inline(always)]
+fn formula_operands(walk: &Walk, p: Place, i: u64, kind: u8, n: u64, out: &mut [u8]) -> Place
+    requires { Fine walk.now i × (n ≡ count_of (form_at walk.now i)) × (kind ≡ (node_within walk.now i).kind) }
+    ensures { page result out.new ≡ written (page p out.old) (operands_text walk.now kind (pieces_of (level_of kind) (problem_in walk.now).side (form_at walk.now i))) }
+{
+    let mut q = Place {
+        at: p.at,
+        need: p.need,
+    };
+    for k in 0..n {
+        let x = operand_at(walk, i, k);
+        let a = formula_node(walk, q, x.node, x.level, out);
+        let b = push_behind(
+            kind,
+            x.behind,
+            Place {
+                at: a.at,
+                need: a.need,
+            },
+            out,
+        );
+        q = Place {
+            at: b.at,
+            need: b.need,
+        };
+    }
+    q
+}
+
+// A sign before one operand.
+#[cycle(formula)]
+#[inline(always)]
+fn formula_prefix(walk: &Walk, p: Place, i: u64, l: u64, out: &mut [u8]) -> Place
+    requires { Fine walk.now i × (level_of (node_within walk.now i).kind ≡ PREFIX) }
+    ensures { page result out.new ≡ written (page p out.old) (placed_at walk.now l i) }
+{
+    let n = walk.node(i);
+    let a = push_bracket(PREFIX < l, b'(', p, out);
+    let b = push_sign(n.kind, a, out);
+    let c = formula_node(
+        walk,
+        Place {
+            at: b.at,
+            need: b.need,
+        },
+        n.a,
+        PREFIX,
+        out,
+    );
+    push_bracket(
+        PREFIX < l,
+        b')',
+        Place {
+            at: c.at,
+            need: c.need,
+        },
+        out,
+    )
+}
+
+// Any node that is no leaf: its opening, and its operands.
+#[cycle(formula)]
+#[inline(never)]
 fn formula_other(walk: &Walk, p: Place, i: u64, l: u64, out: &mut [u8]) -> Place
-    requires { Fine walk.now i × TermAt walk.now i }
+    requires { Fine walk.now i × TermAt walk.now i × (l ≤ CLOSED) }
     ensures { page result out.new ≡ written (page p out.old) (placed_at walk.now l i) }
 {
     let n = walk.node(i);
@@ -225,7 +293,7 @@ fn formula_other(walk: &Walk, p: Place, i: u64, l: u64, out: &mut [u8]) -> Place
         },
         i,
         n.kind,
-        operands(n),
+        count(operands(n)),
         out,
     );
     push_bracket(
@@ -239,9 +307,95 @@ fn formula_other(walk: &Walk, p: Place, i: u64, l: u64, out: &mut [u8]) -> Place
     )
 }
 
-// Node i where level l or a tighter one may stand as it is: between brackets where it is looser. Ruled out: brackets around what is as tight as
-// wanted; the left operand's level for the right one; an operand left out.
+// A node whose shape has a name and is met often: numerals, stores and arguments.
+// Kept: by itself, with a form that is not asked for; of any other shape it does what `formula_other` does.
 #[cycle(formula)]
+#[inline(never)]
+fn formula_named(walk: &Walk, p: Place, i: u64, l: u64, out: &mut [u8]) -> Place
+    requires { Fine walk.now i × TermAt walk.now i × (l ≤ CLOSED) }
+    ensures { page result out.new ≡ written (page p out.old) (placed_at walk.now l i) }
+{
+    let n = walk.node(i);
+    match walk.mark(i).shape {
+        Shape::Rotation(_) | Shape::Extension(_) => {
+            let b = open_term(walk, p, i, out);
+            formula_last(
+                walk,
+                Place {
+                    at: b.at,
+                    need: b.need,
+                },
+                i,
+                n.a,
+                out,
+            )
+        }
+        Shape::Extraction => {
+            let b = open_term(walk, p, i, out);
+            formula_last(
+                walk,
+                Place {
+                    at: b.at,
+                    need: b.need,
+                },
+                i,
+                n.c,
+                out,
+            )
+        }
+        Shape::Select => {
+            let b = open_term(walk, p, i, out);
+            formula_chain(
+                walk,
+                Place {
+                    at: b.at,
+                    need: b.need,
+                },
+                i,
+                n.b,
+                n.c,
+                n.d,
+                out,
+            )
+        }
+        Shape::Call if 0 < n.d => {
+            let b = open_term(walk, p, i, out);
+            formula_args(
+                walk,
+                Place {
+                    at: b.at,
+                    need: b.need,
+                },
+                i,
+                n.c,
+                n.d,
+                out,
+            )
+        }
+        _ => formula_other(walk, p, i, l, out),
+    }
+}
+
+// An operator between its operands, one before its operand, or any other node that is no leaf.
+#[cycle(formula)]
+#[inline(never)]
+fn formula_term(walk: &Walk, p: Place, i: u64, l: u64, out: &mut [u8]) -> Place
+    requires { Fine walk.now i × TermAt walk.now i × (l ≤ CLOSED) }
+    ensures { page result out.new ≡ written (page p out.old) (placed_at walk.now l i) }
+{
+    let n = walk.node(i);
+    match Notation::from(n.kind) {
+        Notation::Between(own, sign) => formula_infix(walk, p, i, l, own, sign, out),
+        Notation::Before(_) => formula_prefix(walk, p, i, l, out),
+        Notation::Named => formula_other(walk, p, i, l, out),
+    }
+}
+
+// Node i where level l or a tighter one may stand as it is. Ruled out: brackets around what is as tight as wanted; the left operand's level for
+// the right one; an operand left out.
+// Kept: compiled into its callers, so that a leaf is written without a further level.
+#[cycle(formula)]
+#[inline(always)]
 pub fn formula_node(walk: &Walk, p: Place, i: u64, l: u64, out: &mut [u8]) -> Place
     requires { Fine walk.now i × (l ≤ CLOSED) }
     ensures { page result out.new ≡ written (page p out.old) (placed_at walk.now l i) }
@@ -249,9 +403,12 @@ pub fn formula_node(walk: &Walk, p: Place, i: u64, l: u64, out: &mut [u8]) -> Pl
     if walk.is_leaf(i) {
         return open_leaf(walk, p, i, out);
     }
-    let n = walk.node(i);
-    match Notation::from(n.kind) {
-        Notation::Between(..) => formula_infix(walk, p, i, l, out),
-        Notation::Before(_) | Notation::Named => formula_other(walk, p, i, l, out),
+    match walk.mark(i).shape {
+        Shape::Rotation(_)
+        | Shape::Extraction
+        | Shape::Extension(_)
+        | Shape::Select
+        | Shape::Call => formula_named(walk, p, i, l, out),
+        _ => formula_term(walk, p, i, l, out),
     }
 }

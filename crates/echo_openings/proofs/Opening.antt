@@ -42,6 +42,11 @@ numbered-more s ks i h =
 pub numbered-all : (s ks : List ℕ) (i : ℕ) → i ≡ length ks → s ++ numbered (take i ks) ≡ s ++ numbered ks
 numbered-all s ks i e = rw (e, take-length ks) refl
 
+-- a name with its bars, and a comma
+pub quoted-comma : (s : List ℕ) → bytes "|" ++ (s ++ bytes "|, ") ≡ quoted s ++ bytes ", "
+unfolding quoted bytes
+quoted-comma s = ap (λ (z : List ℕ). 124 ∷ z) (sym (append_assoc s (124 ∷ []) (44 ∷ 32 ∷ [])))
+
 -- between operands nothing, and else the sign
 module _ (k : ℕ) where
   pub plain-none : true ≡ ltb (level_of k) 10 → [] ≡ plain_opening k

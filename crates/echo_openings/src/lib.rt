@@ -2,12 +2,15 @@
 // Under "Ruled out" stand wrong programs that a public function's contract refuses.
 #![tactic(auto)]
 
-ghost use Rattle.std.specs.Prelude.{◌≡◌, ◌++◌};
+ghost use Rattle.std.specs.Prelude.{◌≡◌, ◌++◌, ◌+◌, ◌%◌, ◌<◌, T, leb, length, get_or};
 ghost use Rattle.lists.specs.Bytes.{bytes as literal};
-ghost use Rattle.echo_spec.specs.Render.{quoted};
+ghost use Rattle.lists.specs.Tests.{every};
+ghost use Rattle.echo_spec.specs.Render.{binary_digits, quoted};
 ghost use Rattle.echo_bytes.specs.Page.{page, written};
 ghost use Rattle.echo_lines.specs.Heads.{repeated};
-ghost use Rattle.echo_walk.specs.Walks.{LeafAt, TermAt};
+ghost use Rattle.echo_spec.specs.Shapes.{var};
+ghost use Rattle.echo_spec.specs.Trees.{constant_bits, variable_name};
+ghost use Rattle.echo_walk.specs.Walks.{problem_in, dag_in, node_within, Taken, Constant, LeafAt, TermAt};
 ghost use Rattle.echo_pieces.specs.Signs.{sign_of};
 ghost use Rattle.echo_openings.specs.Openings.{plain_opening, numbered, call_opening};
 ghost use Rattle.echo_openings.specs.Placed.{opening_of};
@@ -15,10 +18,87 @@ ghost use Rattle.echo_openings.specs.Placed.{opening_of};
 use blast_kernel::Shape;
 use echo_bytes::Place;
 use echo_lines::push_repeated;
-use echo_pieces::{Notation, push_sign};
+use echo_pieces::{Notation, push_enclosed, push_sign};
 use echo_walk::Walk;
 
+// ---------------------------------------------------------------- constants
+
+// The digit of bit i.
+fn digit(bits: &[u8], i: usize) -> u8
+    requires { (i < length bits.now) × T (every (λ b. leb b 1) bits.now) }
+    ensures { result ≡ 48 + get_or bits.now i 0 }
+{
+    48 + bits[i]
+}
+
+// The digits of bits, the highest first, for a multiple of eight.
+// Kept: eight are read before one is stored, which is compiled to one load and one store.
+#[inline(always)]
+fn copy_eights(to: &mut [u8], bits: &[u8])
+    requires { (length to.old ≡ length bits.now) × (length bits.now % 8 ≡ 0) × T (every (λ b. leb b 1) bits.now) }
+    ensures { to.new ≡ binary_digits bits.now }
+{
+    let n = bits.len();
+    for i in 0..n / 8 {
+        let at = 8 * i;
+        let left = n - at;
+        let a = digit(bits, left - 1);
+        let b = digit(bits, left - 2);
+        let c = digit(bits, left - 3);
+        let d = digit(bits, left - 4);
+        let e = digit(bits, left - 5);
+        let f = digit(bits, left - 6);
+        let g = digit(bits, left - 7);
+        let h = digit(bits, left - 8);
+        to[at] = a;
+        to[at + 1] = b;
+        to[at + 2] = c;
+        to[at + 3] = d;
+        to[at + 4] = e;
+        to[at + 5] = f;
+        to[at + 6] = g;
+        to[at + 7] = h;
+    }
+}
+
+// A constant of any width, that may not fit.
+#[inline(never)]
+fn any_constant(bits: &[u8], p: Place, out: &mut [u8]) -> Place
+    requires { T (every (λ b. leb b 1) bits.now) }
+    ensures { page result out.new ≡ written (page p out.old) (literal "#b" ++ binary_digits bits.now) }
+{
+    p.constant(out, bits)
+}
+
+// `#b0101`, one piece where it fits.
+// Kept: apart for widths that are multiples of eight up to 64; beyond that the compiler's own loop is as fast.
+#[inline(always)]
+fn push_constant(bits: &[u8], p: Place, out: &mut [u8]) -> Place
+    requires { T (every (λ b. leb b 1) bits.now) }
+    ensures { page result out.new ≡ written (page p out.old) (literal "#b" ++ binary_digits bits.now) }
+{
+    let all = bits.len() + 2;
+    if p.at < out.len() && all <= out.len() - p.at {
+        if bits.len() % 8 == 0 && bits.len() <= 64 {
+            out[p.at] = b'#';
+            out[p.at + 1] = b'b';
+            copy_eights(&mut out[p.at + 2..p.at + all], bits);
+            return p.moved(all, all);
+        }
+    }
+    any_constant(bits, p, out)
+}
+
 // ---------------------------------------------------------------- texts
+
+// `|name|`, one piece where it fits.
+#[inline(always)]
+#[tactic(auto, unfolding(lists::specs::Bytes::bytes, echo_spec::specs::Render::quoted))]
+fn push_name(name: &[u8], p: Place, out: &mut [u8]) -> Place
+    ensures { page result out.new ≡ written (page p out.old) (quoted name.now) }
+{
+    push_enclosed(b"|", name, b"|", p, out)
+}
 
 // `extract(7, 0, `: each numeral before a comma. Compiled into its callers, which know how many there are.
 #[inline(always)]
@@ -38,9 +118,13 @@ fn open_select(name: &[u8], n: u64, p: Place, out: &mut [u8]) -> Place
         ≡ written (page p out.old) (literal "select(" ++ (repeated n (literal "store(") ++ (quoted name.now ++ literal ", "))) }
 {
     let opened = p.word(out, b"select(");
-    push_repeated(b"store(", n, opened, out)
-        .name(out, name)
-        .word(out, b", ")
+    push_enclosed(
+        b"|",
+        name,
+        b"|, ",
+        push_repeated(b"store(", n, opened, out),
+        out,
+    )
 }
 
 // `|name|(`, or `|name|` for a call without arguments.
@@ -48,7 +132,7 @@ fn open_select(name: &[u8], n: u64, p: Place, out: &mut [u8]) -> Place
 fn open_call(name: &[u8], n: u64, p: Place, out: &mut [u8]) -> Place
     ensures { page result out.new ≡ written (page p out.old) (call_opening n (quoted name.now)) }
 {
-    let named = p.name(out, name);
+    let named = push_name(name, p, out);
     if n == 0 {
         return named;
     }
@@ -68,19 +152,41 @@ fn open_plain(kind: u8, p: Place, out: &mut [u8]) -> Place
 
 // ---------------------------------------------------------------- nodes
 
+// A variable's name.
+#[inline(never)]
+fn open_variable(walk: &Walk, p: Place, i: u64, out: &mut [u8]) -> Place
+    requires { Taken walk.now i var }
+    ensures { page result out.new ≡ written (page p out.old) (quoted (variable_name (dag_in walk.now) i)) }
+{
+    push_name(walk.variable_name(i), p, out)
+}
+
+// A constant.
+#[inline(never)]
+fn open_constant(walk: &Walk, p: Place, i: u64, out: &mut [u8]) -> Place
+    requires { Constant walk.now i }
+    ensures { page result out.new ≡ written (page p out.old) (literal "#b" ++ binary_digits (constant_bits (problem_in walk.now).bits (node_within walk.now i))) }
+{
+    push_constant(walk.constant(i), p, out)
+}
+
 // All of a leaf: a variable's name or a constant. Ruled out: a name without its bars; a constant with its lowest bit first.
+// Kept: compiled into its callers, which have asked whether it is a leaf.
+#[inline(always)]
 pub fn open_leaf(walk: &Walk, p: Place, i: u64, out: &mut [u8]) -> Place
     requires { LeafAt walk.now i }
     ensures { page result out.new ≡ written (page p out.old) (opening_of walk.now i) }
 {
     match walk.mark(i).shape {
-        Shape::Var => p.name(out, walk.variable_name(i)),
-        _ => p.constant(out, walk.constant(i)),
+        Shape::Var => open_variable(walk, p, i, out),
+        _ => open_constant(walk, p, i, out),
     }
 }
 
 // The opening of node i, which is no leaf. Ruled out: a sign before the first operand of `+`; an extraction's numerals
 // exchanged.
+// Kept: compiled into its callers, which know the shape.
+#[inline(always)]
 pub fn open_term(walk: &Walk, p: Place, i: u64, out: &mut [u8]) -> Place
     requires { TermAt walk.now i }
     ensures { page result out.new ≡ written (page p out.old) (opening_of walk.now i) }

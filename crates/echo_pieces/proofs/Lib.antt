@@ -1,1 +1,3 @@
+pub mod Enclosing
 pub mod Notations
+pub mod Storing
