@@ -405,7 +405,7 @@ struct echo_answer echo_let(
  * are echo_ext's; ECHO_ROOM is about the lines. No roots: length 0. Accepted or refused, the output is as echo_ext says.
  *
  * With the problem's declarations a line has one reading, the assertion's tree: with the same declarations, equal lines mean equal trees. It
- * is as recursive as echo_ext, and took up to 374 KB of stack, as measured.
+ * is as recursive as echo_ext, and took up to 357 KB of stack, as measured.
  */
 struct echo_answer echo_formulas(
     const uint8_t *nodes, size_t nodes_len,
