@@ -1,5 +1,5 @@
 -- The nodes that the Rust's `DagNode` has: all but selects and calls, which need the side entries and are `ExtNode`'s own.
-use Rattle.std.specs.Prelude.{ℕ, ◌≡◌, refl, List, [], Bool, true}
+use Rattle.std.specs.Prelude.{ℕ, ◌≡◌, refl, List, [], Bool}
 use Rattle.std.proofs.Common.{ap, ◌∙◌}
 use Rattle.echo_spec.specs.Shapes.{
   Shape,
@@ -53,11 +53,6 @@ closed_wf nbits ws n = wf_as nbits no_arrays [] ws n (closed (shape n))
 
 abbrev pub closed_width : List ℕ → Node → ℕ
 closed_width ws n = width_as no_arrays ws n (closed (shape n))
-
--- `node_wf` accepts the node, with some number of bits
-pub record CoreFormed (ws : List ℕ) (n : Node) : Type 0 where
-  pub nbits : ℕ
-  pub accepted : closed_wf nbits ws n ≡ true
 
 -- ---------------------------------------------------------------- laws: how a node that is no select and no call is looked at
 

@@ -3,11 +3,12 @@
 // refuses.
 #![tactic(auto)]
 
-ghost use Rattle.std.specs.Prelude.{◌≡◌, ◌&&◌, ◌+◌, ◌≤◌, leb, ltb};
+ghost use Rattle.std.specs.Prelude.{◌≡◌, ◌&&◌, ◌+◌, ◌-◌, leb, ltb};
+ghost use Rattle.std.specs.Bool.{then_some};
 ghost use Rattle.echo_spec.specs.Input as input;
 ghost use Rattle.echo_spec.specs.Widths as widths;
 ghost use Rattle.lent.specs.Records.{node_of};
-ghost use Rattle.kernel.specs.Closed.{closed_wf, closed_width, CoreFormed};
+ghost use Rattle.kernel.specs.Closed.{closed_wf, closed_width};
 
 use blast_kernel::Shape;
 use lent::{Node, get};
@@ -25,13 +26,6 @@ pub fn earlier_of(ws: &[u64], w: u64, i: u64) -> bool
     ensures { result ≡ widths.earlier_of ws.now w i }
 {
     earlier(ws, i) && get(ws, i) == w
-}
-
-// Is the sum of two widths one of 64 bits.
-fn sum_fits(x: u64, y: u64) -> bool
-    ensures { result ≡ leb (x + y) input.largest }
-{
-    x.checked_add(y).is_some()
 }
 
 // One earlier bit-vector. Ruled out: a node of width 0; the node itself.
@@ -58,15 +52,6 @@ pub fn bool_bin_wf(ws: &[u64], a: u64, b: u64) -> bool
     earlier_of(ws, 1, a) && earlier_of(ws, 1, b)
 }
 
-// One earlier bit-vector that is not too wide to be extended. (The Rust's `ext_wf` of kernel.rs, which is
-// not the pass of that name.) Ruled out: a sum that wraps; the widest sum, 2^64 - 1, refused.
-#[tactic(auto, unfolding(echo_spec::specs::Widths::extend_wf))]
-pub fn extend_wf(ws: &[u64], a: u64, by: u64) -> bool
-    ensures { result ≡ widths.extend_wf ws.now a by }
-{
-    un_wf(ws, a) && sum_fits(get(ws, a), by)
-}
-
 // Is this the width of a term: above 0 and of 64 bits, as each number here is. Ruled out: a width of 0; the largest number refused.
 pub fn has_width(w: u64) -> bool
     ensures { result ≡ (ltb 0 w && input.fits64 w) }
@@ -82,19 +67,39 @@ fn const_wf(nbits: usize, s: u64, w: u64) -> bool
     w > 0 && s <= n && w <= n - s
 }
 
-// The bits hi to lo of an earlier bit-vector.
-fn extract_wf(ws: &[u64], hi: u64, lo: u64, a: u64) -> bool
-    ensures { result ≡ (widths.earlier ws.now a && (leb lo hi && ltb hi (widths.width_at ws.now a))) }
+// The width of the bits hi to lo of an earlier bit-vector.
+fn extracted(ws: &[u64], hi: u64, lo: u64, a: u64) -> Option<u64>
+    ensures { result ≡ then_some (widths.earlier ws.now a && (leb lo hi && ltb hi (widths.width_at ws.now a))) (hi - lo + 1) }
 {
-    earlier(ws, a) && lo <= hi && hi < get(ws, a)
+    if earlier(ws, a) && lo <= hi && hi < get(ws, a) {
+        Some(hi - lo + 1)
+    } else {
+        None
+    }
 }
 
-// Two earlier bit-vectors that are not too wide to be joined.
-fn concat_wf(ws: &[u64], a: u64, b: u64) -> bool
-    ensures { result ≡ (widths.un_wf ws.now a && (widths.un_wf ws.now b
-        && leb (widths.width_at ws.now a + widths.width_at ws.now b) input.largest)) }
+// The width of two earlier bit-vectors, joined, that are not too wide for it.
+fn joined(ws: &[u64], a: u64, b: u64) -> Option<u64>
+    ensures { result ≡ then_some (widths.un_wf ws.now a && (widths.un_wf ws.now b
+        && leb (widths.width_at ws.now a + widths.width_at ws.now b) input.largest)) (widths.width_at ws.now a + widths.width_at ws.now b) }
 {
-    un_wf(ws, a) && un_wf(ws, b) && sum_fits(get(ws, a), get(ws, b))
+    if un_wf(ws, a) && un_wf(ws, b) {
+        get(ws, a).checked_add(get(ws, b))
+    } else {
+        None
+    }
+}
+
+// The width of an earlier bit-vector, extended, that is not too wide for it.
+#[tactic(auto, unfolding(echo_spec::specs::Widths::extend_wf))]
+fn extended(ws: &[u64], a: u64, by: u64) -> Option<u64>
+    ensures { result ≡ then_some (widths.extend_wf ws.now a by) (widths.width_at ws.now a + by) }
+{
+    if un_wf(ws, a) {
+        get(ws, a).checked_add(by)
+    } else {
+        None
+    }
 }
 
 // A Bool and two bit-vectors of one width.
@@ -104,43 +109,24 @@ fn ite_wf(ws: &[u64], c: u64, t: u64, e: u64) -> bool
     earlier_of(ws, 1, c) && bin_wf(ws, t, e)
 }
 
-// Is the node well formed: no select and no call is, which are `Pass::node_wf`'s. Ruled out: an extraction up to the bit past the last;
-// a constant whose last bit lies past the bits.
-#[tactic(auto, unfolding(echo_spec::specs::Widths::wf_as, crate::specs::Closed::closed))]
-pub fn node_wf(ws: &[u64], nbits: usize, n: Node) -> bool
-    ensures { result ≡ closed_wf nbits ws.now (node_of n) }
+// The width of a node that is well formed; of a select and a call there is none here: they are `Pass::node_width`'s. Ruled out: an extraction up to
+// the bit past the last; a constant whose last bit lies past the bits; an extraction one bit narrower; a comparison as wide as its operands.
+#[tactic(auto, unfolding(echo_spec::specs::Widths::wf_as, echo_spec::specs::Widths::width_as, crate::specs::Closed::closed))]
+pub fn node_width(ws: &[u64], nbits: usize, n: Node) -> Option<u64>
+    ensures { result ≡ then_some (closed_wf nbits ws.now (node_of n)) (closed_width ws.now (node_of n)) }
 {
     match Shape::from(n.kind) {
-        Shape::Var => has_width(n.a),
-        Shape::Const => const_wf(nbits, n.a, n.b),
-        Shape::Binary(_) | Shape::Rotation(_) | Shape::Comparison(_) => bin_wf(ws, n.a, n.b),
-        Shape::Extraction => extract_wf(ws, n.a, n.b, n.c),
-        Shape::Concat => concat_wf(ws, n.a, n.b),
-        Shape::Extension(_) => extend_wf(ws, n.a, n.b),
-        Shape::Ite => ite_wf(ws, n.a, n.b, n.c),
-        Shape::Negation => earlier_of(ws, 1, n.a),
-        Shape::Connective(_) => bool_bin_wf(ws, n.a, n.b),
-        Shape::Unary(_) => un_wf(ws, n.a),
-        Shape::Select | Shape::Call | Shape::Unknown => false,
-    }
-}
-
-// The width of a node that `node_wf` accepted, so that no difference is below 0 and no sum is over 64 bits. Ruled out: an extraction
-// one bit narrower; a comparison as wide as its operands.
-#[tactic(auto, unfolding(echo_spec::specs::Widths::width_as, crate::specs::Closed::closed))]
-pub fn node_width(ws: &[u64], n: Node) -> u64
-    requires { CoreFormed ws.now (node_of n) }
-    ensures { result ≡ closed_width ws.now (node_of n) }
-{
-    match Shape::from(n.kind) {
-        Shape::Var => n.a,
-        Shape::Const => n.b,
-        Shape::Binary(_) | Shape::Rotation(_) | Shape::Unary(_) => get(ws, n.a),
-        Shape::Extraction => n.a - n.b + 1,
-        Shape::Concat => get(ws, n.a) + get(ws, n.b),
-        Shape::Extension(_) => get(ws, n.a) + n.b,
-        Shape::Ite => get(ws, n.b),
-        Shape::Comparison(_) | Shape::Negation | Shape::Connective(_) => 1,
-        Shape::Select | Shape::Call | Shape::Unknown => 0,
+        Shape::Var => has_width(n.a).then_some(n.a),
+        Shape::Const => const_wf(nbits, n.a, n.b).then_some(n.b),
+        Shape::Binary(_) | Shape::Rotation(_) => bin_wf(ws, n.a, n.b).then_some(get(ws, n.a)),
+        Shape::Extraction => extracted(ws, n.a, n.b, n.c),
+        Shape::Concat => joined(ws, n.a, n.b),
+        Shape::Extension(_) => extended(ws, n.a, n.b),
+        Shape::Ite => ite_wf(ws, n.a, n.b, n.c).then_some(get(ws, n.b)),
+        Shape::Comparison(_) => bin_wf(ws, n.a, n.b).then_some(1),
+        Shape::Negation => earlier_of(ws, 1, n.a).then_some(1),
+        Shape::Connective(_) => bool_bin_wf(ws, n.a, n.b).then_some(1),
+        Shape::Unary(_) => un_wf(ws, n.a).then_some(get(ws, n.a)),
+        Shape::Select | Shape::Call | Shape::Unknown => None,
     }
 }

@@ -2,14 +2,26 @@
 use Prim.Native.Nat.{ℕ, suc, ◌+◌, ◌≤◌, ◌<◌}
 use mathlib.Core.Path.{◌≡◌, refl, ap, sym, ◌∙◌}
 use mathlib.Core.List.{List, ◌∷◌}
-use mathlib.Core.Bool.{true, false}
+use mathlib.Core.Bool.{Bool, true, false}
 use native.Mathlib.Omega.{arith}
 use native.Mathlib.Numerals.{add-one}
 use lib.ListN.{length, take, drop, get_or, set, length-set, drop_of_length-le}
 use lib.Seq.{drop-cons, take-suc-set, length-take-le}
+use Rattle.std.specs.Prelude.{None, Some}
+use Rattle.std.specs.Bool.{then_some}
 use Rattle.echo_spec.specs.Input.{ArrayWidths, Node, no_node}
 use Rattle.echo_spec.specs.Widths.{node_wf, node_width, ext_wf_from, ext_wf_of}
 use Rattle.sliver_kernel.specs.Pass.{Passed, from-formed, from-refused}
+
+-- ---------------------------------------------------------------- an answer of a node
+
+none : (b : Bool) (w : ℕ) → None ≡ then_some b w → b ≡ false
+none true w e = cc
+none false w e = refl
+
+some : (b : Bool) (v w : ℕ) → Some v ≡ then_some b w → (b ≡ true) × (v ≡ w)
+some true v w e = (refl, cc)
+some false v w e = cc
 
 -- ---------------------------------------------------------------- the loop
 
@@ -42,12 +54,13 @@ module _ {nbits : ℕ} {arrays : ArrayWidths} {side : List ℕ} {ns : List Node}
     next : drop i ns ≡ x ∷ drop (suc i) ns
     next = drop-cons ns i no_node (omega (arith, h.all)) ∙ ap (λ (y : Node). y ∷ drop (suc i) ns) at
 
-    pub going-stops : node_wf nbits arrays side (take i ws) x ≡ false → Passed nbits arrays side ns i ws
-    going-stops e = stopped (h.rest ∙ rw next (from-refused nbits arrays side (take i ws) x (drop (suc i) ns) e))
+    pub going-stops : None ≡ then_some (node_wf nbits arrays side (take i ws) x) (node_width arrays (take i ws) x) → Passed nbits arrays side ns i ws
+    going-stops e = stopped (h.rest ∙ rw next (from-refused nbits arrays side (take i ws) x (drop (suc i) ns) (none _ _ e)))
 
-    pub going_next : {w : ℕ} → node_wf nbits arrays side (take i ws) x ≡ true → w ≡ node_width arrays (take i ws) x
+    pub going_next : {w : ℕ} → Some w ≡ then_some (node_wf nbits arrays side (take i ws) x) (node_width arrays (take i ws) x)
         → Going nbits arrays side ns n lent (set ws i w) (i + 1)
-    going_next {w} e f =
+    going_next {w} e =
+        let p = some _ _ _ e in
         let m : i < length ws = omega (arith, h.all, h.size) in
         record {
           all = h.all;
@@ -55,5 +68,5 @@ module _ {nbits : ℕ} {arrays : ArrayWidths} {side : List ℕ} {ns : List Node}
           within = omega arith;
           rest =
               h.rest
-              ∙ rw (next, add-one, take-suc-set ws i w m, f) (from-formed nbits arrays side (take i ws) x (drop (suc i) ns) e);
+              ∙ rw (next, add-one, take-suc-set ws i w m, p.1) (from-formed nbits arrays side (take i ws) x (drop (suc i) ns) p.0);
         }

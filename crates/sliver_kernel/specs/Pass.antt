@@ -5,13 +5,6 @@ use Rattle.std.proofs.Common.{ap, sym, ◌∙◌, arith, length-append, length-t
 use Rattle.echo_spec.specs.Input.{ArrayWidths, Node}
 use Rattle.echo_spec.specs.Widths.{node_wf, node_width, ext_wf_from, ext_wf_of}
 
--- `ext_node_wf` accepts the node, with some number of bits, some arrays and some side entries
-pub record ExtFormed (ws : List ℕ) (n : Node) : Type 0 where
-  pub nbits : ℕ
-  pub arrays : ArrayWidths
-  pub side : List ℕ
-  pub accepted : node_wf nbits arrays side ws n ≡ true
-
 -- r nodes come before the first that is not well formed, and the first r places of ws have their widths
 pub record Passed (nbits : ℕ) (arrays : ArrayWidths) (side : List ℕ) (ns : List Node) (r : ℕ) (ws : List ℕ) : Type 0 where
   pub count : r ≡ length (ext_wf_of nbits arrays side ns)

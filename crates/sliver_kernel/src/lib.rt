@@ -4,6 +4,7 @@
 #![tactic(auto)]
 
 ghost use Rattle.std.specs.Prelude.{◌≡◌, ◌&&◌, ◌≤◌, ltb, length, drop};
+ghost use Rattle.std.specs.Bool.{then_some};
 ghost use Rattle.lists.specs.Tests.{every};
 ghost use Rattle.echo_spec.specs.Input.{array_columns, pass_within, nodes_of, fits64};
 ghost use Rattle.echo_spec.specs.Widths as widths;
@@ -11,7 +12,7 @@ ghost use Rattle.lent.specs.Records.{node_of};
 ghost use Rattle.lent.specs.Clearing.{left};
 ghost use Rattle.echo_spec.specs.Answers.{ext_wf_answer};
 ghost use Rattle.sliver_kernel.specs.Arrays.{columns_of};
-ghost use Rattle.sliver_kernel.specs.Pass.{ExtFormed, Passed};
+ghost use Rattle.sliver_kernel.specs.Pass.{Passed};
 ghost use Rattle.sliver_kernel.specs.Outcomes.{Measured, answered};
 ghost use Rattle.sliver_kernel.specs.Outcomes as outcomes;
 ghost use Rattle.refusals.specs.Numbers.{error_number};
@@ -157,52 +158,37 @@ impl<'a> Pass<'a> {
         }
     }
 
-    // Array number, index, side start and number of stores.
-    fn select_wf(&self, ws: &[u64], array: u64, i: u64, s: u64, n: u64) -> bool
-        ensures { result ≡ (widths.earlier_of ws.now (widths.index_width_of self.now.arrays.index.now array) i
+    // The width of a select: array number, index, side start and number of stores.
+    fn select_width(&self, ws: &[u64], array: u64, i: u64, s: u64, n: u64) -> Option<u64>
+        ensures { result ≡ then_some (widths.earlier_of ws.now (widths.index_width_of self.now.arrays.index.now array) i
             && widths.chain_wf (widths.index_width_of self.now.arrays.index.now array) (widths.value_width_of self.now.arrays.value.now array) ws.now n
-            (drop s self.now.side.now)) }
+            (drop s self.now.side.now)) (widths.value_width_of self.now.arrays.value.now array) }
     {
         let arrays = self.arrays;
         let index = arrays.index_of(array);
         let value = arrays.value_of(array);
-        earlier_of(ws, index, i) && chain_wf(ws, self.side, index, value, s, n)
+        (earlier_of(ws, index, i) && chain_wf(ws, self.side, index, value, s, n)).then_some(value)
     }
 
-    // Width, side start and number of arguments.
-    fn call_wf(&self, ws: &[u64], w: u64, s: u64, n: u64) -> bool
-        ensures { result ≡ (ltb 0 w && (fits64 w && widths.args_wf ws.now n (drop s self.now.side.now))) }
+    // The width of a call: that, side start and number of arguments.
+    fn call_width(&self, ws: &[u64], w: u64, s: u64, n: u64) -> Option<u64>
+        ensures { result ≡ then_some (ltb 0 w && (fits64 w && widths.args_wf ws.now n (drop s self.now.side.now))) w }
     {
-        kernel::has_width(w) && args_wf(ws, self.side, s, n)
+        (kernel::has_width(w) && args_wf(ws, self.side, s, n)).then_some(w)
     }
 
-    // Is the node well formed after nodes of the widths `ws`. (The Rust's `ext_node_wf`, but that a kind stands for the case of
-    // `ExtNode`.) Ruled out: a call of width 0; a select whose chain is not looked at.
-    #[tactic(auto, unfolding(echo_spec::specs::Widths::node_wf, echo_spec::specs::Widths::wf_as))]
-    pub fn node_wf(&self, ws: &[u64], n: Node) -> bool
-        ensures { result ≡ widths.node_wf self.now.nbits (columns_of self.now.arrays) self.now.side.now ws.now (node_of n) }
-    {
-        match Shape::from(n.kind) {
-            Shape::Select => self.select_wf(ws, n.a, n.b, n.c, n.d),
-            Shape::Call => self.call_wf(ws, n.b, n.c, n.d),
-            _ => kernel::node_wf(ws, self.nbits, n),
-        }
-    }
-
-    // The width of a node that `node_wf` accepted. (The Rust's `ext_node_width`.) Ruled out: a select as wide as its index; a call as wide
-    // as its first argument.
-    #[tactic(auto, unfolding(echo_spec::specs::Widths::node_width, echo_spec::specs::Widths::width_as))]
-    pub fn node_width(&self, ws: &[u64], n: Node) -> u64
-        requires { ExtFormed ws.now (node_of n) }
-        ensures { result ≡ widths.node_width (columns_of self.now.arrays) ws.now (node_of n) }
+    // The width of the node, if it is well formed after nodes of the widths `ws`. (The Rust's `ext_node_wf` and `ext_node_width` at once, but that a
+    // kind stands for the case of `ExtNode`.) Ruled out: a call of width 0; a select whose chain is not looked at; a select as wide as its index; a call
+    // as wide as its first argument.
+    #[tactic(auto, unfolding(echo_spec::specs::Widths::node_wf, echo_spec::specs::Widths::wf_as, echo_spec::specs::Widths::node_width, echo_spec::specs::Widths::width_as))]
+    pub fn node_width(&self, ws: &[u64], n: Node) -> Option<u64>
+        ensures { result ≡ then_some (widths.node_wf self.now.nbits (columns_of self.now.arrays) self.now.side.now ws.now (node_of n))
+            (widths.node_width (columns_of self.now.arrays) ws.now (node_of n)) }
     {
         match Shape::from(n.kind) {
-            Shape::Select => {
-                let arrays = self.arrays;
-                arrays.value_of(n.a)
-            }
-            Shape::Call => n.b,
-            _ => kernel::node_width(ws, n),
+            Shape::Select => self.select_width(ws, n.a, n.b, n.c, n.d),
+            Shape::Call => self.call_width(ws, n.b, n.c, n.d),
+            _ => kernel::node_width(ws, self.nbits, n),
         }
     }
 
@@ -216,10 +202,9 @@ impl<'a> Pass<'a> {
         // Kept: by places, since a width is made from those before; and the answer is a count, which is what the definition `Passed` tells.
         for i in 0..count {
             let node = node_at(nodes, i);
-            if !self.node_wf(&ws[..i], node) {
+            let Some(w) = self.node_width(&ws[..i], node) else {
                 return i;
-            }
-            let w = self.node_width(&ws[..i], node);
+            };
             ws[i] = w;
         }
         count

@@ -1,6 +1,6 @@
 -- `allowed` meets its contract: a range from 1 on. Assumes nothing.
 use Rattle.std.specs.Prelude.{ℕ, ◌≡◌, ltb, leb}
-use Rattle.std.proofs.Common.{◌∙◌, arith}
+use Rattle.std.proofs.Common.{arith}
 use Rattle.std.specs.Ordering.{nat_cmp, is_le}
 use Rattle.std.proofs.lemmas.Bool.Decides.{nat_tests}
 use Rattle.sliver_kernel.proofs.allowed.Goals as goal

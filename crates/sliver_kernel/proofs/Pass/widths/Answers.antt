@@ -14,33 +14,18 @@ loop-i-init c = going_start c.node_count-count.ensures
 pub node_at-node-requires : goal.node_at-node-requires
 node_at-node-requires c = omega (arith, nodes-length c.args.nodes.now)
 
-pub slice_bounds-node_wf-end-in-loop-i : goal.slice_bounds-node_wf-end-in-loop-i
-slice_bounds-node_wf-end-in-loop-i c =
-    sym (length-take-le c.loop-i.i c.loop-i.ws (omega arith))
-
-pub returns-then-not-node_wf : goal.returns-then-not-node_wf
-returns-then-not-node_wf c =
-    let taken : get_or (nodes_of ((c.args.nodes.now))) c.loop-i.i no_node ≡ node_of c.node_at-node.result = nodes-at ((c.args.nodes.now)) no_node _ (omega (arith, nodes-length ((c.args.nodes.now)))) ∙ sym c.node_at-node.ensures in
-    going-stops c.loop-i.invariant
-    c.requires _ (taken)
-    c.loop-i-test.true (sym c.node_wf.ensures ∙ c.if-not-node_wf.true)
-
 pub slice_bounds-node_width-end-in-loop-i : goal.slice_bounds-node_width-end-in-loop-i
-slice_bounds-node_width-end-in-loop-i c =
-    sym (length-take-le c.loop-i.i
-    c.loop-i.ws (omega arith))
+slice_bounds-node_width-end-in-loop-i c = sym (length-take-le c.loop-i.i c.loop-i.ws (omega arith))
 
-pub node_width-w-requires : goal.node_width-w-requires
-node_width-w-requires c =
-    record { nbits = _; arrays = _; side = _; accepted = sym c.node_wf.ensures ∙ c.if-not-node_wf.false }
+pub returns-in_default : goal.returns-in_default
+returns-in_default c =
+    let taken : get_or (nodes_of ((c.args.nodes.now))) c.loop-i.i no_node ≡ node_of c.node_at-node.result = nodes-at ((c.args.nodes.now)) no_node _ (omega (arith, nodes-length ((c.args.nodes.now)))) ∙ sym c.node_at-node.ensures in
+    going-stops c.loop-i.invariant c.requires _ taken c.loop-i-test.true (sym c.in_default.is ∙ c.node_width.ensures)
 
 pub loop-i-preserved : goal.loop-i-preserved
 loop-i-preserved c =
     let taken : get_or (nodes_of ((c.args.nodes.now))) c.loop-i.i no_node ≡ node_of c.node_at-node.result = nodes-at ((c.args.nodes.now)) no_node _ (omega (arith, nodes-length ((c.args.nodes.now)))) ∙ sym c.node_at-node.ensures in
-    going_next c.loop-i.invariant
-    c.requires _
-    (taken) c.loop-i-test.true
-    (sym c.node_wf.ensures ∙ c.if-not-node_wf.false) c.node_width-w.ensures
+    going_next c.loop-i.invariant c.requires _ taken c.loop-i-test.true (sym c.in-Some.is ∙ c.node_width.ensures)
 
 pub returns : goal.returns
 returns c = going-ends c.loop-i.invariant c.requires c.loop-i-test.false
