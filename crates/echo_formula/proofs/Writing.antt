@@ -88,6 +88,15 @@ each_of : {P Q : Operand → Type 0} → ((x : Operand) → P x → Q x) → (xs
 each_of f [] h = tt
 each_of f (x ∷ xs) h = (f x h.0, each_of f xs h.1)
 
+-- ---------------------------------------------------------------- tests of every kind
+
+abbrev fits : Bool → Bool → Bool
+fits a b = elim a [ true ↦ b | false ↦ true ]
+
+-- what follows for each kind by a computed test of all
+of-kind : (p q : ℕ → Bool) → T (every_from (λ k. fits (p k) (q k)) 0 39) → (k : ℕ) → k < 39 → p k ≡ true → T (q k)
+of-kind p q t k h e = subst (λ (b : Bool). T (fits b (q k))) e (every-at (λ k. fits (p k) (q k)) 0 39 t k (omega arith) (omega arith))
+
 -- ---------------------------------------------------------------- operators between their operands
 
 -- the shapes that they have
@@ -105,16 +114,12 @@ by_two P b c r o comparison h = r
 by_two P b c r o connective h = o
 by_two P b c r o _ h = absurd h
 
-abbrev fits : ℕ → Bool → Bool
-fits k b = elim b [ true ↦ two (shape_of k) | false ↦ true ]
-
-infix-kinds : T (every_from (λ k. fits k (ltb (level_of k) 10)) 0 39)
+infix-kinds : T (every_from (λ k. fits (ltb (level_of k) 10) (two (shape_of k))) 0 39)
 unfolding shapes notations
 infix-kinds = tt
 
 infix-kind : (k : ℕ) → k < 39 → level_of k < 10 → T (two (shape_of k))
-infix-kind k h l =
-    subst (λ (b : Bool). T (fits k b)) (lt-ltb (level_of k) 10 l) (every-at (λ k. fits k (ltb (level_of k) 10)) 0 39 infix-kinds k (omega arith) (omega arith))
+infix-kind k h l = of-kind (λ k. ltb (level_of k) 10) (λ k. two (shape_of k)) infix-kinds k h (lt-ltb (level_of k) 10 l)
 
 -- ---------------------------------------------------------------- named shapes that are told apart
 
@@ -126,17 +131,13 @@ is_named select = true
 is_named call = true
 is_named _ = false
 
-abbrev named_fits : ℕ → Bool → Bool
-named_fits k b = elim b [ true ↦ eqb (level_of k) 11 | false ↦ true ]
-
-named-kinds : T (every_from (λ k. named_fits k (is_named (shape_of k))) 0 39)
+named-kinds : T (every_from (λ k. fits (is_named (shape_of k)) (eqb (level_of k) 11)) 0 39)
 unfolding shapes notations
 named-kinds = tt
 
 named-level : (k : ℕ) → k < 39 → T (is_named (shape_of k)) → level_of k ≡ 11
 named-level k h n =
-    eqb→eq (level_of k) 11
-    (subst (λ (b : Bool). T (named_fits k b)) (T→true (is_named (shape_of k)) n) (every-at (λ k. named_fits k (is_named (shape_of k))) 0 39 named-kinds k (omega arith) (omega arith)))
+    eqb→eq (level_of k) 11 (of-kind (λ k. is_named (shape_of k)) (λ k. eqb (level_of k) 11) named-kinds k h (T→true (is_named (shape_of k)) n))
 
 -- ---------------------------------------------------------------- an operator before its operand
 
@@ -145,16 +146,12 @@ is_prefix negation = true
 is_prefix unary = true
 is_prefix _ = false
 
-abbrev prefix_fits : ℕ → Bool → Bool
-prefix_fits k b = elim b [ true ↦ is_prefix (shape_of k) | false ↦ true ]
-
-prefix-kinds : T (every_from (λ k. prefix_fits k (eqb (level_of k) 10)) 0 39)
+prefix-kinds : T (every_from (λ k. fits (eqb (level_of k) 10) (is_prefix (shape_of k))) 0 39)
 unfolding shapes notations
 prefix-kinds = tt
 
 prefix-kind : (k : ℕ) → k < 39 → level_of k ≡ 10 → T (is_prefix (shape_of k))
-prefix-kind k h l =
-    subst (λ (b : Bool). T (prefix_fits k b)) (ap (λ (n : ℕ). eqb n 10) l) (every-at (λ k. prefix_fits k (eqb (level_of k) 10)) 0 39 prefix-kinds k (omega arith) (omega arith))
+prefix-kind k h l = of-kind (λ k. eqb (level_of k) 10) (λ k. is_prefix (shape_of k)) prefix-kinds k h (ap (λ (n : ℕ). eqb n 10) l)
 
 by_prefix : (P : Shape → Type 0) → P negation → P unary → (s : Shape) → T (is_prefix s) → P s
 by_prefix P n u negation h = n
@@ -276,12 +273,12 @@ module _ (W : Walk) where
   count_fits (Arguments s n) l = omega (arith, W.ready.entries)
 
   module _ (kind own : ℕ) (f : Form) where
-    -- of stores and arguments
     -- one inside parentheses
     pub last-all : own ≡ 11 → {a : ℕ} {w : Bool} → f ≡ One a w → {q : Page} (p : Page) → q ≡ written p (placed_at W 0 a ++ bytes ")") → q ≡ written p (operands_text W kind (pieces_of own side f))
     unfolding pieces_of one_pieces pieces_text behind_text bytes
     last-all h e p w = rw (e, h) w
 
+    -- stores, and arguments
     pub chain-all : {j s n : ℕ} → f ≡ Chain j s n → {q : Page} (p : Page) → q ≡ written p (list_text W (chain_pieces side j s n)) → q ≡ written p (operands_text W kind (pieces_of own side f))
     unfolding pieces_of
     chain-all e p w = rw e (w ∙ ap (written p) (chain-any g (sign_of kind) side _ _ _))

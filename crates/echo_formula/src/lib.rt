@@ -1,5 +1,5 @@
-// A node as a formula: functions that call each other, the level that is wanted passed down: leaves, operators between their operands,
-// named shapes with one operand, stores, arguments, and all others, with a loop over the operands.
+// A node as a formula: functions that call each other, the level that is wanted passed down: leaves, operators between their operands and before
+// one, named shapes with one operand, stores, arguments, and all others, with a loop over the operands.
 //
 // A place that came back from a writer is taken apart before it is handed on, and `lim` stands among the arguments, as in the walk.
 #![tactic(auto)]
@@ -7,7 +7,6 @@
 ghost use Rattle.std.specs.Prelude.{◌≡◌, ◌++◌, ◌≤◌, ◌<◌, get_or};
 ghost use Rattle.lists.specs.Bytes.{bytes as literal};
 ghost use Rattle.echo_bytes.specs.Page.{page, written};
-ghost use Rattle.echo_tables.specs.Uses.{FormInside};
 ghost use Rattle.echo_walk.specs.Operands.{OverForm};
 ghost use Rattle.echo_walk.specs.Walks.{problem_in, node_within, Fine, Under, TermAt};
 ghost use Rattle.echo_pieces.specs.declared.TheConstants.{PREFIX, CLOSED};
@@ -20,9 +19,7 @@ ghost use Rattle.echo_formula.specs.Texts.{bracket_text, form_at, list_text, ope
 use blast_kernel::Shape;
 use echo_bytes::Place;
 use echo_openings::{open_leaf, open_term};
-use echo_pieces::{
-    Notation, PREFIX, Piece, count, level, operand, push_behind, push_between, push_sign,
-};
+use echo_pieces::{Notation, PREFIX, Piece, count, level, operand, push_behind, push_between};
 use echo_tables::{Form, operands};
 use echo_walk::Walk;
 use lent::get;
@@ -243,16 +240,17 @@ fn formula_operands(walk: &Walk, p: Place, i: u64, kind: u8, n: u64, out: &mut [
     q
 }
 
-// A sign before one operand.
+// A sign before one operand. The sign is what is told of its kind.
 #[cycle(formula)]
 #[inline(always)]
-fn formula_prefix(walk: &Walk, p: Place, i: u64, l: u64, out: &mut [u8]) -> Place
-    requires { Fine walk.now i × (level_of (node_within walk.now i).kind ≡ PREFIX) }
+fn formula_prefix(walk: &Walk, p: Place, i: u64, l: u64, sign: &[u8], out: &mut [u8]) -> Place
+    requires fine { Fine walk.now i × (level_of (node_within walk.now i).kind ≡ PREFIX) }
+    requires sign { sign.now ≡ sign_of (node_within walk.now i).kind }
     ensures { page result out.new ≡ written (page p out.old) (placed_at walk.now l i) }
 {
     let n = walk.node(i);
     let a = push_bracket(PREFIX < l, b'(', p, out);
-    let b = push_sign(n.kind, a, out);
+    let b = a.word(out, sign);
     let c = formula_node(
         walk,
         Place {
@@ -278,7 +276,7 @@ fn formula_prefix(walk: &Walk, p: Place, i: u64, l: u64, out: &mut [u8]) -> Plac
 #[cycle(formula)]
 #[inline(never)]
 fn formula_other(walk: &Walk, p: Place, i: u64, l: u64, out: &mut [u8]) -> Place
-    requires { Fine walk.now i × TermAt walk.now i × (l ≤ CLOSED) }
+    requires { Fine walk.now i × TermAt walk.now i }
     ensures { page result out.new ≡ written (page p out.old) (placed_at walk.now l i) }
 {
     let n = walk.node(i);
@@ -380,13 +378,13 @@ fn formula_named(walk: &Walk, p: Place, i: u64, l: u64, out: &mut [u8]) -> Place
 #[cycle(formula)]
 #[inline(never)]
 fn formula_term(walk: &Walk, p: Place, i: u64, l: u64, out: &mut [u8]) -> Place
-    requires { Fine walk.now i × TermAt walk.now i × (l ≤ CLOSED) }
+    requires { Fine walk.now i × TermAt walk.now i }
     ensures { page result out.new ≡ written (page p out.old) (placed_at walk.now l i) }
 {
     let n = walk.node(i);
     match Notation::from(n.kind) {
         Notation::Between(own, sign) => formula_infix(walk, p, i, l, own, sign, out),
-        Notation::Before(_) => formula_prefix(walk, p, i, l, out),
+        Notation::Before(sign) => formula_prefix(walk, p, i, l, sign, out),
         Notation::Named => formula_other(walk, p, i, l, out),
     }
 }

@@ -6,7 +6,7 @@ use native.Mathlib.Omega.{arith}
 use lib.ListN.{length, get_or, set}
 use Rattle.echo_spec.specs.Render.{binary_digits}
 use Rattle.echo_bytes.proofs.Digits.{digit_at, length_digits}
-use Rattle.echo_pieces.proofs.Storing.{Stored, stored_more}
+use Rattle.echo_openings.proofs.Storing.{Stored, stored_more}
 
 -- digit j, which is the next
 pub digit-stored : (bits : List ℕ) (j m : ℕ) → m ≡ j + 1 → {out : List ℕ} → Stored (binary_digits bits) j out → j < length bits → {i : ℕ} → i ≡ j → {k : ℕ} → k ≡ length bits - 1 - j

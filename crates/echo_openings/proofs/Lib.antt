@@ -1,2 +1,3 @@
 pub mod Digits
 pub mod Opening
+pub mod Storing

@@ -34,7 +34,7 @@ fn digit(bits: &[u8], i: usize) -> u8
 // The digits of bits, the highest first, for a multiple of eight.
 // Kept: eight are read before one is stored, which is compiled to one load and one store.
 #[inline(always)]
-fn copy_eights(to: &mut [u8], bits: &[u8])
+fn write_eights(to: &mut [u8], bits: &[u8])
     requires { (length to.old ≡ length bits.now) × (length bits.now % 8 ≡ 0) × T (every (λ b. leb b 1) bits.now) }
     ensures { to.new ≡ binary_digits bits.now }
 {
@@ -73,7 +73,7 @@ fn any_constant(bits: &[u8], p: Place, out: &mut [u8]) -> Place
 // `#b0101`, one piece where it fits.
 // Kept: apart for widths that are multiples of eight up to 64; beyond that the compiler's own loop is as fast.
 #[inline(always)]
-fn push_constant(bits: &[u8], p: Place, out: &mut [u8]) -> Place
+fn write_constant(bits: &[u8], p: Place, out: &mut [u8]) -> Place
     requires { T (every (λ b. leb b 1) bits.now) }
     ensures { page result out.new ≡ written (page p out.old) (literal "#b" ++ binary_digits bits.now) }
 {
@@ -82,7 +82,7 @@ fn push_constant(bits: &[u8], p: Place, out: &mut [u8]) -> Place
         if bits.len() % 8 == 0 && bits.len() <= 64 {
             out[p.at] = b'#';
             out[p.at + 1] = b'b';
-            copy_eights(&mut out[p.at + 2..p.at + all], bits);
+            write_eights(&mut out[p.at + 2..p.at + all], bits);
             return p.moved(all, all);
         }
     }
@@ -167,7 +167,7 @@ fn open_constant(walk: &Walk, p: Place, i: u64, out: &mut [u8]) -> Place
     requires { Constant walk.now i }
     ensures { page result out.new ≡ written (page p out.old) (literal "#b" ++ binary_digits (constant_bits (problem_in walk.now).bits (node_within walk.now i))) }
 {
-    push_constant(walk.constant(i), p, out)
+    write_constant(walk.constant(i), p, out)
 }
 
 // All of a leaf: a variable's name or a constant. Ruled out: a name without its bars; a constant with its lowest bit first.
@@ -185,7 +185,7 @@ pub fn open_leaf(walk: &Walk, p: Place, i: u64, out: &mut [u8]) -> Place
 
 // The opening of node i, which is no leaf. Ruled out: a sign before the first operand of `+`; an extraction's numerals
 // exchanged.
-// Kept: compiled into its callers, which know the shape.
+// Kept: compiled into its callers, one of which knows the shape.
 #[inline(always)]
 pub fn open_term(walk: &Walk, p: Place, i: u64, out: &mut [u8]) -> Place
     requires { TermAt walk.now i }

@@ -6,6 +6,7 @@
 ghost use Rattle.std.specs.Prelude.{◌≡◌, ◌++◌, ◌+◌, ◌^◌, ◌≤◌, ◌<◌, length, get_or, drop};
 ghost use Rattle.echo_bytes.specs.Page.{page, written};
 ghost use Rattle.echo_tables.specs.Uses.{FormInside};
+ghost use Rattle.echo_pieces.specs.declared.TheConstants.{WORD};
 ghost use Rattle.echo_pieces.specs.Signs.{sign_of, level_of};
 ghost use Rattle.echo_pieces.specs.Notated.{Notated};
 ghost use Rattle.echo_pieces.specs.Pieces.{piece, behind_text, one_pieces, two_pieces, choice_pieces, chain_pieces, arg_pieces, pieces_of, count_of};
@@ -18,80 +19,38 @@ use lent::{at, get};
 
 // ---------------------------------------------------------------- words
 
-// All of w, as its first two bytes and its last two, which may be the same.
-// Kept: all are read before one is stored, so that two bytes are one load and one store; so it is in `copy_threes`.
+// All of w, its first N bytes and its last N, which may be the same in part. Compiled into its callers.
+// Kept: both are read before one is stored, so that each is one load and one store.
 #[inline(always)]
-fn copy_twos(to: &mut [u8], w: &[u8])
-    requires { (length to.old ≡ length w.now) × (2 ≤ length w.now) × (length w.now ≤ 4) }
+fn copy_ends<const N: usize>(to: &mut [u8], w: &[u8])
+    requires { (length to.old ≡ length w.now) × (N ≤ length w.now) × (length w.now ≤ N + N) }
     ensures { to.new ≡ w.now }
 {
-    let last = w.len() - 2;
-    let a = w[0];
-    let b = w[1];
-    let y = w[last];
-    let z = w[last + 1];
-    to[0] = a;
-    to[1] = b;
-    to[last] = y;
-    to[last + 1] = z;
+    let rest = w.len() - N;
+    let mut first = [0u8; N];
+    first.copy_from_slice(&w[..N]);
+    let mut last = [0u8; N];
+    last.copy_from_slice(&w[rest..]);
+    to[..N].copy_from_slice(&first);
+    to[rest..].copy_from_slice(&last);
 }
 
-// The same with three.
-#[inline(always)]
-fn copy_threes(to: &mut [u8], w: &[u8])
-    requires { (length to.old ≡ length w.now) × (3 ≤ length w.now) × (length w.now ≤ 6) }
-    ensures { to.new ≡ w.now }
-{
-    let last = w.len() - 3;
-    let a = w[0];
-    let b = w[1];
-    let c = w[2];
-    let x = w[last];
-    let y = w[last + 1];
-    let z = w[last + 2];
-    to[0] = a;
-    to[1] = b;
-    to[2] = c;
-    to[last] = x;
-    to[last + 1] = y;
-    to[last + 2] = z;
-}
+// The longest word that is stored as one piece: a block of eight bytes twice.
+const WORD: usize = 16;
 
-// All of w, the first k bytes and the last k, which may be the same in part. Compiled into its callers, which know k.
-#[inline(always)]
-fn copy_ends(to: &mut [u8], w: &[u8], k: usize)
-    requires { (length to.old ≡ length w.now) × (k ≤ length w.now) × (length w.now ≤ k + k) }
-    ensures { to.new ≡ w.now }
-{
-    let rest = w.len() - k;
-    to[..k].copy_from_slice(&w[..k]);
-    to[rest..].copy_from_slice(&w[rest..]);
-}
-
-// All of w, a word of at most 16 bytes.
+// All of w, a word that is no longer than that.
 // Kept: by its length, as two blocks of a known one: most signs and names are a few bytes, and a loop takes twice as many instructions for them.
 #[inline(always)]
 fn copy_word(to: &mut [u8], w: &[u8])
-    requires { (length to.old ≡ length w.now) × (length w.now ≤ 16) }
+    requires { (length to.old ≡ length w.now) × (length w.now ≤ WORD) }
     ensures { to.new ≡ w.now }
 {
     match w.len() {
         0 => {}
         1 => to[0] = w[0],
-        2..=3 => copy_twos(to, w),
-        4..=7 => copy_ends(to, w, 4),
-        _ => copy_ends(to, w, 8),
-    }
-}
-
-// All of w. Compiled into its callers, which know it.
-#[inline(always)]
-fn copy_known(to: &mut [u8], w: &[u8])
-    requires { length to.old ≡ length w.now }
-    ensures { to.new ≡ w.now }
-{
-    for i in 0..w.len() {
-        to[i] = w[i];
+        2..=3 => copy_ends::<2>(to, w),
+        4..=7 => copy_ends::<4>(to, w),
+        _ => copy_ends::<8>(to, w),
     }
 }
 
@@ -104,21 +63,21 @@ fn push_apart(a: &[u8], w: &[u8], b: &[u8], p: Place, out: &mut [u8]) -> Place
     p.word(out, a).word(out, w).word(out, b)
 }
 
-// A word between two others, one piece where it is short and fits. Compiled into its callers, which know the other two. Ruled out: the last word left
-// out; the three counted as far as they were written.
+// A word between two others, one piece where it is short and fits. Compiled into its callers, which know the other two: their bounds keep the sum of
+// the three below 2^64. Ruled out: the last word left out; the three counted as far as they were written.
 #[inline(always)]
 pub fn push_enclosed(a: &[u8], w: &[u8], b: &[u8], p: Place, out: &mut [u8]) -> Place
-    requires { (length a.now ≤ 16) × (length b.now ≤ 16) }
+    requires { (length a.now ≤ WORD) × (length b.now ≤ WORD) }
     ensures { page result out.new ≡ written (page p out.old) (a.now ++ (w.now ++ b.now)) }
 {
     let first = a.len();
     let last = first + w.len();
     let all = last + b.len();
     if p.at < out.len() && all <= out.len() - p.at {
-        if w.len() <= 16 {
-            copy_known(&mut out[p.at..p.at + first], a);
+        if w.len() <= WORD {
+            out[p.at..p.at + first].copy_from_slice(a);
             copy_word(&mut out[p.at + first..p.at + last], w);
-            copy_known(&mut out[p.at + last..p.at + all], b);
+            out[p.at + last..p.at + all].copy_from_slice(b);
             return p.moved(all, all);
         }
     }
@@ -213,7 +172,7 @@ pub fn push_between(sign: &[u8], p: Place, out: &mut [u8]) -> Place
 {
     let n = sign.len();
     if 3 <= n && n <= 6 && p.at < out.len() && n <= out.len() - p.at {
-        copy_threes(&mut out[p.at..p.at + n], sign);
+        copy_ends::<3>(&mut out[p.at..p.at + n], sign);
         return p.moved(n, n);
     }
     push_apart(b"", sign, b"", p, out)

@@ -125,16 +125,16 @@ formula_other-returns t c =
     other-done c.args.walk.now c.args.i c.requires.0 c.node-n.ensures (form-own c.args.walk.now c.args.i c.requires.0 c.node-n.ensures) c.level-own.ensures c.args.l _ c.push_bracket-a.ensures c.open_term-b.ensures c.formula_operands-c.ensures c.push_bracket.ensures
 
 pub formula_prefix-node-n-requires : goal.formula_prefix-node-n-requires
-formula_prefix-node-n-requires t c = node-inside c.args.walk.now c.args.i c.requires.0
+formula_prefix-node-n-requires t c = node-inside c.args.walk.now c.args.i c.requires.fine.0
 
 pub formula_prefix-formula_node-c-requires : goal.formula_prefix-formula_node-c-requires
 formula_prefix-formula_node-c-requires t c =
-    let x = one_under c.args.walk.now c.args.i c.requires.0 c.node-n.ensures c.requires.1 in
+    let x = one_under c.args.walk.now c.args.i c.requires.fine.0 c.node-n.ensures c.requires.fine.1 in
     (lower _ _ _ _ c.decreases x.below (omega arith), (x.fine, omega arith))
 
 pub formula_prefix-returns : goal.formula_prefix-returns
 formula_prefix-returns t c =
-    prefix-done c.args.walk.now c.args.i c.requires.0 c.node-n.ensures c.requires.1 c.args.l (ap (λ (n : Node). sign_of n.kind) c.node-n.ensures) _ c.push_bracket-a.ensures c.push_sign-b.ensures c.formula_node-c.ensures c.push_bracket.ensures
+    prefix-done c.args.walk.now c.args.i c.requires.fine.0 c.node-n.ensures c.requires.fine.1 c.args.l c.requires.sign _ c.push_bracket-a.ensures c.word-b.ensures c.formula_node-c.ensures c.push_bracket.ensures
 
 pub formula_named-node-n-requires : goal.formula_named-node-n-requires
 formula_named-node-n-requires t c = node-inside c.args.walk.now c.args.i c.requires.0
@@ -180,7 +180,7 @@ formula_named-returns-in-Call t c =
     named-done c.args.walk.now c.args.i c.requires.0 c.node-n.ensures x.1 x.0 c.requires.2 _ (omega arith) c.open_term-b-in-Call.ensures (args-all c.args.walk.now c.node-n.result.kind (level_of c.node-n.result.kind) _ refl _ c.formula_args.ensures)
 
 pub formula_named-formula_other-requires : goal.formula_named-formula_other-requires
-formula_named-formula_other-requires t c = (fewer _ _ _ c.decreases (omega arith), c.requires)
+formula_named-formula_other-requires t c = (fewer _ _ _ c.decreases (omega arith), (c.requires.0, c.requires.1))
 
 pub formula_node-open_leaf-requires : goal.formula_node-open_leaf-requires
 formula_node-open_leaf-requires t c = leaf-found c.args.walk.now c.args.i c.requires.0 c.is_leaf.ensures c.if-is_leaf.true
@@ -195,7 +195,7 @@ formula_node-formula_named-requires t c =
 
 pub formula_node-formula_term-requires : goal.formula_node-formula_term-requires
 formula_node-formula_term-requires t c =
-    (fewer _ _ _ c.decreases (omega arith), (c.requires.0, term_found c.args.walk.now c.args.i c.requires.0 c.is_leaf.ensures c.if-is_leaf.false, c.requires.1))
+    (fewer _ _ _ c.decreases (omega arith), (c.requires.0, term_found c.args.walk.now c.args.i c.requires.0 c.is_leaf.ensures c.if-is_leaf.false))
 
 pub formula_term-node-n-requires : goal.formula_term-node-n-requires
 formula_term-node-n-requires t c = node-inside c.args.walk.now c.args.i c.requires.0
@@ -213,7 +213,11 @@ formula_term-formula_infix-requires t c =
 
 pub formula_term-formula_prefix-requires : goal.formula_term-formula_prefix-requires
 formula_term-formula_prefix-requires t c =
-    (fewer _ _ _ c.decreases (omega arith), (c.requires.0, sym (level-own c.args.walk.now c.args.i c.requires.0 c.node-n.ensures c.in-Before.ensures.level)))
+    let e = c.in-Before.ensures in
+    let n = c.node-n.ensures in (
+      fewer _ _ _ c.decreases (omega arith),
+      ((c.requires.0, sym (level-own c.args.walk.now c.args.i c.requires.0 n e.level)), sign-own c.args.walk.now c.args.i c.requires.0 n e.sign),
+    )
 
 pub formula_term-formula_other-requires : goal.formula_term-formula_other-requires
 formula_term-formula_other-requires t c = (fewer _ _ _ c.decreases (omega arith), c.requires)

@@ -7,7 +7,7 @@ use Rattle.echo_bytes.proofs.Copying.{written-whole}
 use Rattle.echo_pieces.proofs.push_between.Goals as goal
 
 pub returns-then-n-out : goal.returns-then-n-out
-returns-then-n-out c = written-whole _ _ _ _ _ refl (omega arith) c.copy_threes.ensures c.moved.ensures
+returns-then-n-out c = written-whole _ _ _ _ _ refl (omega arith) c.copy_ends.ensures c.moved.ensures
 
 pub returns : goal.returns
 returns c = c.push_apart.ensures ∙ ap (written _) (append-nil _)

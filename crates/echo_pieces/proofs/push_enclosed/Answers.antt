@@ -4,6 +4,6 @@ use native.Mathlib.Omega.{arith}
 use Rattle.echo_pieces.proofs.Enclosing.{written-enclosed}
 use Rattle.echo_pieces.proofs.push_enclosed.Goals as goal
 
-pub returns-then-w-le16 : goal.returns-then-w-le16
-returns-then-w-le16 c =
-    written-enclosed _ _ _ _ _ _ _ _ _ _ _ refl refl refl (omega arith) c.copy_known.ensures c.copy_word.ensures c.copy_known-then-w-le16.ensures c.moved.ensures
+pub returns-then-w-le-WORD : goal.returns-then-w-le-WORD
+returns-then-w-le-WORD c =
+    written-enclosed _ _ _ _ _ _ _ _ _ _ _ refl refl refl (omega arith) c.copy_from_slice.ensures.after c.copy_word.ensures c.copy_from_slice-then-w-le-WORD.ensures.after c.moved.ensures

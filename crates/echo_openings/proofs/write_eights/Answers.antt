@@ -1,10 +1,10 @@
--- `echo_openings::copy_eights` meets its contract: after each turn eight digits more are stored. Assumes nothing.
+-- `echo_openings::write_eights` meets its contract: after each turn eight digits more are stored. Assumes nothing.
 use Prim.Native.Nat.{◌+◌, ◌*◌}
 use native.Mathlib.Omega.{arith}
 use Rattle.echo_bytes.proofs.Digits.{length_digits}
-use Rattle.echo_pieces.proofs.Storing.{stored_none, stored_all}
+use Rattle.echo_openings.proofs.Storing.{stored_none, stored_all}
 use Rattle.echo_openings.proofs.Digits.{digit-stored}
-use Rattle.echo_openings.proofs.copy_eights.Goals as goal
+use Rattle.echo_openings.proofs.write_eights.Goals as goal
 
 pub loop-i-init : goal.loop-i-init
 loop-i-init c = stored_none _ (omega (arith, length_digits c.args.bits.now))
