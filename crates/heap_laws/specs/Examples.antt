@@ -16,7 +16,7 @@ too_wide : within (a_variable 4294967296 ∷ []) ≡ false
 unfolding within nodes_within records_bytes record_bytes records_from record_of joined bits_in side_in
 too_wide = refl
 
--- an even number is a node
+-- an even number below 2^63 is a node
 a-node : ref_at (bytes "#b110 #b0)") 6 ≡ here 3
 unfolding ref_at
 a-node = refl

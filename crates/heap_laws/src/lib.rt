@@ -52,8 +52,8 @@ pub struct Heap {
     pub constants: [Constant; CONSTANTS],
     // The node of the last constant of each hash.
     pub heads: [Option<u16>; HASHES],
-    // Kept: an operand as one number, even for a node and odd for a constant; an enum with a place of the script takes 16 bytes, and so the
-    // array 131,072 bytes more, which each script would have to clear.
+    // Kept: an operand as one number, a node or a constant as `ref_at` has it; an enum with a place of the script takes 16 bytes, and so the array
+    // 131,072 bytes more, which each script would have to clear.
     pub stack: [u64; STACK],
     pub records: [u8; NODES],
     pub bits: [u8; BITS],

@@ -50,6 +50,7 @@ pub fn assertions(script: &Script, from: usize) -> Option<usize>
 
 // The header: its names are in the table, and what each line declares; or that there is none. Ruled out: numbers that leave a table out; a place
 // before the header's last line.
+// Kept: one call, which says of the header what the terms are checked by.
 pub fn check_header(s: &[u8], t: &mut Table) -> Option<Header>
     requires { Empty t.old }
     ensures { TopTo s.now t.new result }

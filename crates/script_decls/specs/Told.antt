@@ -35,14 +35,14 @@ Tells zero s m v = v.width ≡ m.first
 Tells (suc zero) s m x = (x.index ≡ m.first) × (x.value ≡ m.second)
 Tells (suc (suc k)) s m g = SortsFrom s m.first g.arguments × (g.width ≡ m.second)
 
--- the rest of a line from place f on, whatever its name: what it tells, and the place after it
-abbrev pub TailTold : ℕ → List ℕ → ℕ → Maybe Rest → Type 0
-TailTold k s f None = (n : Name) → tail_of k n (drop f s) ≡ none
-TailTold k s f (Some t) = TailAt k s f t.end × ((n : Name) (x : LineType k) (z : List ℕ) → tail_of k n (drop f s) ≡ took x z → Tells k s t.measure x)
-
 -- what the rest of a line tells, whose name ends before place f, by the numbers m
 abbrev pub Telling : ℕ → List ℕ → ℕ → Measure → Type 0
 Telling k s f m = (n : Name) (x : LineType k) (z : List ℕ) → tail_of k n (drop f s) ≡ took x z → Tells k s m x
+
+-- the rest of a line from place f on, whatever its name: what it tells, and the place after it
+abbrev pub TailTold : ℕ → List ℕ → ℕ → Maybe Rest → Type 0
+TailTold k s f None = (n : Name) → tail_of k n (drop f s) ≡ none
+TailTold k s f (Some t) = TailAt k s f t.end × Telling k s f t.measure
 
 abbrev pub LineTold : ℕ → List ℕ → Maybe Declaration → Type 0
 LineTold k s None = Unit

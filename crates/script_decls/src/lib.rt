@@ -3,7 +3,6 @@
 #![tactic(auto)]
 
 ghost use Rattle.std.specs.Prelude.{◌≡◌, true, false, ◌+◌, ◌-◌, ◌≤◌, ◌<◌, length, drop};
-ghost use Rattle.echo_spec.specs.Input.{largest};
 ghost use Rattle.echo_spec.specs.Names.{entry_ok};
 ghost use Rattle.readback.specs.Reader.{expect};
 ghost use Rattle.script_tokens.specs.Reached.{Reached, Numbered, between};

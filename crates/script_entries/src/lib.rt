@@ -4,13 +4,12 @@
 
 ghost use Rattle.std.specs.Prelude.{◌≡◌, List, ℕ, ◌+◌, ◌-◌, ◌≤◌, ◌<◌, length, drop};
 ghost use Rattle.script_names.specs.declared.Table.{Table};
-ghost use Rattle.reading.specs.Trees.{Name, Declarations};
-ghost use Rattle.readback.specs.Reader.{took};
+ghost use Rattle.reading.specs.Trees.{Declarations};
 ghost use Rattle.rebuilt.specs.Built.{variable_at, array_at, function_at};
 ghost use Rattle.script_tokens.specs.Reached.{between};
-ghost use Rattle.script_names.specs.Entries.{after_bar, entry_from, Named, Tabled};
-ghost use Rattle.script_decls.specs.Lines.{LineType, stage_number, tail_of};
-ghost use Rattle.script_decls.specs.Told.{Tells};
+ghost use Rattle.script_names.specs.Entries.{after_bar, entry_from, Named};
+ghost use Rattle.script_decls.specs.Lines.{stage_number};
+ghost use Rattle.script_decls.specs.Told.{Telling};
 ghost use Rattle.script_header.specs.Header.{Within};
 ghost use Rattle.script_entries.specs.Entries.{first_of, variables_of, arrays_of, names_of, Measured, KnownTo, Declares, ArgumentsAt, NextArgument, EntryIs, EntryOf};
 
@@ -84,7 +83,7 @@ fn stage_of(h: &Header, k: usize) -> Stage
 // What a line of a stage tells, whose name ends before place e.
 fn told(stage: Stage, s: &[u8], e: usize) -> Measure
     requires { e ≤ length s.now }
-    ensures { (n : Name) (x : LineType (stage_number stage)) (z : List ℕ) → tail_of (stage_number stage) n (drop e s.now) ≡ took x z → Tells (stage_number stage) s.now result x }
+    ensures { Telling (stage_number stage) s.now e result }
 {
     match tail(stage, s, e) {
         Some(rest) => rest.measure,

@@ -2,7 +2,7 @@
 // Under "Ruled out" stand wrong programs that a public function's contract refuses.
 #![tactic(auto)]
 
-ghost use Rattle.std.specs.Prelude.{◌≡◌, List, [], ◌∷◌, ◌++◌, map, ℕ, ◌+◌, ◌*◌, ◌-◌, ◌/◌, ◌^◌, ◌≤◌, ◌<◌, T, length, take, drop, get_or};
+ghost use Rattle.std.specs.Prelude.{◌≡◌, List, [], ◌∷◌, ◌++◌, map, ℕ, ◌+◌, ◌*◌, ◌-◌, ◌/◌, ◌≤◌, ◌<◌, T, length, take, drop, get_or};
 ghost use Rattle.std.proofs.Math.Option.{some};
 ghost use Rattle.std.proofs.Math.ListN.{get_elem?};
 ghost use Rattle.smtlib.specs.Readings.{bits_of};
@@ -26,7 +26,7 @@ ghost use Rattle.readback.specs.Rebuild.{
 };
 ghost use Rattle.script_tokens.specs.Reached.{between};
 ghost use Rattle.lent.specs.Records.{node_of};
-ghost use Rattle.heap_laws.specs.Heap.{nodes_size, bits_size, stack_size, hash_from, hash_of, bits_at, ref_at, halves, pairs_back, Held, Stacked};
+ghost use Rattle.heap_laws.specs.Heap.{stack_size, hash_from, hash_of, bits_at, ref_at, halves, pairs_back, Held, Stacked};
 ghost use Rattle.heap_laws.specs.Filled.{filled};
 ghost use Rattle.script_heap.specs.Told.{Holds, HoldsNodes, Told, ConstantTold, RefTold, Half, SameStores, StillHeld, Waits, AllTold, Recorded, Entered, Compared, DigitsTo, ConstantAt, found_as};
 
@@ -39,14 +39,14 @@ use script_tokens::digits_end;
 // The largest number that a record can hold.
 const LARGEST: u64 = u32::MAX as u64;
 
-// Of a long constant only so many of the lowest bits count for its hash.
+// Of a long constant only so many of the lowest bits count for its hash, which costs the same for all longer ones.
 const HASHED_BITS: usize = 48;
 
 // The hashes that are used: the largest prime up to `HASHES`.
 const HASH_PRIME: u64 = 4093;
 
 // Of an even operand below twice this the half is a node's number; from there on what the half has above it is a constant's: the place of its digits,
-// and so many places times how many digits there are.
+// and `PLACES` times how many digits there are. With a place below `PLACES` and a count below `COUNTS` that is less than this, and the operand below 2^64.
 const SPANNED: u64 = 1 << 62;
 
 const PLACES: usize = 1 << 44;

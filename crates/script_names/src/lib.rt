@@ -103,8 +103,8 @@ fn hash_of(name: &[u8]) -> usize
     hash_from(0, name)
 }
 
-// The place after the first bar from here on, or the end. Ruled out: the place at the bar; the end where there is a bar.
-pub fn after_bar(s: &[u8], at: usize) -> usize
+// The place after the first bar from here on, or the end.
+fn after_bar(s: &[u8], at: usize) -> usize
     requires { at ≤ length s.now }
     ensures { (result ≤ length s.now) × (drop result s.now ≡ after_bar (drop at s.now)) }
 {
@@ -169,7 +169,7 @@ pub fn find_line(s: &[u8], t: &Table, lines: Declared, a: usize, f: usize) -> Op
 }
 
 // The next line, with its name from place a on and the numbers of what it declares, is entered into the table. Ruled out: a line that the one
-// before it in the chain is forgotten by; a place one off; the second number put where the first stands.
+// before it in the chain is forgotten by; a place one off; the first number put in for the second too.
 pub fn enter(s: &[u8], t: &mut Table, lines: Declared, a: usize, f: usize, measure: Measure)
     requires { Named s.now a f × Tabled s.now lines.first t.old lines.count × (drop a s.now ≡ entry_from lines.count (drop lines.first s.now)) }
     ensures tabled { Tabled s.now lines.first t.new (lines.count + 1) }

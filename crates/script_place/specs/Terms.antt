@@ -99,9 +99,9 @@ pub record PlacedAt (s : List ℕ) (t : Table) (h : Header) (heap : Heap) (at le
   pub placed : (q : Term s t h at) (g : State q.declarations s heap levels) → PlacedAs q g heap' r
 
 -- a leaf that is placed as it is, whatever was there before
-abbrev pub LeafAt : List ℕ → Table → Header → ℕ → Maybe Placed → Type 0
-LeafAt s t h at None = Unit
-LeafAt s t h at (Some p) = (heap : Heap) (levels : ℕ) → PlacedAt s t h heap at levels heap (Ok p)
+abbrev pub LeafPlaced : List ℕ → Table → Header → ℕ → Maybe Placed → Type 0
+LeafPlaced s t h at None = Unit
+LeafPlaced s t h at (Some p) = (heap : Heap) (levels : ℕ) → PlacedAt s t h heap at levels heap (Ok p)
 
 -- ---------------------------------------------------------------- heads
 

@@ -7,7 +7,7 @@ ghost use Rattle.reading.specs.Trees.{Declarations};
 ghost use Rattle.script_entries.specs.Entries.{Declares};
 ghost use Rattle.script_heads.specs.Heads.{HeadAt};
 ghost use Rattle.script_place.specs.declared.Unread.TheVariants.{Limit};
-ghost use Rattle.script_place.specs.Terms.{State, LeafAt, PlacedAt, BegunTo, Pushable, MoreTo, Finished, Closes, ClosedTo};
+ghost use Rattle.script_place.specs.Terms.{State, LeafPlaced, PlacedAt, BegunTo, Pushable, MoreTo, Closes, ClosedTo};
 
 use heap_laws::{Heap, OverLimit};
 use refusals::MAX_NODES;
@@ -186,7 +186,7 @@ fn closed(
 #[inline(always)]
 fn leaf(script: &Script, at: usize) -> Option<Placed>
     requires { (D : Declarations) × Declares script.now D }
-    ensures { LeafAt script.now.text.now script.now.table.now script.now.header at result }
+    ensures { LeafPlaced script.now.text.now script.now.table.now script.now.header at result }
 {
     if byte_at(script.text, at) == b'(' {
         return None;

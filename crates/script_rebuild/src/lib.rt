@@ -7,7 +7,7 @@ ghost use Rattle.reading.specs.Trees.{Declarations};
 ghost use Rattle.readback.specs.Rebuild.{rebuild};
 ghost use Rattle.script_names.specs.Entries.{Empty};
 ghost use Rattle.script_names.specs.declared.Table.{Table};
-ghost use Rattle.script_entries.specs.Entries.{Declares, names_of};
+ghost use Rattle.script_entries.specs.Entries.{Declares};
 ghost use Rattle.header_laws.specs.Body.{reading_of};
 ghost use Rattle.heap_laws.specs.Heap.{Held, Stacked};
 ghost use Rattle.script_rebuild.specs.Limits.{Tables};
