@@ -5,9 +5,10 @@
  * `check_release`, which sees to it that a name has one meaning in a file of scripts, and the conversions of node records `shorten_records` and
  * `lengthen_records`, for C and C++.
  *
- * The library is target/staticlib/libecho_c.a, written by `sh tools/staticlib.sh`. It is for x86-64, level v2 (SSE4.2 and POPCNT) and above,
- * with the System V calling convention, and can be linked into a program or into a shared library. It allocates nothing, keeps nothing
- * between calls, so that threads may call it at one time, and needs only memcpy, memmove and memset of the C library.
+ * The library is target/staticlib/libecho_c.a, written by `sh tools/staticlib.sh`, or lib/libecho_c.a of the archive. It is for x86-64, level
+ * v2 (SSE4.2 and POPCNT) and above, with the System V calling convention, and can be linked into a program or into a shared library. It
+ * allocates nothing, keeps nothing between calls, so that threads may call it at one time, and needs only memcpy, memmove and memset of the C
+ * library.
  *
  * The functions take slices: a pointer and a number of elements (not of bytes). For each slice the caller sees to it that
  *
@@ -47,6 +48,7 @@ enum {
     ECHO_MAX_COLUMN_LEN = 512,    /* elements of a column */
     ECHO_MAX_ARENA_LEN = 16384,   /* elements of an arena */
     ECHO_MAX_ARRAY_WIDTH = 65536, /* the widest index and the widest value of an array */
+    ECHO_MAX_TRACE_ROOTS = 64,    /* elements of roots for replay_trace: one for each bit of a mask */
     ECHO_MAX_SCRIPT_DEPTH = 6146, /* brackets that are open at once in a script that read_script accepts */
     ECHO_MAX_SCRIPTS = 64         /* scripts of a release */
 };
@@ -119,9 +121,9 @@ enum {
     ECHO_ENCODING = 8,
 
     /*
-     * An input is longer than its limit; of replay_trace also more than 64 roots, one for each bit of a mask. Split the problem. Of
-     * read_script: the problem that the script is rebuilt as is over a limit, or a number of it does not fit the 32 bits of its record. Of
-     * check_release: that, of the script that is told; or there are more than ECHO_MAX_SCRIPTS check-sat lines, and ECHO_MAX_SCRIPTS is told.
+     * An input is longer than its limit; of replay_trace also more than ECHO_MAX_TRACE_ROOTS roots. Split the problem. Of read_script: the
+     * problem that the script is rebuilt as is over a limit, or a number of it does not fit the 32 bits of its record. Of check_release: that,
+     * of the script that is told; or there are more than ECHO_MAX_SCRIPTS check-sat lines, and ECHO_MAX_SCRIPTS is told.
      */
     ECHO_LIMIT = 9,
 
@@ -372,8 +374,10 @@ struct echo_answer echo_hidden(
  * checked first, the lowest first and each with its own sort, and then the root. Accepted or refused, the output is as echo_ext says.
  *
  * With the lets unfolded the script says the problem's declarations and trees. Equal scripts mean equal trees; equal trees may have
- * different scripts. A problem without shared nodes is answered as by echo_ext, byte for byte. echo_size speaks of echo_ext and not of
- * this script. It needs no more stack than echo_ext.
+ * different scripts. A problem without shared nodes is answered as by echo_ext, byte for byte. It needs no more stack than echo_ext.
+ *
+ * No function tells the length of this script: echo_size speaks of echo_ext. Begin with some length (smt-echo does with 1 MB) and double it
+ * until the answer is not ECHO_ROOM; a problem within the limits can need more than a machine has.
  */
 struct echo_answer echo_let(
     const uint8_t *nodes, size_t nodes_len,
@@ -402,7 +406,9 @@ struct echo_answer echo_let(
  * left, and brackets stand only where leaving out a pair would change the tree. All other kinds stand as the SMT-LIB name, then numerals
  * and operands in parentheses, parted by a comma and a blank: extract(7, 0, |x|), select(store(|m|, |i|, |v|), |j|). A call stands as its
  * name before its arguments, |f|(|x|, |y|), and without any as |f|; names and constants are as in the script. The inputs and the refusals
- * are echo_ext's; ECHO_ROOM is about the lines. No roots: length 0. Accepted or refused, the output is as echo_ext says.
+ * are echo_ext's; ECHO_ROOM is about the lines. No roots: length 0. Accepted or refused, the output is as echo_ext says. Twice the length
+ * that echo_size tells suffices for the output: what is longer in a line is a comma between arguments, or == in brackets, a byte each. No proof
+ * says so.
  *
  * With the problem's declarations a line has one reading, the assertion's tree: with the same declarations, equal lines mean equal trees. It
  * is as recursive as echo_ext, and took up to 357 KB of stack, as measured.
@@ -502,8 +508,8 @@ struct fewest_answer fewest_roots(
  * Accepted: number is ECHO_ACCEPTED, rows is the number of rows, and every element of masks and counts from [rows] on is what it was
  * before the call.
  *
- * Refused: rows is 0, and all elements of masks and counts are 0. More than 64 roots is ECHO_LIMIT. The order is that of echo_ext but
- * for ECHO_ROOM; then ECHO_WIDE, ECHO_VALUES, and ECHO_ROOM where masks_len or counts_len is below the number of rows.
+ * Refused: rows is 0, and all elements of masks and counts are 0. More than ECHO_MAX_TRACE_ROOTS roots is ECHO_LIMIT. The order is
+ * that of echo_ext but for ECHO_ROOM; then ECHO_WIDE, ECHO_VALUES, and ECHO_ROOM where masks_len or counts_len is below the number of rows.
  *
  * The evaluation of a term is recursive, as echo_ext is, and took up to 309 KB of stack, as measured. The checks are made once, not for each
  * row; nothing is allocated.

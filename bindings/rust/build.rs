@@ -37,7 +37,7 @@ fn missing(library: &Path, named: bool) -> ! {
     let how = if named { "ECHO_LIB_DIR names the folder looked in." } else { "ECHO_LIB_DIR can name another folder to look in." };
     fail(&format!(
         "there is no {}. Run `sh tools/staticlib.sh` in the root of the repository: it proves the library and writes it to \
-         target/staticlib/{LIBRARY}. {how}",
+         target/staticlib/{LIBRARY}, and the archive has it as lib/{LIBRARY}. {how}",
         library.display()
     ))
 }

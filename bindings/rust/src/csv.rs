@@ -45,7 +45,7 @@ impl<'a> Trace<'a> {
         for (start, field) in if blank(head) { Vec::new() } else { fields(1, head)? } {
             let name = field.strip_prefix(b"|").and_then(|name| name.strip_suffix(b"|")).unwrap_or(&field);
             match names.iter().position(|known| *known == Some(name)) {
-                None => return Err(error(1, start, format!("there is no variable {}", shown(name)))),
+                None => return Err(error(1, start, format!("there is no variable {}; leave the column out", shown(name)))),
                 Some(variable) if trace.variables.contains(&variable) => {
                     return Err(error(1, start, format!("{} stands there twice", shown(name))));
                 }
@@ -195,6 +195,10 @@ fn value(field: &[u8]) -> Result<u64, String> {
         Some(text) => {
             u64::from_str_radix(text, radix).map_err(|_| "a value is wanted, and the number there does not fit 64 bits".into())
         }
-        None => Err(format!("a value is wanted, and `{}` is there", excerpt(field))),
+        None => {
+            let negative = matches!(field, [b'-', b'0'..=b'9', ..]);
+            let next = if negative { "; a negative value is written in two's complement, -2 as 0xfe for 8 bits" } else { "" };
+            Err(format!("a value is wanted, and `{}` is there{next}", excerpt(field)))
+        }
     }
 }

@@ -98,6 +98,8 @@ pub const MAX_COLUMN_LEN: usize = 512;
 pub const MAX_ARENA_LEN: usize = 16_384;
 /// The widest index and the widest value of an array.
 pub const MAX_ARRAY_WIDTH: u64 = 65_536;
+/// The most elements of [`Problem::roots`] for [`replay_trace`]: one for each bit of a mask.
+pub const MAX_TRACE_ROOTS: usize = 64;
 
 /// A problem: eighteen slices, which are only read. The default is the empty problem, of which every slice is empty.
 ///
@@ -246,7 +248,10 @@ pub fn echo_hidden(problem: &Problem<'_>, out: &mut [u8]) -> Result<usize, Refus
 ///
 /// Uses are counted as for [`Refusal::Shared`], which does not occur here; a declared name that is a shared node's is [`Refusal::Clash`] in
 /// its place. Equal scripts mean equal trees; equal trees may have different scripts. A problem without shared nodes is answered as by
-/// [`echo_ext`], byte for byte. [`echo_size`] speaks of the plain script.
+/// [`echo_ext`], byte for byte.
+///
+/// No function tells the length of this script: [`echo_size`] speaks of the plain one. Begin with some length (the command does with 1 MB) and
+/// double it until the answer is not [`Refusal::Room`]; a problem within the limits can need more than a machine has.
 ///
 /// ```
 /// use smt_echo::{Problem, echo_let, kind, node};
@@ -284,7 +289,9 @@ pub fn echo_let(problem: &Problem<'_>, out: &mut [u8]) -> Result<usize, Refusal>
 /// `!` `~` `-`. Comparisons, division and remainder are the unsigned ones and `>>` is the logical shift; all other kinds stand by their
 /// SMT-LIB name, as in `extract(7, 0, |x|)`, a call by its own, as in `|f|(|x|, |y|)`. Operators of one level group to the left, and brackets
 /// stand only where leaving out a pair would change the tree. The refusals are those of [`echo_ext`]; [`Refusal::Room`] is about these lines.
-/// Without roots the length is 0. On `Err` every byte of `out` is 0, and past the lines `out` is what it was.
+/// Without roots the length is 0. On `Err` every byte of `out` is 0, and past the lines `out` is what it was. Twice the length that
+/// [`echo_size`] tells suffices for `out`: what is longer in a line is a comma between arguments, or `==` in brackets, a byte each. No
+/// proof says so.
 ///
 /// ```
 /// use smt_echo::{Problem, echo_formulas, kind, node};

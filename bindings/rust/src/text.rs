@@ -116,12 +116,12 @@ impl OwnedProblem {
             }
             b"record" => {
                 let kind = line.number("the number of a kind")?;
-                node(kind, line.operands(4)?)
+                node(kind, line.operands(4, |_| "a number")?)
             }
             _ => {
                 let kind =
                     (0..kind::COUNT).find(|k| kind_word(*k).as_bytes() == word).ok_or_else(|| line.wanted("a kind", word))?;
-                node(kind, line.operands(kind::operand_count(kind).unwrap_or(4))?)
+                node(kind, line.operands(kind::operand_count(kind).unwrap_or(4), |place| operand(kind, place))?)
             }
         };
         self.nodes.extend(record);
@@ -308,10 +308,11 @@ impl<'t> Line<'t> {
         self.parse(what, word)
     }
 
-    fn operands(&mut self, count: usize) -> Result<[u32; 4], TextError> {
+    /// The operands that a kind has, each with what it is called.
+    fn operands(&mut self, count: usize, called: impl Fn(usize) -> &'static str) -> Result<[u32; 4], TextError> {
         let mut operands = [0; 4];
         for (i, operand) in operands.iter_mut().enumerate().take(count) {
-            *operand = self.number(&format!("operand {} of {count}", i + 1))?;
+            *operand = self.number(&format!("operand {} of {count}, {},", i + 1, called(i)))?;
         }
         Ok(operands)
     }
@@ -342,6 +343,19 @@ pub fn excerpt(bytes: &[u8]) -> String {
 /// The word for a kind: its name in lower case.
 fn kind_word(kind: u8) -> String {
     kind::name(kind).unwrap_or("record").to_lowercase()
+}
+
+/// What an operand of a kind is called in a message, by its place from 0. Constants, selects and calls are read apart.
+fn operand(kind: u8, place: usize) -> &'static str {
+    match (kind, place) {
+        (kind::VAR, _) => "the width",
+        (kind::EXTRACT, 0) => "the highest bit",
+        (kind::EXTRACT, 1) => "the lowest bit",
+        (kind::ZERO_EXT | kind::SIGN_EXT, 1) => "how many bits more",
+        (kind::ITE, 0) => "the node of the condition",
+        (kind::ROTL | kind::ROTR, 1) => "the node of the amount",
+        _ => "the number of a node",
+    }
 }
 
 // ---------------------------------------------------------------- writing

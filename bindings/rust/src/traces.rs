@@ -1,6 +1,6 @@
 //! The replay of a trace.
 
-use crate::{Problem, Refusal, raw, refusal};
+use crate::{MAX_TRACE_ROOTS, Problem, Refusal, raw, refusal};
 use std::error::Error;
 use std::fmt;
 
@@ -57,7 +57,7 @@ pub enum TraceRefusal {
     Wide,
     /// 15: the values are no whole number of rows, or one does not fit the width of its variable.
     Values,
-    /// A refusal of the printer. [`Refusal::Room`] is that of the two outputs; more than 64 roots is [`Refusal::Limit`].
+    /// A refusal of the printer. [`Refusal::Room`] is that of the two outputs; more than [`MAX_TRACE_ROOTS`] roots is [`Refusal::Limit`].
     Printer(Refusal),
 }
 
@@ -80,7 +80,7 @@ impl fmt::Display for TraceRefusal {
             TraceRefusal::Printer(Refusal::Room) => {
                 return write!(f, "10 Room: masks or counts has fewer elements than there are rows, and nothing else is wrong");
             }
-            TraceRefusal::Printer(Refusal::Limit) => return write!(f, "{}; for a trace 64 roots", Refusal::Limit),
+            TraceRefusal::Printer(Refusal::Limit) => return write!(f, "{}; for a trace {MAX_TRACE_ROOTS} roots", Refusal::Limit),
             TraceRefusal::Printer(refusal) => return refusal.fmt(f),
         };
         write!(f, "{} {self:?}: {text}", self.number())

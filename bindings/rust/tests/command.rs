@@ -126,6 +126,9 @@ fn help() {
     for words in [&["-h"][..], &["help"]] {
         assert_eq!(run(words, b"").done(), overview.as_bytes());
     }
+    for told in ["`smt-echo SUBCOMMAND --help`", "`-h`", "`smt-echo help SUBCOMMAND`", "`smt-echo --version`"] {
+        assert!(overview.lines().last().unwrap().contains(told), "{overview}");
+    }
     for subcommand in SUBCOMMANDS {
         let help = String::from_utf8(run(&[subcommand, "--help"], b"").done()).unwrap();
         assert!(help.starts_with(&format!("smt-echo {subcommand} - ")), "{help}");
@@ -133,11 +136,32 @@ fn help() {
             assert!(help.contains(part), "{help}");
         }
         assert!(help.lines().all(|line| line.len() <= 140), "{help}");
+        // The options that its usage has are listed, and then those of every subcommand.
+        let between = |from: &str, to: &str| help.split_once(from).and_then(|(_, text)| text.split_once(to)).unwrap().0;
+        let own = between("\nusage: ", "\n").split(['[', ']', '|']).map(str::trim).filter(|word| word.starts_with("--"));
+        let options: Vec<&str> = own.chain(["-o FILE", "-h, --help", "--"]).collect();
+        let listed = between("\nOptions:\n", "\n\n")
+            .lines()
+            .map(|line| line.strip_prefix("    ").and_then(|line| line.split_once("  ")).unwrap().0);
+        assert_eq!(listed.collect::<Vec<&str>>(), options);
         assert!(examples_work(&help, &folder(&format!("help_{subcommand}"))) > 0, "{subcommand} has an example");
         assert_eq!(run(&[subcommand, "-o", "/nowhere/at/all", "-h", "missing"], b"").done(), help.as_bytes());
         assert_eq!(run(&["help", subcommand], b"").done(), help.as_bytes());
     }
     assert_eq!(run(&["--version"], b"").done(), b"smt-echo 0.1.0\n");
+    for (subcommand, told) in [
+        ("print", "where a declared name is such a name, the problem is refused with 11"),
+        ("print", "A script with `let` is not read back, but refused with 13."),
+        ("read", "refused with 13; so is a script with `let`, which `print --let` writes"),
+        (
+            "replay",
+            "Where a rule's negation is asserted `holds` marks a counterexample; where invariants are asserted `fails` marks the fault.",
+        ),
+        ("replay", &format!("The problem has {MAX_TRACE_ROOTS} roots at most")),
+    ] {
+        let help = String::from_utf8(run(&[subcommand, "--help"], b"").done()).unwrap();
+        assert!(help.replace('\n', " ").contains(told), "{help}");
+    }
 }
 
 #[test]
@@ -430,11 +454,29 @@ fn refusals_of_the_width_pass() {
             1,
             "node 2, `ult 0 1`, is not well formed: node 0 is 8 wide, node 1 is 9 wide, and one width is wanted",
         ),
+        ("0 var 8\n1 var 0\n", 1, "node 1, `var 0`, is not well formed: its width is 0"),
+        ("0 var 8\n1 call 0 0\n", 1, "node 1, `call 0 0 @0 0`, is not well formed: its width is 0"),
+        ("0 var 8\n1 call 0 0 : 0\n", 1, "node 1, `call 0 0 @0 1`, is not well formed: its width is 0"),
         ("0 var 32\nindex_width 32\n", 1, "index_width has 1 elements, and value_width 0"),
         ("bits 3\n", 8, "element 0 of bits is 3, and neither 0 nor 1"),
         ("array || 32 0\n", 12, "element 0 of value_width is 0, and should be from 1 to 65536"),
     ] {
         assert_eq!(run(&["widths"], format!("problem\n{lines}").as_bytes()).refused(), (number, look.into()), "{lines}");
+    }
+    // Widths of 2^64 and more, in nodes over one of 2^64 - 2^32 bits and one of 2^64 - 1.
+    let mut wide = String::from("problem\n0 var 4294967295\n");
+    (1..33).for_each(|i| wide += &format!("{i} concat {0} {0}\n", i - 1));
+    wide += "33 zero_ext 32 4294967295\n";
+    assert!(run(&["widths"], wide.as_bytes()).done().ends_with(b"\n32 18446744069414584320\n33 18446744073709551615\n"));
+    let (most, many) = ("node 33 is 18446744073709551615 wide", "node 32 is 18446744069414584320 wide");
+    for (node, widths) in [
+        ("concat 32 32", many.to_string()),
+        ("concat 32 33", format!("{many}, {most}")),
+        ("zero_ext 33 1", most.to_string()),
+        ("sign_ext 33 1", most.to_string()),
+    ] {
+        let look = format!("node 34, `{node}`, is not well formed: {widths}, and the result has 2^64 bits or more");
+        assert_eq!(run(&["widths"], format!("{wide}34 {node}\n").as_bytes()).refused(), (1, look));
     }
     let over = format!("problem\n{}roots{}\n", "name_start 1\n", " 0".repeat(300));
     assert_eq!(run(&["widths"], over.as_bytes()).done(), b"");
@@ -620,9 +662,9 @@ fn malformed_traces() {
         ("", 1, 1, "a column for |base| is wanted, and the line ends"),
         ("\n1,2,3\n", 1, 1, "a column for |base| is wanted, and the line ends"),
         ("base,limit\n", 1, 11, "a column for |size| is wanted, and the line ends"),
-        ("time,base,size,limit\n", 1, 1, "there is no variable |time|"),
-        ("base, size,limit,\n", 1, 18, "there is no variable ||"),
-        ("base, size,limit, Base\n", 1, 19, "there is no variable |Base|"),
+        ("time,base,size,limit\n", 1, 1, "there is no variable |time|; leave the column out"),
+        ("base, size,limit,\n", 1, 18, "there is no variable ||; leave the column out"),
+        ("base, size,limit, Base\n", 1, 19, "there is no variable |Base|; leave the column out"),
         ("base,size,base\n", 1, 11, "|base| stands there twice"),
         ("base,\"size,limit\n", 1, 6, "the field has no quote at its end"),
         ("base,\"size\"s,limit\n", 1, 12, "a comma is wanted after the quote"),
@@ -630,7 +672,14 @@ fn malformed_traces() {
         ("base,size,limit\n1,2,3\n1,2,3,4\n", 3, 7, "the end of the line is wanted, and `4` is there"),
         ("base,size,limit\n1,2,3\n\n1,2,3\n", 3, 1, "a row is wanted, and the line is empty"),
         ("base,size,limit\n1,,3\n", 2, 3, "a value is wanted, and `` is there"),
-        ("base,size,limit\n1,-2,3\n", 2, 3, "a value is wanted, and `-2` is there"),
+        (
+            "base,size,limit\n1,-2,3\n",
+            2,
+            3,
+            "a value is wanted, and `-2` is there; a negative value is written in two's complement, -2 as 0xfe for 8 bits",
+        ),
+        ("base,size,limit\n1,-,3\n", 2, 3, "a value is wanted, and `-` is there"),
+        ("base,size,limit\n1,-n,3\n", 2, 3, "a value is wanted, and `-n` is there"),
         ("base,size,limit\n1,+2,3\n", 2, 3, "a value is wanted, and `+2` is there"),
         ("base,size,limit\n1,2.5,3\n", 2, 3, "a value is wanted, and `2.5` is there"),
         ("base,size,limit\n1,0x,3\n", 2, 3, "a value is wanted, and `0x` is there"),
@@ -643,7 +692,7 @@ fn malformed_traces() {
     }
     // A problem without variables has a trace without columns.
     fs::write(path("constant"), "problem\n0 const 5 8\n1 ult 0 0\nroot 1\n").unwrap();
-    let line = "standard input:1:1: there is no variable |x|";
+    let line = "standard input:1:1: there is no variable |x|; leave the column out";
     assert_eq!(run(&["replay", &path("constant")], b"x\n1\n").not_done(), line);
     let line = "standard input:2:1: the end of the line is wanted, and `1` is there";
     assert_eq!(run(&["replay", &path("constant")], b"\n1\n").not_done(), line);
@@ -933,13 +982,27 @@ fn over_what_memory_allows() {
     let size = String::from_utf8(run(&["size"], text.as_bytes()).done()).unwrap();
     let length = size.lines().next().unwrap().strip_prefix("length ").unwrap();
     assert!(length.parse::<u64>().unwrap() > 1_600_000_000_000, "{length}");
-    for args in [&["print"][..], &["print", "--hidden"], &["formulas"]] {
+    for args in [&["print"][..], &["print", "--hidden"]] {
         let told = format!("the script has {length} bytes, more than memory allows; {SHORTER}, as `smt-echo size` tells");
         assert_eq!(run(args, text.as_bytes()).not_done(), told);
     }
+    let formulas = |length: u64| {
+        let what = format!("the formulas may have up to {} bytes, 2 times the script's length", 2 * length);
+        format!("{what}, more than memory allows; {SHORTER}, as `smt-echo size` tells")
+    };
+    assert_eq!(run(&["formulas"], text.as_bytes()).not_done(), formulas(length.parse().unwrap()));
+
+    // A limit that leaves room for a script, and not for formulas of twice its length.
+    let folder = folder("memory");
+    let mut text = format!("problem\n0 const #b{}\n", "01".repeat(65_536));
+    (1..251).for_each(|i| text += &format!("{i} eq 0 0\nroot {i}\n"));
+    fs::write(folder.join("wide"), &text).unwrap();
+    let script = "smt-echo print wide | wc -c";
+    let (status, told) = shell(&format!("ulimit -v 100000; {script}; smt-echo formulas wide 2>&1; echo $?"), &folder);
+    let (length, told) = told.split_once('\n').unwrap();
+    assert_eq!((status, told), (0, &format!("smt-echo: {}\n2\n", formulas(length.trim().parse().unwrap()))[..]));
 
     // With `let` nothing tells the length: the buffer grows, here up to what a limit leaves.
-    let folder = folder("memory");
     let mut text = format!("problem\n0 const #b{}\n1 bv_not 0\n2 eq 1 1\nroot 2\n", "01".repeat(65_536));
     (3..253).for_each(|i| text += &format!("{i} eq 0 0\nroot {i}\n"));
     fs::write(folder.join("wide"), &text).unwrap();
@@ -1032,7 +1095,14 @@ fn scripts_read_back() {
         M2_SCRIPT.replace(from, to)
     };
     for (script, look) in [
-        (change("(check-sat)\n", ""), "the end: a script ends with the line `(check-sat)`"),
+        (change("(check-sat)\n", ""), "the end: a script ends with `(check-sat)` and a line feed (byte 10)"),
+        (change("(check-sat)\n", "(check-sat)"), "the end: a script ends with `(check-sat)` and a line feed (byte 10)"),
+        (change("(check-sat)\n", "(check-sat)") + M1_SCRIPT, "line 4: the line feed (byte 10) behind `(check-sat)` is missing"),
+        (
+            change("(check-sat)\n", "(check-sat) \n") + M1_SCRIPT,
+            "line 4: the line feed (byte 10) behind `(check-sat)` is missing",
+        ),
+        (M1_SCRIPT.trim_end().to_string() + M2_SCRIPT, "line 2: the line feed (byte 10) behind `(check-sat)` is missing"),
         (change("(check-sat)\n", "(check-sat)\n; that is all\n"), "line 5: more follows the line `(check-sat)`"),
         (M2_SCRIPT.repeat(2), "line 5: more follows the line `(check-sat)`; `smt-echo split` cuts scripts that stand end to end"),
         (change("QF_BV", "QF_ABV"), "line 1: the logic is not the one of these declarations"),
@@ -1104,6 +1174,7 @@ fn releases() {
         ("half", M2_SCRIPT[..60].into()),
         ("end", M2_SCRIPT[60..].into()),
         ("wide", declaring("w", 1 << 40)),
+        ("cut", M2_SCRIPT.trim_end().into()),
     ] {
         fs::write(path(name), text).unwrap();
     }
@@ -1184,9 +1255,12 @@ fn releases() {
     // 13: the script, and the line at fault in its file; a script that goes on from one file into the next
     let no_let = "it has `let`, and what `smt-echo print --let` writes is not read back";
     assert_eq!(check(&["i16", "i17", "let"]).refused(), (13, format!("script 2, {}:3: {no_let}", path("let"))));
-    let end = "a script ends with the line `(check-sat)`";
+    let end = "a script ends with `(check-sat)` and a line feed (byte 10)";
     let begins = |script: usize, at: String| format!("script {script}, which begins at {at}");
     assert_eq!(check(&["two", "half"]).refused(), (13, format!("{}: {end}", begins(2, path("half") + ":1"))));
+    assert_eq!(check(&["two", "cut"]).refused(), (13, format!("{}: {end}", begins(2, path("cut") + ":1"))));
+    let missing = "the line feed (byte 10) behind `(check-sat)` is missing";
+    assert_eq!(check(&["two", "cut", "m2"]).refused(), (13, format!("script 2, {}:4: {missing}", path("cut"))));
     let (number, look) = check(&["half", "i16"]).refused();
     assert!(number == 13 && look.starts_with(&format!("script 0, {}:", path("half"))), "{look}");
     let (number, look) = check(&["i16", "end"]).refused();

@@ -4,11 +4,12 @@ mod common;
 
 use smt_echo::*;
 
-/// The lines, with a check of every byte of an output that is longer, exact and one byte short.
+/// The lines, with a check of every byte of an output that is longer, exact and one byte short, and of the length that suffices.
 fn lines(problem: &Problem<'_>) -> String {
     let mut out = vec![0xA5; 100_000];
     let length = echo_formulas(problem, &mut out).expect("accepted");
     assert!(out[length..].iter().all(|b| *b == 0xA5), "the rest is as it was");
+    assert!(length <= 2 * echo_size(problem).expect("accepted").length);
     let mut exact = vec![0xA5; length];
     assert_eq!(echo_formulas(problem, &mut exact), Ok(length));
     assert_eq!(exact, out[..length]);

@@ -75,6 +75,7 @@ fn limits_numbers_and_kinds() {
         ("ECHO_MAX_COLUMN_LEN", MAX_COLUMN_LEN),
         ("ECHO_MAX_ARENA_LEN", MAX_ARENA_LEN),
         ("ECHO_MAX_ARRAY_WIDTH", MAX_ARRAY_WIDTH as usize),
+        ("ECHO_MAX_TRACE_ROOTS", MAX_TRACE_ROOTS),
         ("ECHO_MAX_SCRIPT_DEPTH", MAX_SCRIPT_DEPTH),
         ("ECHO_MAX_SCRIPTS", MAX_SCRIPTS),
         ("ECHO_ACCEPTED", 0),
@@ -100,5 +101,5 @@ fn limits_numbers_and_kinds() {
 
     let there: BTreeMap<String, u64> = header().into_iter().map(|(name, value)| (name.to_string(), value)).collect();
     assert_eq!(here, there);
-    assert_eq!(here.len(), 11 + 18 + 39);
+    assert_eq!(here.len(), 12 + 18 + 39);
 }

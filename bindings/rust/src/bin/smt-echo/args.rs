@@ -55,13 +55,13 @@ pub fn parse(command: &Command, words: &[OsString]) -> Result<Args, Failure> {
                 }
             }
             _ => {
-                let Some(&(option, takes)) = command.options.iter().find(|(option, _)| *option == text) else {
+                let Some(&(option, called, _)) = command.options.iter().find(|(option, ..)| *option == text) else {
                     return Err(Failure::Usage(format!("`{}` has no option `{}`", command.name, word.display())));
                 };
                 if args.has(option) {
                     return Err(Failure::Usage(format!("`{option}` is given twice")));
                 }
-                let value = if takes { value()? } else { OsString::new() };
+                let value = if called.is_empty() { OsString::new() } else { value()? };
                 args.given.push((option, value));
             }
         }

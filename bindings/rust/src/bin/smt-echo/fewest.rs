@@ -23,7 +23,7 @@ Example:
     root 2
     root 2
 ",
-    options: &[("--show", false)],
+    options: &[("--show", "", "write the problem with these roots alone, in the text form")],
     files: 1,
     run,
 };

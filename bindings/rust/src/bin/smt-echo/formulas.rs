@@ -27,7 +27,8 @@ fn run(args: &Args) -> Result<Vec<u8>, Failure> {
     lines(&args.source(0).problem()?.lend())
 }
 
-/// The lines. They have at most twice the bytes of the script: what is longer in a formula is the comma between arguments, a byte each.
+/// The lines. They have at most twice the bytes of the script: what is longer in a formula is a comma between arguments, or `==` in brackets, a
+/// byte each.
 pub fn lines(problem: &Problem<'_>) -> Result<Vec<u8>, Failure> {
     room::measured(problem, 2, echo_formulas)
 }

@@ -44,7 +44,10 @@ pub fn trace(p: &Problem<'_>, refusal: TraceRefusal) -> Option<String> {
     let look = Look { p, widths: widths(p) };
     match refusal {
         TraceRefusal::Printer(Refusal::Limit) => {
-            let roots = || format!("there are {} roots, and a trace is replayed for 64 at most; {FEWER_ROOTS}", p.roots.len());
+            let roots = || {
+                let count = p.roots.len();
+                format!("there are {count} roots, and a trace is replayed for {MAX_TRACE_ROOTS} at most; {FEWER_ROOTS}")
+            };
             look.limits().or_else(|| Some(roots()))
         }
         TraceRefusal::Printer(refusal) => problem(p, refusal),
@@ -242,6 +245,8 @@ impl<'a> Look<'_, 'a> {
             format!("it has {entries} side entries from place {c} on, and there are {}", self.p.side.len())
         } else if let Some(late) = self.uses(i).into_iter().find(|used| *used >= i as u64) {
             format!("node {late} does not stand before it")
+        } else if let kind::VAR | kind::CONST | kind::CALL = kind {
+            "its width is 0".into()
         } else {
             let mut uses = self.uses(i);
             uses.dedup();
@@ -260,11 +265,11 @@ impl<'a> Look<'_, 'a> {
                 kind::NOT | kind::BOOL_AND | kind::BOOL_OR => ", and a Bool is 1 wide",
                 kind::ITE => ", and a Bool, which is 1 wide, and two of one width are wanted",
                 kind::EXTRACT => ", and its highest bit and its lowest are wanted, in this order and counted from 0",
-                kind::VAR | kind::CONST | kind::CONCAT | kind::ZERO_EXT | kind::SIGN_EXT => "",
-                kind::BV_NOT | kind::NEG | kind::SELECT | kind::CALL => "",
+                kind::CONCAT | kind::ZERO_EXT | kind::SIGN_EXT => ", and the result has 2^64 bits or more",
+                kind::BV_NOT | kind::NEG | kind::SELECT => "",
                 _ => ", and one width is wanted",
             };
-            if widths.is_empty() { "a width is 0".into() } else { format!("{array}{}{wanted}", widths.join(", ")) }
+            format!("{array}{}{wanted}", widths.join(", "))
         };
         Some(format!("{node} is not well formed: {why}"))
     }

@@ -46,8 +46,8 @@ pub struct Command {
     /// What `--help` writes between the summary and what all subcommands have. Lines of four blanks and a dollar sign are commands of an
     /// example, the indented lines after them their output.
     pub help: &'static str,
-    /// Options beside `-o` and `--help`: the word, and whether a value follows it.
-    pub options: &'static [(&'static str, bool)],
+    /// Options beside `-o` and `--help`: the word, what the value that follows it is called or nothing where none does, and what it is for.
+    pub options: &'static [(&'static str, &'static str, &'static str)],
     /// The most files that are read.
     pub files: usize,
     /// The result, for standard output or the file of `-o`.
@@ -110,11 +110,9 @@ fn run(words: &[OsString]) -> Result<(), Failure> {
 }
 
 /// Options and statuses, which are those of every subcommand.
-const COMMON: &str = "\
-Options:
-    -o FILE    write the result to FILE, whole or not at all; to standard output where FILE is `-`, or without this option
-    --help     write this and do nothing else
-    --         what follows are files, also where they begin with a dash
+const COMMON: &str = "    -o FILE          write the result to FILE, whole or not at all; to standard output where FILE is `-`, or without this option
+    -h, --help       write this and do nothing else
+    --               what follows are files, also where they begin with a dash
 
 Exit status:
     0          done
@@ -126,7 +124,9 @@ See also:
 ";
 
 fn help(command: &Command) -> String {
-    format!("smt-echo {} - {}\n\n{}\n{COMMON}", command.name, command.summary, command.help)
+    let own: String =
+        command.options.iter().map(|(word, value, text)| format!("    {:16} {text}\n", format!("{word} {value}"))).collect();
+    format!("smt-echo {} - {}\n\n{}\nOptions:\n{own}{COMMON}", command.name, command.summary, command.help)
 }
 
 fn overview() -> String {
@@ -143,7 +143,7 @@ fn overview() -> String {
         standard output again); all else to standard error.\n\n\
         Exit status: 0 done; 1 refused, with the number and what to look at; 2 a wrong command line, a file that cannot be read or\n\
         written, an input that is none, or a result over what memory allows.\n\n\
-        `smt-echo SUBCOMMAND --help` has more and an example.\n";
+        `smt-echo SUBCOMMAND --help`, or `-h`, or `smt-echo help SUBCOMMAND`, has more and an example; `smt-echo --version` the version.\n";
     text
 }
 

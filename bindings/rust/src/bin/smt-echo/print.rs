@@ -12,7 +12,8 @@ usage: smt-echo print [--hidden | --let] [-o FILE] [FILE]
 Writes the SMT-LIB script of a problem. With --hidden each constant shows zeros in its width, so that the script can be sent on without
 the addresses in it; names, widths, rotate amounts and the shape of the terms still show, and a solver's answer to it says nothing about
 the problem. With --let a term that is used more than once is bound by `let` in each assertion, under the name d and its node's number, and
-not refused with 6; a problem without such terms prints as before.
+not refused with 6; where a declared name is such a name, the problem is refused with 11. A script with `let` is not read back, but refused
+with 13. A problem without such terms prints as before.
 
 A refused problem has no script: the number, the reason and what to look at go to standard error, and the status is 1.
 
@@ -30,7 +31,10 @@ Example:
     (assert (let ((|d2| (bvadd |x| #b00000101))) (= |d2| |d2|)))
     (check-sat)
 ",
-    options: &[("--hidden", false), ("--let", false)],
+    options: &[
+        ("--hidden", "", "show zeros for each constant, in its width"),
+        ("--let", "", "bind terms that are used more than once by `let`"),
+    ],
     files: 1,
     run,
 };

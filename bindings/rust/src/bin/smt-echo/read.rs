@@ -12,7 +12,8 @@ pub const COMMAND: Command = Command {
 usage: smt-echo read [--show] [-o FILE] [FILE]
 
 Reads a script back into nodes, bits, side entries, roots and tables, and writes the problem in the binary layout; with --show in the text
-form. `print` gives the same script again, byte for byte. The bytes must be a script as `print` writes it, or they are refused with 13.
+form. `print` gives the same script again, byte for byte. The bytes must be a script as `print` writes it, or they are refused with 13; so
+is a script with `let`, which `print --let` writes.
 
 The nodes are placed by a rule, since the script does not tell which problem it was printed from: the variables; a call on zeros for each
 function that no assertion calls; then each term as its last operand ends, and a new constant just before the term that first uses it.
@@ -30,7 +31,7 @@ Example:
     root 2
     $ smt-echo read less.smt2 | smt-echo print | cmp - less.smt2
 ",
-    options: &[("--show", false)],
+    options: &[("--show", "", "write the text form")],
     files: 1,
     run,
 };
@@ -104,7 +105,7 @@ pub fn fault(bytes: &[u8]) -> Option<Fault> {
         return at(line + 1, "it ends with bytes 13 and 10, and a line of a script ends with byte 10 alone");
     }
     let Some(end) = next_script(bytes) else {
-        return Some(Fault { line: None, text: "a script ends with the line `(check-sat)`".into() });
+        return Some(Fault { line: None, text: "a script ends with `(check-sat)` and a line feed (byte 10)".into() });
     };
     if end < bytes.len() {
         let line = lines.iter().position(|line| *line == END)? + 2;
@@ -119,7 +120,9 @@ pub fn fault(bytes: &[u8]) -> Option<Fault> {
     if is_script(&[&header.concat(), END]) {
         let none = |line: &&[u8]| !line.starts_with(b"(assert ") || !is_script(&[&header.concat(), line, END]);
         let place = assertions.iter().position(none)?;
-        let text = if assertions[place].starts_with(b"(assert (let ((") {
+        let text = if assertions[place].starts_with(END.trim_ascii_end()) {
+            "the line feed (byte 10) behind `(check-sat)` is missing"
+        } else if assertions[place].starts_with(b"(assert (let ((") {
             "it has `let`, and what `smt-echo print --let` writes is not read back"
         } else {
             "it is no assertion over these declarations as the printer writes it"

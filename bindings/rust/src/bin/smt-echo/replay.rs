@@ -14,8 +14,8 @@ usage: smt-echo replay [--formulas] [-o FILE] PROBLEM [TRACE]
 TRACE is CSV: a head with the names of all variables of the problem, in any order, and a row of values for each line after it, decimal, or
 hexadecimal behind 0x. docs/FORMATS.md has more. One of the two files may be standard input. Writes a line for each row, its number from
 0 and whether all assertions hold there or which fail, by their numbers from 0; with --formulas each that fails follows, as in a map file.
-A row on which all hold is a model of the script. The problem has 64 roots at most, and no term wider than 64 bits, select or call below
-them.
+A row on which all hold is a model of the script. Where a rule's negation is asserted `holds` marks a counterexample; where invariants are
+asserted `fails` marks the fault. The problem has 64 roots at most, and no term wider than 64 bits, select or call below them.
 
 Example:
     $ printf 'problem\\nvariable |a| 8 node 0\\nvariable |b| 8 node 1\\n0 var 8\\n1 var 8\\n2 ult 0 1\\n3 ne 0 1\\nroot 2\\nroot 3\\n' > less.txt
@@ -29,7 +29,7 @@ Example:
         0: |a| < |b|
         1: |a| != |b|
 ",
-    options: &[("--formulas", false)],
+    options: &[("--formulas", "", "after a row that fails write each assertion that does, as a formula")],
     files: 2,
     run,
 };

@@ -21,7 +21,7 @@ Example:
     2 ult 0 1
     root 2
 ",
-    options: &[("--binary", false)],
+    options: &[("--binary", "", "write the binary layout")],
     files: 1,
     run,
 };

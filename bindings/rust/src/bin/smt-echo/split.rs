@@ -27,7 +27,10 @@ Example:
     (set-logic QF_ABV)
     (check-sat)
 ",
-    options: &[("--take", true), ("--into", true)],
+    options: &[
+        ("--take", "NUMBER", "write the script of this number, from 0"),
+        ("--into", "FOLDER", "write each script to a file of its own in FOLDER, which is made"),
+    ],
     files: 1,
     run,
 };
