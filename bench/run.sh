@@ -1,8 +1,8 @@
 #!/bin/sh
 # Times the port beside the Rust: run.sh FOLDER [WORD], where FOLDER holds the unchanged Rust (kernel.rs and the files that it
 # includes). With WORD, only the shapes that have it in their label; with records, only shorter records; with fewest, only the fewest roots;
-# with formulas, only formulas; with traces, only the replay of traces, with reads, only scripts read back, and with one more word only the shapes
-# of these that have it. target/staticlib/libecho_c.a must be there (`sh tools/staticlib.sh`), or LIBRARY names another. What is built goes to a folder of its own and is removed.
+# with traces, only the replay of traces; with formulas or reads, only formulas or scripts read back, and with one more word only the shapes of these
+# that have it. target/staticlib/libecho_c.a must be there (`sh tools/staticlib.sh`), or LIBRARY names another. What is built goes to a folder of its own and is removed.
 set -eu
 source=$(cd "$1" && pwd)
 shift

@@ -1,6 +1,6 @@
 #!/bin/sh
 # Writes one archive with all that a user of the library needs, and nothing to prove it with: the header, the library, a pkg-config file, the
-# Rust package, the examples, NOTICE and the documents.
+# Rust package, the examples, NOTICE and the documents, but for the two that only tell how the repository's own text changed.
 #
 #   dist/make.sh [FOLDER]      writes FOLDER/smt-echo-VERSION.tar.gz and says so; FOLDER is target/dist if it is left out
 #
@@ -28,6 +28,7 @@ cp include/echo.h "$root/include"
 cp "$library" "$root/lib"
 cp NOTICE README.md "$root"
 cp -R docs "$root/docs"
+rm "$root/docs/DESIGN-PASS.md" "$root/docs/PORT.md"
 cp -R bindings/rust "$root/bindings/rust"
 cp -R examples/c examples/rule "$root/examples"
 rm -rf "$root/bindings/rust/target" "$root/examples/rule/target" # where cargo was run from another folder

@@ -310,13 +310,12 @@ fn main() {
     if wanted == "traces" {
         return traces_table::table();
     }
-    if wanted == "reads" {
-        let only = std::env::args().nth(2).unwrap_or_default();
-        let some: Vec<_> = shapes::all().into_iter().filter(|s| s.0.contains(&only)).collect();
-        return reads_table(&some, &mut vec![0u8; 48 << 20]);
-    }
-    if wanted == "formulas" {
-        return formulas_table(&shapes::all(), &mut vec![0u8; 48 << 20]);
+    for (word, table) in [("reads", reads_table as fn(&[(&str, Problem)], &mut [u8])), ("formulas", formulas_table)] {
+        if wanted == word {
+            let only = std::env::args().nth(2).unwrap_or_default();
+            let some: Vec<_> = shapes::all().into_iter().filter(|s| s.0.contains(&only)).collect();
+            return table(&some, &mut vec![0u8; 48 << 20]);
+        }
     }
     let all: Vec<_> = shapes::all().into_iter().filter(|s| s.0.contains(&wanted)).collect();
     let mut out = vec![0u8; 48 << 20];

@@ -103,11 +103,14 @@ fn main() {
         ("QF_ABV", memory, "(select (store |m| |x| ", ") |x|)"),
         ("QF_AUFBV", "(declare-fun |f| ((_ BitVec 8)) (_ BitVec 8))\n", "(|f| ", ")"),
     ] {
-        // The most levels within the depth: beside them stand (assert, a comparison and what a leaf has.
-        let deepest = (MAX_SCRIPT_DEPTH - 3) / (1 + usize::from(open.contains("(store")));
+        // Concatenations end as wide as what they are compared with by an extraction.
+        let joins = open.starts_with("(concat");
+        // The most levels within the depth: beside them stand (assert, a comparison, what a leaf has, and that extraction.
+        let deepest = (MAX_SCRIPT_DEPTH - 3 - usize::from(joins)) / (1 + usize::from(open.contains("(store")));
         for levels in [0, 1_000, 2_000, deepest, 100_000] {
             let logical = open.starts_with("(not") || open.starts_with("(and");
             let term = nested(open, if logical { "(= |x| |x|)" } else { "|x|" }, close, levels);
+            let term = if joins { format!("((_ extract 7 0) {term})") } else { term };
             let term = if logical { term } else { format!("(= {term} |x|)") };
             let text = script(logic, &format!("{X}{declared}"), std::iter::once(term));
             let mut number = 0;
