@@ -1,4 +1,4 @@
-// Reads a problem from standard input, in the layout of docs/COMMAND.md, and writes its script on standard output, or one line that
+// Reads a problem from standard input, in the layout of docs/FORMATS.md, and writes its script on standard output, or one line that
 // says why there is none.
 #![tactic(auto)]
 
