@@ -7,8 +7,7 @@
  *
  * The library is target/staticlib/libecho_c.a, written by `sh tools/staticlib.sh`, or lib/libecho_c.a of the archive. It is for x86-64, level
  * v2 (SSE4.2 and POPCNT) and above, with the System V calling convention, and can be linked into a program or into a shared library. It
- * allocates nothing, keeps nothing between calls, so that threads may call it at one time, and needs only memcpy, memmove and memset of the C
- * library.
+ * allocates nothing, keeps nothing between calls, so that threads may call it at one time, and needs only memcpy and memset of the C library.
  *
  * The functions take slices: a pointer and a number of elements (not of bytes). For each slice the caller sees to it that
  *

@@ -18,7 +18,7 @@ if [ ! -f "$library" ]; then
     sh tools/staticlib.sh
 fi
 mkdir -p "$out"
-others=$(nm -u "$library" | awk '$1 == "U" && $2 != "memcpy" && $2 != "memmove" && $2 != "memset" { print $2 }')
+others=$(nm -u "$library" | awk '$1 == "U" && $2 != "memcpy" && $2 != "memset" { print $2 }')
 if [ -n "$others" ]; then
     echo "run.sh: the library needs more of the C library than the header says:" $others
     exit 1

@@ -44,7 +44,8 @@ fn first_told(marks: &[Mark; MAX_NODES], bound: &[bool]) -> Result<(), EchoError
 pub struct Sharing<'a> {
     pub problem: &'a Problem<'a>,
     pub widths: &'a [u64],
-    pub shared: &'a [bool; MAX_NODES],
+    // The flags of the nodes. Flags past the last node are asked for nothing: who has more cuts them.
+    pub shared: &'a [bool],
     ghost known: { Sharing problem.now widths.now shared.now },
 }
 
@@ -72,8 +73,7 @@ impl<'a> Sharing<'a> {
         if root >= n as u64 {
             return Ok(());
         }
-        let shared = self.shared;
-        bound_nodes(self.problem, root, shared, bound);
+        bound_nodes(self.problem, root, self.shared, bound);
         let first = &bound[..n];
         first_told(marks, first)
     }
@@ -228,8 +228,7 @@ impl<'a> Assertions<'a> {
         ensures text { page result out.new ≡ written (page start out.old) (literal "(assert" ++ ((32 ∷ assertion_text (problem_in self.now) (widths_in self.now) root) ++ literal ")\n")) }
         ensures told { map unnamed marks.new ≡ map unnamed marks.old }
     {
-        let shared = self.sharing.shared;
-        bound_nodes(self.sharing.problem, root, shared, bound);
+        bound_nodes(self.sharing.problem, root, self.sharing.shared, bound);
         let first = &bound[..self.sharing.widths.len()];
         unname(marks);
         let opened = open_assert(start(), out);

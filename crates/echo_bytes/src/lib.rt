@@ -74,10 +74,10 @@ fn share(len: usize) -> u64
     }
 }
 
-// All of w.
-// Kept: a loop, and not `copy_from_slice`, which calls the C library for each word whose length is not known before: a script of names
+// All of w. Ruled out: the first byte left as it was.
+// Kept: by a loop; copy_from_slice needs memmove of the C library. It calls it for each word whose length is not known before: a script of names
 // and calls took up to a seventh longer with it.
-fn copy(to: &mut [u8], w: &[u8])
+pub fn copy(to: &mut [u8], w: &[u8])
     requires { length to.old ≡ length w.now }
     ensures { to.new ≡ w.now }
 {
@@ -122,7 +122,7 @@ impl Place {
     {
         if self.at < out.len() {
             let k = self.fitting(w.len(), out.len());
-            out[self.at..self.at + k].copy_from_slice(&w[..k]);
+            copy(&mut out[self.at..self.at + k], &w[..k]);
             return self.moved(k, w.len());
         }
         self.moved(0, w.len())

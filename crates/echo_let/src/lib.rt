@@ -17,7 +17,7 @@ use echo_kernel::settle;
 use echo_script::{Formed, measure};
 use echo_sharing::shared_nodes;
 use lent::Problem;
-use let_script::{let_filled, plain_filled};
+use let_script::{SharedOperators, let_filled, plain_filled};
 use refusals::{EchoError, MAX_NODES};
 
 // ---------------------------------------------------------------- the checks
@@ -38,7 +38,8 @@ fn let_tables(formed: &Formed, out: &mut [u8]) -> Result<Place, EchoError>
     if !names_clear(problem, shared) {
         return Err(EchoError::Clash);
     }
-    let_filled(formed, shared, out)
+    let operators = SharedOperators { formed, shared };
+    let_filled(&operators, out)
 }
 
 // Every check but the one for room, in order, and then the script as far as it fits; the place has the length that is needed.

@@ -2,11 +2,12 @@
 // A name is the part of its arena itself, never a copy, so `range_eq` and `word_is` of the Rust are `==` of two slices.
 #![tactic(auto)]
 
-ghost use Rattle.std.specs.Prelude.{◌≡◌, [], ◌++◌, ◌≤◌, ◌<◌, length, take, get_or};
+ghost use Rattle.std.specs.Prelude.{◌≡◌, [], ◌++◌, ◌+◌, ◌≤◌, ◌<◌, length, take, get_or};
 ghost use Rattle.lists.specs.Tests.{same, in_list, every};
 ghost use Rattle.echo_spec.specs.Input.{part as «part_of», names_of};
 ghost use Rattle.echo_spec.specs.Names.{byte_ok, first_ok, reserved, table_ok};
 ghost use Rattle.echo_names.specs.Groups.{total, in_table};
+ghost use Rattle.echo_names.specs.Compared.{Compared};
 ghost use Rattle.echo_names.specs.NameTables.{entry_at};
 
 use lent::get;
@@ -19,10 +20,13 @@ use lent::get;
 pub fn part<'a>(arena: &'a [u8], start: u64, len: u64) -> &'a [u8]
     ensures { result.now ≡ «part_of» arena.now start len }
 {
+    let n = arena.len();
     let from = start as usize;
-    match from.checked_add(len as usize) {
-        Some(to) if to <= arena.len() => &arena[from..to],
-        _ => &[],
+    let count = len as usize;
+    if from <= n && count <= n - from {
+        &arena[from..from + count]
+    } else {
+        &arena[..0]
     }
 }
 
@@ -35,13 +39,54 @@ pub fn name_at<'a>(arena: &'a [u8], starts: &[u64], lens: &[u64], k: u64) -> &'a
     part(arena, get(starts, k), get(lens, k))
 }
 
+// So many bytes are looked at together.
+const BLOCK: usize = 16;
+
+// Are the bytes of the block from place i on the same?
+// Kept: all of them are looked at; a loop that is not left midway is done at once.
+fn same_block(a: &[u8], b: &[u8], i: usize) -> bool
+    requires { (i + BLOCK ≤ length a.now) × (i + BLOCK ≤ length b.now) }
+    ensures { Compared a.now b.now i (i + BLOCK) result }
+{
+    let mut ok = true;
+    for k in i..i + BLOCK {
+        if a[k] != b[k] {
+            ok = false;
+        }
+    }
+    ok
+}
+
+// Are all bytes from place i on the same?
+fn same_rest(a: &[u8], b: &[u8], i: usize) -> bool
+    requires { (length a.now ≡ length b.now) × (i ≤ length a.now) }
+    ensures { Compared a.now b.now i (length a.now) result }
+{
+    for k in i..a.len() {
+        if a[k] != b[k] {
+            return false;
+        }
+    }
+    true
+}
+
 // Are the two the same bytes?
-// Kept: `==` of a slice and an array is refused, and the words that callers compare a name with are arrays.
+// Kept: by blocks; `==` looks at one byte after the other, and names that differ near their ends took up to 1.4 of the time.
 // Ruled out: one that compares no more bytes than the shorter has; one that leaves the last byte out.
 pub fn same_bytes(a: &[u8], b: &[u8]) -> bool
     ensures { result ≡ same a.now b.now }
 {
-    a == b
+    let n = a.len();
+    if n != b.len() {
+        return false;
+    }
+    let blocks = n / BLOCK;
+    for k in 0..blocks {
+        if !same_block(a, b, BLOCK * k) {
+            return false;
+        }
+    }
+    same_rest(a, b, BLOCK * blocks)
 }
 
 // ---------------------------------------------------------------- bytes of a name
@@ -138,13 +183,18 @@ pub fn is_reserved(name: &[u8]) -> bool
 // ---------------------------------------------------------------- name tables
 
 // Are two names the same? What tells most names apart is looked at first, and by itself: names that differ mostly do so at the end.
+// Kept: the last byte by its place; `last` of both as options took up to 1.5 of the time.
 fn same_name(a: &[u8], b: &[u8]) -> bool
     ensures { result ≡ same a.now b.now }
 {
-    if a.len() != b.len() {
+    let n = a.len();
+    if n != b.len() {
         return false;
     }
-    a.last() == b.last() && a == b
+    if n > 0 && a[n - 1] != b[n - 1] {
+        return false;
+    }
+    same_bytes(a, b)
 }
 
 // The names of a table: parts of its arena, each by an entry of two columns of one length.

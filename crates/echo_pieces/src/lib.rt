@@ -75,9 +75,10 @@ pub fn push_enclosed(a: &[u8], w: &[u8], b: &[u8], p: Place, out: &mut [u8]) -> 
     let all = last + b.len();
     if p.at < out.len() && all <= out.len() - p.at {
         if w.len() <= WORD {
-            out[p.at..p.at + first].copy_from_slice(a);
+            // Kept: by blocks; copy_from_slice needs memmove of the C library.
+            copy_word(&mut out[p.at..p.at + first], a);
             copy_word(&mut out[p.at + first..p.at + last], w);
-            out[p.at + last..p.at + all].copy_from_slice(b);
+            copy_word(&mut out[p.at + last..p.at + all], b);
             return p.moved(all, all);
         }
     }

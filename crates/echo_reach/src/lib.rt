@@ -11,7 +11,7 @@ ghost use Rattle.echo_tables.specs.Uses.{FormInside};
 ghost use Rattle.echo_sharing.specs.Flags.{Flags};
 ghost use Rattle.echo_reach.specs.Marks.{Adds, nodes_in, BothTo, Whole};
 
-use echo_sharing::{flagged, stores, stretch};
+use echo_sharing::{stores, stretch};
 use echo_tables::{Form, operands};
 use lent::{Problem, node_at};
 use refusals::MAX_NODES;
@@ -74,9 +74,14 @@ fn keep(shared: &[bool], marks: &mut [bool], n: usize)
     requires { n ≤ length marks.old }
     ensures { BothTo shared.now marks.old n marks.new }
 {
-    // Kept: by places, since a proof knows no element of what `iter_mut` goes over in a chain.
-    for i in 0..n {
-        marks[i] = flagged(shared, i as u64) & marks[i];
+    // Kept: by places, since a proof knows no element of what `iter_mut` goes over in a chain; in two loops, so that neither asks at each node
+    // whether it has a flag.
+    let m = n.min(shared.len());
+    for i in 0..m {
+        marks[i] = shared[i] & marks[i];
+    }
+    for j in m..n {
+        marks[j] = false;
     }
 }
 

@@ -1,5 +1,5 @@
 -- What each way out of `echo_size` answers. Assumes nothing.
-use Rattle.std.specs.Prelude.{ℕ, zero, suc, ◌^◌, ◌<◌, ◌≡◌, refl, List, T, Ok, Err, length, get_or}
+use Rattle.std.specs.Prelude.{ℕ, zero, suc, ◌^◌, ◌<◌, ◌≡◌, refl, List, [], T, Ok, Err, length, get_or}
 use Rattle.std.proofs.Common.{sym, ap, ◌∙◌, arith, le→leb}
 use Rattle.lists.specs.Tests.{every, places-every, T→true}
 use Rattle.echo_spec.specs.Refusals.{unless}
@@ -10,6 +10,8 @@ use Rattle.echo_spec.specs.Trees.{reading_of}
 use Rattle.echo_spec.specs.Walk.{walk_roots, table_checks, refusal_with}
 use Rattle.echo_spec.specs.Render.{render}
 use Rattle.echo_spec.specs.Answers.{script, endless_refusal}
+use Rattle.echo_bytes.specs.Page.{page, start, written}
+use Rattle.echo_bytes.specs.Laws.{written-full}
 use Rattle.refusals.specs.declared.EchoError.{EchoError}
 use Rattle.refusals.specs.Numbers.{error_number, error-number}
 use Rattle.echo_script.specs.Scripts.{plain_script, tables_refusal}
@@ -28,6 +30,10 @@ column_fits xs h = places-every fits64 0 xs (λ i l. let m = h i in le→leb (ge
 
 pub full-widths : (p : Problem) → ((i : ℕ) → get_or p.var_width i 0 < 2 ^ 64) → ((i : ℕ) → get_or p.func_width i 0 < 2 ^ 64) → FullWidths p
 full-widths p v f = record { variables = column_fits p.var_width v; functions = column_fits p.func_width f }
+
+-- the place that a text comes to in a buffer of no bytes
+pub sized-place : (text : List ℕ) {n : ℕ} → n ≡ held (length text) → page (record { at = 0; need = n }) [] ≡ written (page start []) text
+sized-place text {n} e = written-full start [] text n (omega arith) (omega arith)
 
 none_told : (q : Query) (x : ℕ) → 0 < x → ◌≡◌ {A = SizeAnswer} (record { number = x; length = 0; terms = 0 }) (size_with x q)
 unfolding size_with

@@ -1,15 +1,18 @@
 -- What is known of a lent problem when its script with `let` is written, and that script.
-use Rattle.std.specs.Prelude.{ℕ, ◌<◌, ◌≡◌, refl, List, [], ◌∷◌, ◌++◌, Bool, true, length, get_or, Option, Some, None, Result, Ok, Err}
-use Rattle.std.proofs.Common.{sym, ap, ◌∙◌, subst, append_assoc, arith, Bor}
+use Rattle.std.specs.Prelude.{ℕ, zero, suc, ◌<◌, ◌≡◌, refl, List, [], ◌∷◌, ◌++◌, map, Bool, true, length, get_or, Option, Some, None, Result, Ok, Err}
+use Rattle.std.proofs.Common.{sym, ap, ◌∙◌, subst, append_assoc, arith}
+use Rattle.std.proofs.Math.Decide.{dec_lt}
 use Rattle.lists.specs.Bytes.{bytes}
 use Rattle.lists.specs.Tests.{true→T, T→true}
 use Rattle.echo_spec.specs.Refusals.{unless}
-use Rattle.echo_spec.specs.Input.{Problem, array_widths, nodes_of, dag_of, query_of}
+use Rattle.echo_spec.specs.Shapes.{is_bool}
+use Rattle.echo_spec.specs.Input.{Problem, array_widths, shape, no_node, nodes_of, dag_of, query_of}
 use Rattle.echo_spec.specs.Widths.{ext_wf_of}
 use Rattle.echo_spec.specs.Sharing.{unshared}
 use Rattle.echo_spec.specs.Tables.{declarations_of}
-use Rattle.echo_spec.specs.Walk.{walk_roots, table_checks, checks}
+use Rattle.echo_spec.specs.Walk.{formula, sort_ok, walk_all, walk, walk_roots, table_checks, checks}
 use Rattle.echo_spec.specs.Render.{logic_text, declarations_text, frame}
+use Rattle.echo_spec.specs.Accepted.{or_else-passed}
 use Rattle.echo_spec.specs.Answers.{endless_with}
 use Rattle.lets.specs.Lets.{uses_in, shared, assertions_of, let_assertions_text, render_let, let_roots, names_clear, let_refusal_with, let_script, endless_let}
 use Rattle.lets.proofs.Plain.{binds-none, text-plain, roots-plain, clear-unshared}
@@ -20,7 +23,7 @@ use Rattle.lent.specs.Lent.{problem_at, dag_at}
 use Rattle.echo_bytes.specs.declared.Place.{Place}
 use Rattle.echo_bytes.specs.Page.{Page, page, start, written}
 use Rattle.echo_bytes.specs.Laws.{written_then}
-use Rattle.echo_tables.specs.Refused.{refused_at}
+use Rattle.echo_tables.specs.Refused.{refused_at, walk-past, walk_is}
 use Rattle.echo_tables.specs.Filling.{Refusable}
 use Rattle.echo_checks.specs.Limits.{bounds}
 use Rattle.echo_sharing.specs.Flags.{Flags, SharedIn}
@@ -34,7 +37,7 @@ use Rattle.echo_script.specs.Scripts.{plain_script, declared_checks}
 use Rattle.echo_script.specs.Outcomes.{Wrote}
 use Rattle.echo_script.specs.Prepared.{WellFormed, Filled}
 use Rattle.echo_script.proofs.Checking.{wrote_as, measured-checks}
-use Rattle.echo_script.proofs.Printing.{ready, walk_over, all-fine}
+use Rattle.echo_script.proofs.Printing.{ready}
 
 -- ---------------------------------------------------------------- the script, and what it is refused with from the names on
 
@@ -99,13 +102,24 @@ module _ {p : Lent} {ws : List ℕ} {tables : Tables} {first : List (Option ℕ)
   unfolding dag_of
   none-refused e = roots-refused (dag_at p) ws (length (problem_at p).bits) f.formed.widths f.formed.counted (uses_at p) (problem_at p).roots e
 
--- the roots of a problem none of whose terms is refused, by the walk over the tables
-pub roots-free : (problem : Bor Lent) (ws : Bor (List ℕ)) {tables : Tables} {first : List (Option ℕ)} → Filled problem.now ws.now tables first
-    → walk_roots (dag_at problem.now) ws.now (problem_at problem.now).roots ≡ 0 → RootsFree problem.now ws.now (problem_at problem.now).roots
-unfolding dag_of
-roots-free problem ws {tables} f e =
-    let fine = all-fine (walk_over problem ws (record { ref_ptr = problem.ref_ptr; now = tables }) f) e in
-    record { here = λ k l. omega (arith, (fine.at k l).here, f.formed.counted); free = λ k l. (fine.at k l).free }
+-- roots none of whose walks refuses, whichever roots they are
+module _ (p : Lent) {ws : List ℕ} (h : WellFormed (problem_at p) ws) where
+  root-free : (roots : List ℕ) → walk_roots (dag_at p) ws roots ≡ 0 → (k : ℕ) → k < length roots → (get_or roots k 0 < length (dag_at p).nodes) × (refused_at (dag_at p) ws (get_or roots k 0) ≡ 0)
+  unfolding walk_roots walk_all dag_of
+  root-free [] e k l = absurd (omega arith)
+  root-free (r ∷ rs) e (suc k) l = root-free rs (or_else-passed (walk (dag_at p) ws r true) (walk_all (walk (dag_at p) ws) (map formula rs)) e).1 k (omega arith)
+  root-free (r ∷ rs) e zero l = by_place (dec_lt r (length (dag_at p).nodes))
+    where
+      own : walk (dag_at p) ws r true ≡ 0
+      own = (or_else-passed (walk (dag_at p) ws r true) (walk_all (walk (dag_at p) ws) (map formula rs)) e).0
+
+      by_place : Dec (r < length (dag_at p).nodes) → (r < length (dag_at p).nodes) × (refused_at (dag_at p) ws r ≡ 0)
+      by_place (no m) = let z : ◌≡◌ {A = ℕ} 1 0 = sym (walk-past (dag_at p) ws r (omega arith) true) ∙ own in absurd (omega arith)
+      by_place (yes m) =
+          (m, (or_else-passed (unless (sort_ok true (is_bool (shape (get_or (dag_at p).nodes r no_node)))) 3) (refused_at (dag_at p) ws r) (sym (walk_is (dag_at p) ws (length (problem_at p).bits) h.widths h.counted r m true) ∙ own)).1)
+
+  pub roots-free : (roots : List ℕ) → walk_roots (dag_at p) ws roots ≡ 0 → RootsFree p ws roots
+  roots-free roots e = record { here = λ k l. (root-free roots e k l).0; free = λ k l. (root-free roots e k l).1 }
 
 -- ---------------------------------------------------------------- the script
 

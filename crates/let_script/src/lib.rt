@@ -103,17 +103,22 @@ pub fn plain_filled(formed: &Formed, out: &mut [u8]) -> Result<Place, EchoError>
     Ok(check_sat(asserted, out))
 }
 
+// A problem that passed the checks before the names, and which of its operators are shared.
+// Kept: beside `Sharing` of echo_bindings, which asks less of the problem.
+#[derive(Clone, Copy)]
+pub struct SharedOperators<'a> {
+    pub formed: &'a Formed<'a>,
+    pub shared: &'a [bool],
+    ghost flags: { Flags («shared-in» (dag_at formed.now.problem.now) (uses_at formed.now.problem.now)) shared.now },
+}
+
 // The script with `let` of a problem with these shared operators, from the declared variables on. Ruled out: a root's refusal told for that
 // of a bound term before it; a script though a bound term is refused.
 #[inline(never)]
-pub fn let_filled(
-    formed: &Formed,
-    shared: &[bool; MAX_NODES],
-    out: &mut [u8],
-) -> Result<Place, EchoError>
-    requires { Flags («shared-in» (dag_at formed.now.problem.now) (uses_at formed.now.problem.now)) shared.now }
-    ensures { Wrote (declared_checks (dag_at formed.now.problem.now) formed.now.widths.now (let_roots (dag_at formed.now.problem.now) formed.now.widths.now (uses_at formed.now.problem.now) (problem_at formed.now.problem.now).roots)) (shared_script (problem_at formed.now.problem.now) formed.now.widths.now) (page start out.old) result out.new }
+pub fn let_filled(operators: &SharedOperators, out: &mut [u8]) -> Result<Place, EchoError>
+    ensures { Wrote (declared_checks (dag_at operators.now.formed.now.problem.now) operators.now.formed.now.widths.now (let_roots (dag_at operators.now.formed.now.problem.now) operators.now.formed.now.widths.now (uses_at operators.now.formed.now.problem.now) (problem_at operators.now.formed.now.problem.now).roots)) (shared_script (problem_at operators.now.formed.now.problem.now) operators.now.formed.now.widths.now) (page start out.old) result out.new }
 {
+    let formed = operators.formed;
     let mut tables = Tables {
         entries: [None; MAX_NODES],
         marks: [BLANK; MAX_NODES],
@@ -123,7 +128,7 @@ pub fn let_filled(
     let sharing = Sharing {
         problem: formed.problem,
         widths: formed.widths,
-        shared: &*shared,
+        shared: operators.shared,
     };
     sharing.roots_told(&tables.marks, formed.problem.roots, &mut bound)?;
     let assertions = Assertions {

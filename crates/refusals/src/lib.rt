@@ -3,7 +3,7 @@
 #![tactic(auto)]
 
 ghost use Rattle.std.specs.Prelude.{◌≡◌};
-ghost use Rattle.refusals.specs.Numbers.{error_number, Decodes};
+ghost use Rattle.refusals.specs.Numbers.{error_number, Decodes, Numbered};
 
 // ---------------------------------------------------------------- refusals
 
@@ -75,6 +75,28 @@ impl TryFrom<u64> for EchoError {
             16 => Ok(EchoError::ShortRecord),
             _ => Err(Unlisted(n)),
         }
+    }
+}
+
+// The refusal with a number that a problem is refused with. It cannot fail. Ruled out: the one with the number before it; one refusal for
+// two numbers.
+pub fn error_of(n: u64) -> EchoError
+    requires { Numbered n }
+    ensures { error_number result ≡ n }
+{
+    match n {
+        1 => EchoError::Malformed,
+        2 => EchoError::Name,
+        3 => EchoError::Sort,
+        4 => EchoError::Var,
+        5 => EchoError::Rotate,
+        6 => EchoError::Shared,
+        7 => EchoError::Signature,
+        8 => EchoError::Encoding,
+        9 => EchoError::Limit,
+        10 => EchoError::Room,
+        11 => EchoError::Clash,
+        _ => EchoError::ArrayWidth,
     }
 }
 

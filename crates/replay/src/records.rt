@@ -10,7 +10,7 @@ ghost use Rattle.replay.specs.Stepping.{lent_bytes};
 use crate::unpack;
 use lent::word32;
 use refusals::EchoError;
-use std::alloc::{AllocError, Global};
+use std::alloc::{AllocError, AllocGlobal, Global};
 use std::collections::BTreeMap;
 use std::io;
 use std::io::{Read, Write};
@@ -237,16 +237,12 @@ fn replay_file<R: Read, W: Write, L: Replay>(
 
 // THE REPLAY of a list, which lies beside the program: each record is answered by the entry point and compared, number, count and every
 // place of what was lent, and the tally is written. A list that does not open is told, and is no error.
-pub fn run<H: Files + Print + Eprint, L: Replay>(
-    rt: &H,
-    alloc: Global,
-    list: &L,
-) -> io::Result<()> {
+pub fn run<H: Files + Print + Eprint + AllocGlobal, L: Replay>(rt: &H, list: &L) -> io::Result<()> {
     match streams::open(rt, list.words().path)? {
         Some(mut file) => {
             let mut out = io::writer(rt);
             list.begin(&mut out)?;
-            replay_file(alloc, list, &mut file, &mut out)
+            replay_file(rt.alloc(), list, &mut file, &mut out)
         }
         None => Ok(()),
     }

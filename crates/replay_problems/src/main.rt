@@ -17,7 +17,7 @@ static LISTS: [Recorded; 7] = [
 
 fn main(rt: HostRuntime) -> io::Result<()> {
     for list in &LISTS {
-        run(&rt, rt.alloc(), list)?;
+        run(&rt, list)?;
     }
     Ok(())
 }

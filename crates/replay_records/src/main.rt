@@ -110,5 +110,5 @@ impl Replay for Records {
 }
 
 fn main(rt: HostRuntime) -> io::Result<()> {
-    run(&rt, rt.alloc(), &Records)
+    run(&rt, &Records)
 }

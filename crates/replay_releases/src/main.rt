@@ -67,5 +67,5 @@ impl Replay for Releases {
 }
 
 fn main(rt: HostRuntime) -> io::Result<()> {
-    run(&rt, rt.alloc(), &Releases)
+    run(&rt, &Releases)
 }

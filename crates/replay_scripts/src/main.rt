@@ -100,5 +100,5 @@ impl Replay for Scripts {
 }
 
 fn main(rt: HostRuntime) -> io::Result<()> {
-    run(&rt, rt.alloc(), &Scripts)
+    run(&rt, &Scripts)
 }

@@ -198,5 +198,5 @@ impl Replay for Traces {
 }
 
 fn main(rt: HostRuntime) -> io::Result<()> {
-    run(&rt, rt.alloc(), &Traces)
+    run(&rt, &Traces)
 }

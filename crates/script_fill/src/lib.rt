@@ -71,12 +71,23 @@ impl Outputs<'_> {
     }
 }
 
+// All of `from`.
+// Kept: by a loop; copy_from_slice needs memmove of the C library.
+fn copy<T: Copy>(to: &mut [T], from: &[T])
+    requires { length to.old ≡ length from.now }
+    ensures { to.new ≡ from.now }
+{
+    for i in 0..from.len() {
+        to[i] = from[i];
+    }
+}
+
 // The elements of `part` at the front of `out`. Ruled out: the last of them left out; what lies past them cleared.
 pub fn fill<T: Copy>(part: &[T], out: &mut [T])
     requires { length part.now ≤ length out.old }
     ensures { out.new ≡ part.now ++ drop (length part.now) out.old }
 {
-    out[..part.len()].copy_from_slice(part);
+    copy(&mut out[..part.len()], part);
 }
 
 // ---------------------------------------------------------------- names
@@ -133,7 +144,7 @@ fn put_names(
     for i in 0..count {
         let name = name_of(script, from + i);
         let e = at + name.len();
-        names[at..e].copy_from_slice(name);
+        copy(&mut names[at..e], name);
         starts[i] = at as u64;
         lengths[i] = name.len() as u64;
         at = e;

@@ -30,11 +30,23 @@ pub fill-next : (l : List ℕ) {l' l'' : List ℕ} (at : ℕ) (xs : List ℕ) (k
     → l'' ≡ filled l at (xs ++ ys)
 fill-next l at xs k ys e z h f = f ∙ (λ i. filled (e i) (z i) ys) ∙ filled-filled l at xs ys (omega arith)
 
--- a word of four bytes
-pub word-stored : (l ys : List ℕ) (at k v : ℕ) → v ≤ 4294967295 → k ≡ 4 → ys ≡ v % 256 ∷ v / 256 % 256 ∷ v / 65536 % 256 ∷ v / 16777216 % 256 ∷ []
+-- a word of four bytes, one byte after the other
+pub word-stored : (l : List ℕ) (at v : ℕ) → at + 4 ≤ length l
+    → set (set (set (set l at (v % 256)) (at + 1) (v / 256 % 256)) (at + 2) (v / 65536 % 256)) (at + 3) (v / 16777216) ≡ filled l at (le32 v)
+word-stored l at v h =
+    let a : ℕ = v % 256 in
+    let b : ℕ = v / 256 % 256 in
+    let c : ℕ = v / 65536 % 256 in
+    let one = store-first l at a (omega arith) in
+    let two = store-next l at (a ∷ []) (at + 1) b one (omega arith) (omega arith) in
+    let three = store-next l at (a ∷ b ∷ []) (at + 2) c two (omega arith) (omega arith) in
+    store-next l at (a ∷ b ∷ c ∷ []) (at + 3) (v / 16777216) three (omega arith) (omega arith)
+
+-- a word's four bytes put there at once
+pub word-put : (l ys : List ℕ) (at k v : ℕ) → v ≤ 4294967295 → k ≡ 4 → ys ≡ v % 256 ∷ v / 256 % 256 ∷ v / 65536 % 256 ∷ v / 16777216 % 256 ∷ []
     → put_mid at k l ys ≡ filled l at (le32 v)
 unfolding filled
-word-stored l ys at k v small z e =
+word-put l ys at k v small z e =
     let last : v / 16777216 % 256 ≡ v / 16777216 = omega arith in
     (λ i. take at l ++ (e i ++ drop (z i) (drop at l)))
     ∙ (λ i. take at l ++ ((v % 256 ∷ v / 256 % 256 ∷ v / 65536 % 256 ∷ last i ∷ []) ++ drop-drop 4 at l i))

@@ -10,6 +10,7 @@ ghost use Rattle.lists.specs.Tests.{same};
 ghost use Rattle.script_tokens.specs.Reached.{between};
 ghost use Rattle.script_names.specs.Entries.{after_bar, entry_from, hash_of, hash_from, AllClosed, Named, Sought, Empty, Tabled, Noted};
 
+use echo_names::same_bytes;
 use script_tokens::name_end;
 
 // How many lines the table holds: as many as a script within the limits has.
@@ -112,11 +113,13 @@ fn after_bar(s: &[u8], at: usize) -> usize
 }
 
 // Do the bytes at place p begin with the name? Ruled out: one that compares no more bytes than are left; yes for bytes that differ in the last.
+// Kept: compared by blocks; `starts_with` looks at the whole name each time, and long chains of names of 32 bytes took up to twice the time.
 pub fn stands(s: &[u8], name: &[u8], p: usize) -> bool
     requires { p ≤ length s.now }
     ensures { result ≡ same name.now (take (length name.now) (drop p s.now)) }
 {
-    s[p..].starts_with(name)
+    let n = name.len();
+    n <= s.len() - p && same_bytes(name, &s[p..p + n])
 }
 
 // The lines one after the other.

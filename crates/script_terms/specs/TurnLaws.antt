@@ -293,6 +293,7 @@ module _ (s : List ℕ) (w : TermState) (p : ℕ) (D : Declarations) (a : ℕ) (
   more-none q = record {
     turned = λ f l. let (g, m, e) = x.reads f l in e ∙ ap (λ (o : State). rest g D o (drop p s)) x.held.is ∙ y.reads g m;
     further = λ e. absurd (subst T (sym e) tt);
+    high = x.high;
   }
     where
       y : NoneFrom s D p now
@@ -302,6 +303,7 @@ module _ (s : List ℕ) (w : TermState) (p : ℕ) (D : Declarations) (a : ℕ) (
   more-done {n} {e} q = record {
     turned = (low, y.2.high, λ f l. let (g, k, t) = x.reads f l in t ∙ ap (λ (o : State). rest g D o (drop p s)) x.held.is ∙ y.2.reads g k);
     further = λ k. absurd (subst T (sym k) tt);
+    high = y.2.high;
   }
     where
       y : (p ≤ e) × (((m : ℕ) → w ≡ Done m → ⊥) → p < e) × DoneFrom s D p now n e
@@ -320,6 +322,7 @@ module _ (s : List ℕ) (w : TermState) (p : ℕ) (D : Declarations) (a : ℕ) (
       reads = λ f l. let (g, m, t) = x.reads f l in let (k, n, u) = y.1.reads g m in (k, n, t ∙ ap (λ (o : State). rest g D o (drop p s)) x.held.is ∙ u);
     };
     further = λ _. y.1.low;
+    high = y.1.high;
   }
     where
       y : ((q m : ℕ) → d ≡ Arguments q m → w ≡ Arguments q m) × OperandFrom s D p now (state_of x.held.sorts d) e

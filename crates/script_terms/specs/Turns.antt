@@ -99,6 +99,7 @@ Turned s D a p w false = SortAt s D a (told_at w p)
 pub record Turn (s : List ℕ) (D : Declarations) (a p p' : ℕ) (w' : TermState) (r : Bool) : Type 0 where
   pub turned : Turned s D a p' w' r
   pub further : r ≡ true → p < p'
+  pub high : p' ≤ length s
 
 abbrev pub NextTo : List ℕ → ℕ → TermState → ℕ → TermState → Bool → Type 0
 NextTo s p w p' w' r = (D : Declarations) (a : ℕ) → Going s D a w p → Turn s D a p p' w' r

@@ -12,6 +12,7 @@ ghost use Rattle.short_records.specs.Short.{short_size, shortened, new_refusal, 
 ghost use Rattle.short_records.specs.Outcomes.{answered, Told};
 
 use blast_kernel::{KINDS, Shape, encoded};
+use echo_bytes::copy;
 use lent::clear_on_refusal;
 use refusals::{EchoError, MAX_NODE_BYTES, MAX_NODES, RECORD};
 
@@ -46,7 +47,8 @@ fn write_short(old: &[u8], out: &mut [u8])
     for i in 0..old.len() / RECORD {
         let from = RECORD * i;
         let size = short_size(old[from]);
-        out[at..at + size].copy_from_slice(&old[from..from + size]);
+        // Kept: by a loop; copy_from_slice needs memmove of the C library.
+        copy(&mut out[at..at + size], &old[from..from + size]);
         at += size;
     }
 }
@@ -115,7 +117,8 @@ fn write_long(new: &[u8], out: &mut [u8])
     // Kept: as in `count_records`.
     while from < new.len() {
         let size = short_size(new[from]);
-        out[at..at + size].copy_from_slice(&new[from..from + size]);
+        // Kept: by a loop; copy_from_slice needs memmove of the C library.
+        copy(&mut out[at..at + size], &new[from..from + size]);
         out[at + size..at + RECORD].fill(0);
         from += size;
         at += RECORD;

@@ -31,6 +31,7 @@ use Rattle.operators.specs.Kinds.{complete, last_of}
 use Rattle.blast_kernel.specs.Kinds.{shape_in}
 use Rattle.blast_kernel.specs.declared.Shape as code
 use Rattle.blast_kernel.specs.declared.Shape.TheVariants as codes
+use Rattle.bv.specs.Ranges.{One}
 use Rattle.bv.specs.declared.Vector.{Vector}
 use Rattle.vectors.specs.Vectors as smt
 use Rattle.trace_terms.specs.Ready.{variable_ready, own_as, bool_at, operand_ready, ready_step, ready_below, ready, held, Agree}
@@ -152,6 +153,18 @@ module _ (nodes bits ws vw : List ℕ) (entry : List (Option ℕ)) (row : List �
         sort = sort-is o.bool (bool_at ns o.node) (and_0 (sort_ok o.bool (bool_at ns o.node)) _ t);
       }
 
+  -- a node that can be evaluated is no wider than 64, so the number that is its value makes a vector of its width
+  narrow_at : (j : ℕ) → T (ready (nodes_of nodes) ws vw entry row j) → width_at ws j ≤ 64
+  unfolding ready ready_step
+  narrow_at j h = leb→le (width_at ws j) 64 (and_0 (leb (width_at ws j) 64) _ (and-1 (ltb j (length (nodes_of nodes))) _ h))
+
+  pub extraction-one : {i : ℕ} {bool : Bool} {c : ℕ} → Lower i bool c → 0 < width_at ws c → {x : ℕ} → ValuedOn c x → One (width_at ws c) x
+  extraction-one {i} {bool} {c} o p u = record { some = p; word = narrow_at c o.good; below = u.below }
+
+  pub comparison-two : {i : ℕ} {bool : Bool} {a b : ℕ} → Lower i bool a → 0 < width_at ws a → width_at ws a ≡ width_at ws b → {x y : ℕ} → ValuedOn a x → ValuedOn b y
+      → One (width_at ws a) x × One (width_at ws a) y
+  comparison-two {i} {bool} {a} o p q u v = (extraction-one o p u, record { some = p; word = narrow_at a o.good; below = rw (sym q) at v.below })
+
 -- ---------------------------------------------------------------- a node and its operands
 
 module _ {nodes bits ws vw : List ℕ} {entry : List (Option ℕ)} {row : List ℕ} {i : ℕ} {n : Node} (k : Whole nodes bits ws vw entry row i n) where
@@ -163,6 +176,9 @@ module _ {nodes bits ws vw : List ℕ} {entry : List (Option ℕ)} {row : List �
 
   abbrev Under : Bool → ℕ → Type 0
   Under bool j = Lower nodes bits ws vw entry row i bool j
+
+  abbrev Numbered : ℕ → ℕ → Type 0
+  Numbered j x = on.ValuedOn nodes bits ws vw entry row j x
 
   abbrev Is : ℕ → Vector → Type 0
   Is j r = Held nodes bits ws vw entry row j r
@@ -179,7 +195,7 @@ module _ {nodes bits ws vw : List ℕ} {entry : List (Option ℕ)} {row : List �
   open_own : (s : Shape) → shape n ≡ s → T (own_as ns ws vw entry row i n s)
   open_own s e = subst (λ (x : Shape). T (own_as ns ws vw entry row i n x)) e k.own
 
-  bool_is : (s : Shape) → shape n ≡ s → bool_at ns i ≡ is_bool s
+  pub bool_is : (s : Shape) → shape n ≡ s → bool_at ns i ≡ is_bool s
   bool_is s e = ap (λ (x : Node). is_bool (shape x)) (sym k.at) ∙ ap is_bool e
 
   open-value : (vars : ℕ → Value) (s : Shape) → shape n ≡ s → value_at ns ws bits vars i ≡ value_as ns ws bits vars (values_below ns ws bits vars i) i n s
@@ -232,12 +248,15 @@ module _ {nodes bits ws vw : List ℕ} {entry : List (Option ℕ)} {row : List �
   unfolding wf_as width_as
   var-width e = rw (open-width var e) (ltb→lt 0 n.a (and_0 (ltb 0 n.a) _ (open-wf var e)))
 
-  var-place : shape n ≡ var → get_or row (place_in entry i) 0 < 2 ^ width_at ws i
+  pub var-entry : shape n ≡ var → T (is_some (get_or entry i None)) × (place_in entry i < length row) × (get_or row (place_in entry i) 0 < 2 ^ width_at ws i)
   unfolding own_as variable_ready
-  var-place e =
+  var-entry e =
       let t = and-1 (eqb (get_or vw (place_in entry i) 0) (width_at ws i)) _ (open_own var e) in
-      let t₁ = and-1 (is_some (get_or entry i None)) _ t in
-      ltb→lt (get_or row (place_in entry i) 0) (2 ^ width_at ws i) (and-1 (ltb (place_in entry i) (length row)) _ t₁)
+      let t₁ = and-1 (is_some (get_or entry i None)) _ t in (
+        and_0 (is_some (get_or entry i None)) _ t,
+        ltb→lt (place_in entry i) (length row) (and_0 (ltb (place_in entry i) (length row)) _ t₁),
+        ltb→lt (get_or row (place_in entry i) 0) (2 ^ width_at ws i) (and-1 (ltb (place_in entry i) (length row)) _ t₁),
+      )
 
   -- what was worked out of the node
   fixed-here : {xs : List ℕ} → Fixed nodes bits ws entry xs → (s : Shape) → shape n ≡ s → get_or xs i 0 ≡ fixed_as ns ws bits entry i n s
@@ -249,7 +268,7 @@ module _ {nodes bits ws vw : List ℕ} {entry : List (Option ℕ)} {row : List �
   var-number f e p q = q ∙ ap (λ (j : ℕ). get_or row j 0) (p ∙ fixed-here f var e)
 
   pub var-below : (e : shape n ≡ var) {r : ℕ} → r ≡ get_or row (place_in entry i) 0 → r < 2 ^ width_at ws i
-  var-below e q = rw q (var-place e)
+  var-below e q = rw q (var-entry e).2
 
   pub var-arm : (e : shape n ≡ var) → T (ready ns ws vw entry row i) → (r : Vector) → r.width ≡ width_at ws i → r.number ≡ get_or row (place_in entry i) 0 → Is i r
   unfolding value_as is_bool
@@ -260,9 +279,9 @@ module _ {nodes bits ws vw : List ℕ} {entry : List (Option ℕ)} {row : List �
   unfolding wf_as width_as
   const-width e = (rw (open-width const e) (ltb→lt 0 n.b (and_0 (ltb 0 n.b) _ (open-wf const e))), sym (open-width const e))
 
-  const-room : shape n ≡ const → n.a + n.b ≤ length bits
+  pub const-room : shape n ≡ const → (n.a + n.b ≤ length bits) × (n.b ≡ width_at ws i)
   unfolding wf_as
-  const-room e = leb→le (n.a + n.b) (length bits) (and-1 (fits64 n.b) _ (and-1 (ltb 0 n.b) _ (open-wf const e)))
+  const-room e = (leb→le (n.a + n.b) (length bits) (and-1 (fits64 n.b) _ (and-1 (ltb 0 n.b) _ (open-wf const e))), (const-width e).1)
 
   pub const-number : {xs : List ℕ} → Fixed nodes bits ws entry xs → shape n ≡ const → {r : ℕ} → r ≡ get_or xs i 0 → r ≡ number (take n.b (drop n.a bits))
   unfolding fixed_as constant_bits
@@ -276,7 +295,7 @@ module _ {nodes bits ws vw : List ℕ} {entry : List (Option ℕ)} {row : List �
   pub const-arm : (e : shape n ≡ const) (r : Vector) → r.width ≡ width_at ws i → r.number ≡ number (take n.b (drop n.a bits)) → Is i r
   unfolding value_as is_bool constant_bits
   const-arm e r w p =
-      let inside : n.a + n.b ≤ length bits = const-room e in
+      let inside : n.a + n.b ≤ length bits = (const-room e).0 in
       let d : length (drop n.a bits) ≡ length bits - n.a = lib.ListN.length-drop n.a bits in
       let l : length (take n.b (drop n.a bits)) ≡ n.b = lib.Seq.length-take-le n.b (drop n.a bits) (omega arith) in
       to_vector const e refl r (λ vars ag. ap₂ values.vector (l ∙ (const-width e).1 ∙ sym w) (sym p)) w
@@ -284,9 +303,10 @@ module _ {nodes bits ws vw : List ℕ} {entry : List (Option ℕ)} {row : List �
   -- ---------------------------------------------------------------- two operands
 
   -- two operands of one width
-  pub record Pair : Type 0 where
-    pub first : Under false n.a
-    pub second : Under false n.b
+  pub record Pair (bool : Bool) : Type 0 where
+    pub first : Under bool n.a
+    pub second : Under bool n.b
+    pub some : 0 < width_at ws n.a
     pub same : width_at ws n.a ≡ width_at ws n.b
 
   both-lower : (s : Shape) → shape n ≡ s → operands_as [] n s ≡ vector n.a ∷ vector n.b ∷ [] → n.a < i → n.b < i → Under false n.a × Under false n.b
@@ -295,30 +315,41 @@ module _ {nodes bits ws vw : List ℕ} {entry : List (Option ℕ)} {row : List �
       let t₁ = and-1 (operand_ready ns below (vector n.a)) _ t in
       (under (vector n.a) (and_0 (operand_ready ns below (vector n.a)) _ t) p, under (vector n.b) (and_0 (operand_ready ns below (vector n.b)) _ t₁) r)
 
-  two-vectors : (s : Shape) → shape n ≡ s → operands_as [] n s ≡ vector n.a ∷ vector n.b ∷ [] → T (bin_wf (take i ws) n.a n.b) → Pair
+  two-vectors : (s : Shape) → shape n ≡ s → operands_as [] n s ≡ vector n.a ∷ vector n.b ∷ [] → T (bin_wf (take i ws) n.a n.b) → Pair false
   two-vectors s e q t =
       let o = bin-operands ws i k.exists n.a n.b t in
       let b = both-lower s e q o.0 o.1 in
-      record { first = b.0; second = b.1; same = o.3 }
+      record { first = b.0; second = b.1; some = o.2; same = o.3 }
 
-  pub same-widths : (p : Pair) {x y : Vector} → Is n.a x → Is n.b y → y.width ≡ x.width
+  pub same-widths : (p : Pair false) {x y : Vector} → Is n.a x → Is n.b y → y.width ≡ x.width
   same-widths p u v = v.width ∙ sym p.same ∙ sym u.width
 
-  pub binary-pair : shape n ≡ binary → Pair
+  pub binary-pair : shape n ≡ binary → Pair false
   unfolding wf_as operands_as
   binary-pair e = two-vectors binary e refl (open-wf binary e)
 
+  pub binary-width : shape n ≡ binary → width_at ws n.a ≡ width_at ws i
+  unfolding width_as
+  binary-width e = sym (open-width binary e ∙ width-before ws i k.exists n.a (binary-pair e).first.less)
+
+  pub binary-two : (e : shape n ≡ binary) {x y : ℕ} → Numbered n.a x → Numbered n.b y → One (width_at ws i) x × One (width_at ws i) y
+  binary-two e u v =
+      let p = binary-pair e in
+      let w = binary-width e in
+      let w' : width_at ws n.b ≡ width_at ws i = sym p.same ∙ w in
+      (record { some = rw w at p.some; word = k.narrow; below = rw w at u.below }, record { some = rw w at p.some; word = k.narrow; below = rw w' at v.below })
+
   pub binary-arm : (e : shape n ≡ binary) (f : ℕ → ℕ → ℕ → ℕ) → meaning n.kind ≡ values.binary f → {x y r : Vector} → Is n.a x → Is n.b y
       → r.width ≡ x.width → r.number ≡ f x.width x.number y.number → Is i r
-  unfolding value_as is_bool applied width_as
+  unfolding value_as is_bool applied
   binary-arm e f m {x} {y} {r} u v w q =
       let p = binary-pair e in
       to_vector binary e refl r
       (λ vars ag.
       rw (from_vector vars ag n.a x p.first u, from_vector vars ag n.b y p.second v, m, same-widths p u v, eqb_same x.width) (ap₂ values.vector (sym w) (sym q)))
-      (w ∙ u.width ∙ sym (open-width binary e ∙ width-before ws i k.exists n.a p.first.less))
+      (w ∙ u.width ∙ binary-width e)
 
-  pub comparison-pair : shape n ≡ comparison → Pair
+  pub comparison-pair : shape n ≡ comparison → Pair false
   unfolding wf_as operands_as
   comparison-pair e = two-vectors comparison e refl (open-wf comparison e)
 
@@ -334,53 +365,60 @@ module _ {nodes bits ws vw : List ℕ} {entry : List (Option ℕ)} {row : List �
 
   -- ---------------------------------------------------------------- one vector
 
-  pub unary-lower : shape n ≡ unary → Under false n.a
-  unfolding wf_as operands_as
+  pub unary-lower : shape n ≡ unary → Under false n.a × (0 < width_at ws n.a) × (width_at ws n.a ≡ width_at ws i)
+  unfolding wf_as width_as operands_as
   unary-lower e =
-      under (vector n.a) (and_0 (operand_ready ns below (vector n.a)) _ (open-operands unary e)) (un-operand ws i k.exists n.a (open-wf unary e)).0
+      let o = un-operand ws i k.exists n.a (open-wf unary e) in
+      let t = open-operands unary e in (
+        under (vector n.a) (and_0 (operand_ready ns below (vector n.a)) _ t) o.0,
+        o.1,
+        sym (open-width unary e ∙ width-before ws i k.exists n.a o.0),
+      )
+
+  pub unary-one : (e : shape n ≡ unary) {x : ℕ} → Numbered n.a x → One (width_at ws i) x
+  unary-one e u =
+      let p = unary-lower e in
+      record { some = rw p.2 at p.1; word = k.narrow; below = rw p.2 at u.below }
 
   pub unary-arm : (e : shape n ≡ unary) (f : ℕ → ℕ → ℕ) → meaning n.kind ≡ values.unary f → {x r : Vector} → Is n.a x
       → r.width ≡ x.width → r.number ≡ f x.width x.number → Is i r
-  unfolding value_as is_bool applied width_as
+  unfolding value_as is_bool applied
   unary-arm e f m {x} {r} u w q =
-      let o = unary-lower e in
+      let p = unary-lower e in
       to_vector unary e refl r
-      (λ vars ag. rw (from_vector vars ag n.a x o u, m) (ap₂ values.vector (sym w) (sym q)))
-      (w ∙ u.width ∙ sym (open-width unary e ∙ width-before ws i k.exists n.a o.less))
+      (λ vars ag. rw (from_vector vars ag n.a x p.0 u, m) (ap₂ values.vector (sym w) (sym q)))
+      (w ∙ u.width ∙ p.2)
 
   -- ---------------------------------------------------------------- rotations
 
-  rotation-operands : shape n ≡ rotation → (n.a < i) × (n.b < i) × (0 < width_at ws n.a) × (width_at ws n.a ≡ width_at ws n.b)
-  unfolding wf_as
-  rotation-operands e = bin-operands ws i k.exists n.a n.b (open-wf rotation e)
-
-  rotation-width : shape n ≡ rotation → width_at ws n.a ≡ width_at ws i
-  unfolding width_as
-  rotation-width e = sym (open-width rotation e ∙ width-before ws i k.exists n.a (rotation-operands e).0)
-
-  pub rotation-lower : shape n ≡ rotation → Under false n.a
-  unfolding operands_as
-  rotation-lower e = under (vector n.a) (and_0 (operand_ready ns below (vector n.a)) _ (open-operands rotation e)) (rotation-operands e).0
+  pub rotation-lower : shape n ≡ rotation → Under false n.a × (0 < width_at ws i) × (width_at ws n.a ≡ width_at ws i) × (n.b < i)
+  unfolding wf_as width_as operands_as
+  rotation-lower e =
+      let o = bin-operands ws i k.exists n.a n.b (open-wf rotation e) in
+      let t = open-operands rotation e in
+      let w : width_at ws n.a ≡ width_at ws i = sym (open-width rotation e ∙ width-before ws i k.exists n.a o.0) in
+      (under (vector n.a) (and_0 (operand_ready ns below (vector n.a)) _ t) o.0, rw w at o.2, w, o.1)
 
   pub rotation-amount : {xs : List ℕ} → Fixed nodes bits ws entry xs → shape n ≡ rotation → {a : ℕ} → a ≡ get_or xs i 0 → a ≡ amount_in ns ws bits i n
   unfolding fixed_as own_as
   rotation-amount f e q =
-      let p : 0 < width_at ws i = rw (rotation-width e) at (rotation-operands e).2 in
+      let p : 0 < width_at ws i = (rotation-lower e).1 in
       let c : eqb (get_or ns n.b no_node).kind Const ≡ true = T→true (eqb (get_or ns n.b no_node).kind Const) (open_own rotation e) in
       q ∙ fixed-here f rotation e ∙ rw (lt-ltb 0 (width_at ws i) p, le-leb (width_at ws i) 64 k.narrow, c) refl
 
   pub rotation-turned : (e : shape n ≡ rotation) {x : Vector} {a : ℕ} → Is n.a x → a ≡ amount_in ns ws bits i n → a < x.width
   rotation-turned e u q =
-      let p : 0 < width_at ws i = rw (rotation-width e) at (rotation-operands e).2 in
-      rw (u.width, rotation-width e, q) (mod-lt (bits_value (constant_bits bits (get_or ns n.b no_node))) p)
+      let p = rotation-lower e in
+      rw (u.width, p.2, q) (mod-lt (bits_value (constant_bits bits (get_or ns n.b no_node))) p.1)
 
   pub rotation-arm : (e : shape n ≡ rotation) (f : ℕ → ℕ → ℕ → ℕ) → meaning n.kind ≡ values.moved f values.unchanged → {x r : Vector} {a : ℕ} → Is n.a x
       → a ≡ amount_in ns ws bits i n → r.width ≡ x.width → r.number ≡ f a x.width x.number → Is i r
   unfolding value_as is_bool applied
   rotation-arm e f m {x} {r} u q w g =
+      let p = rotation-lower e in
       to_vector rotation e refl r
-      (λ vars ag. rw (from_vector vars ag n.a x (rotation-lower e) u, ← q, m) (ap₂ values.vector (sym w) (sym g)))
-      (w ∙ u.width ∙ rotation-width e)
+      (λ vars ag. rw (from_vector vars ag n.a x p.0 u, ← q, m) (ap₂ values.vector (sym w) (sym g)))
+      (w ∙ u.width ∙ p.2)
 
   -- ---------------------------------------------------------------- parts
 
@@ -388,50 +426,54 @@ module _ {nodes bits ws vw : List ℕ} {entry : List (Option ℕ)} {row : List �
   only : (test : Shape → Bool) → test unknown ≡ false → (kind : ℕ) → T (complete test (kind ∷ [])) → test (shape n) ≡ true → n.kind ≡ kind
   only test none kind t e = last_of test none kind [] t n.kind e tt
 
-  extraction-operand : shape n ≡ extraction → (n.c < i) × (n.b ≤ n.a) × (n.a < width_at ws n.c)
-  unfolding wf_as
-  extraction-operand e =
+  pub extraction-lower : shape n ≡ extraction → Under false n.c × (n.b ≤ n.a) × (n.a < width_at ws n.c) × (n.a - n.b + 1 ≡ width_at ws i)
+  unfolding wf_as width_as operands_as
+  extraction-lower e =
       let t = open-wf extraction e in
       let t₁ = and-1 (earlier (take i ws) n.c) _ t in
       let lo : n.c < i = earlier-below ws i k.exists n.c (and_0 (earlier (take i ws) n.c) _ t) in
-      let q : n.a < width_at (take i ws) n.c = ltb→lt n.a (width_at (take i ws) n.c) (and-1 (leb n.b n.a) _ t₁) in
-      (lo, leb→le n.b n.a (and_0 (leb n.b n.a) _ t₁), rw (width-before ws i k.exists n.c lo) at q)
-
-  pub extraction-lower : shape n ≡ extraction → Under false n.c
-  unfolding operands_as
-  extraction-lower e = under (vector n.c) (and_0 (operand_ready ns below (vector n.c)) _ (open-operands extraction e)) (extraction-operand e).0
+      let q : n.a < width_at (take i ws) n.c = ltb→lt n.a (width_at (take i ws) n.c) (and-1 (leb n.b n.a) _ t₁) in (
+        under (vector n.c) (and_0 (operand_ready ns below (vector n.c)) _ (open-operands extraction e)) lo,
+        leb→le n.b n.a (and_0 (leb n.b n.a) _ t₁),
+        rw (width-before ws i k.exists n.c lo) at q,
+        sym (open-width extraction e),
+      )
 
   pub extraction-places : (e : shape n ≡ extraction) {x : Vector} → Is n.c x → (n.b ≤ n.a) × (n.a < x.width)
-  extraction-places e u = let p = extraction-operand e in (p.1, rw u.width p.2)
+  extraction-places e u = let p = extraction-lower e in (p.1, rw u.width p.2)
 
   pub extraction-arm : (e : shape n ≡ extraction) {x r : Vector} → Is n.c x → r.width ≡ n.a - n.b + 1 → r.number ≡ smt.extract n.a n.b x.number → Is i r
-  unfolding value_as is_bool applied meanings shapes width_as
+  unfolding value_as is_bool applied meanings shapes
   extraction-arm e {x} {r} u w q =
+      let o = extraction-lower e in
       let p = extraction-places e u in
       let m : meaning n.kind ≡ values.extraction = ap meaning (only is_extraction refl 14 tt (ap is_extraction e)) in
       let b₁ : leb n.b n.a ≡ true = T→true (leb n.b n.a) (le→leb n.b n.a p.0) in
       let b₂ : ltb n.a x.width ≡ true = T→true (ltb n.a x.width) (lt→ltb n.a x.width p.1) in
       to_vector extraction e refl r
-      (λ vars ag. rw (from_vector vars ag n.c x (extraction-lower e) u, m, b₁, b₂) (ap₂ values.vector (sym w) (sym q)))
-      (w ∙ sym (open-width extraction e))
+      (λ vars ag. rw (from_vector vars ag n.c x o.0 u, m, b₁, b₂) (ap₂ values.vector (sym w) (sym q)))
+      (w ∙ o.3)
 
-  concat-operands : shape n ≡ concat → (n.a < i) × (n.b < i)
-  unfolding wf_as
-  concat-operands e =
+  pub concat-lower : shape n ≡ concat
+      → Under false n.a × Under false n.b × (0 < width_at ws n.a) × (0 < width_at ws n.b) × (width_at ws n.a + width_at ws n.b ≡ width_at ws i)
+  unfolding wf_as width_as operands_as
+  concat-lower e =
       let t = open-wf concat e in
       let t₁ = and-1 (un_wf (take i ws) n.a) _ t in
-      ((un-operand ws i k.exists n.a (and_0 (un_wf (take i ws) n.a) _ t)).0, (un-operand ws i k.exists n.b (and_0 (un_wf (take i ws) n.b) _ t₁)).0)
+      let p = un-operand ws i k.exists n.a (and_0 (un_wf (take i ws) n.a) _ t) in
+      let q = un-operand ws i k.exists n.b (and_0 (un_wf (take i ws) n.b) _ t₁) in
+      let b = both-lower concat e refl p.0 q.0 in
+      (b.0, b.1, p.1, q.1, sym (open-width concat e ∙ ap₂ (λ (x y : ℕ). x + y) (width-before ws i k.exists n.a p.0) (width-before ws i k.exists n.b q.0)))
 
-  pub concat-lower : shape n ≡ concat → Under false n.a × Under false n.b
-  unfolding operands_as
-  concat-lower e = both-lower concat e refl (concat-operands e).0 (concat-operands e).1
+  pub concat-joined : (e : shape n ≡ concat) {x y : ℕ} → Numbered n.a x → Numbered n.b y
+      → One (width_at ws n.a) x × One (width_at ws n.b) y × (width_at ws n.a + width_at ws n.b ≤ 64)
+  concat-joined e u v =
+      let p = concat-lower e in
+      let w : width_at ws n.a + width_at ws n.b ≤ 64 = rw p.4 k.narrow in
+      (record { some = p.2; word = omega arith; below = u.below }, record { some = p.3; word = omega arith; below = v.below }, w)
 
   concat-width : (e : shape n ≡ concat) {x y : Vector} → Is n.a x → Is n.b y → x.width + y.width ≡ width_at ws i
-  unfolding width_as
-  concat-width e u v =
-      let o = concat-operands e in
-      ap₂ (λ (a b : ℕ). a + b) u.width v.width
-      ∙ sym (open-width concat e ∙ ap₂ (λ (a b : ℕ). a + b) (width-before ws i k.exists n.a o.0) (width-before ws i k.exists n.b o.1))
+  concat-width e u v = ap₂ (λ (a b : ℕ). a + b) u.width v.width ∙ (concat-lower e).4
 
   pub concat-room : (e : shape n ≡ concat) {x y : Vector} → Is n.a x → Is n.b y → x.width + y.width ≤ 64
   concat-room e u v = rw (concat-width e u v) k.narrow
@@ -446,18 +488,24 @@ module _ {nodes bits ws vw : List ℕ} {entry : List (Option ℕ)} {row : List �
       (λ vars ag. rw (from_vector vars ag n.a x p.0 u, from_vector vars ag n.b y p.1 v, m) (ap₂ values.vector (sym w) (sym q)))
       (w ∙ concat-width e u v)
 
-  extension-operand : shape n ≡ extension → n.a < i
-  unfolding wf_as extend_wf
-  extension-operand e = (un-operand ws i k.exists n.a (and_0 (un_wf (take i ws) n.a) _ (open-wf extension e))).0
+  pub extension-lower : shape n ≡ extension → Under false n.a × (0 < width_at ws n.a) × (width_at ws n.a + n.b ≡ width_at ws i)
+  unfolding wf_as width_as operands_as extend_wf
+  extension-lower e =
+      let t = open-wf extension e in
+      let p = un-operand ws i k.exists n.a (and_0 (un_wf (take i ws) n.a) _ t) in (
+        under (vector n.a) (and_0 (operand_ready ns below (vector n.a)) _ (open-operands extension e)) p.0,
+        p.1,
+        sym (open-width extension e ∙ ap (λ (x : ℕ). x + n.b) (width-before ws i k.exists n.a p.0)),
+      )
 
-  pub extension-lower : shape n ≡ extension → Under false n.a
-  unfolding operands_as
-  extension-lower e = under (vector n.a) (and_0 (operand_ready ns below (vector n.a)) _ (open-operands extension e)) (extension-operand e)
+  pub extension-longer : (e : shape n ≡ extension) {x : ℕ} → Numbered n.a x → One (width_at ws n.a) x × (width_at ws n.a + n.b ≤ 64)
+  extension-longer e u =
+      let p = extension-lower e in
+      let w : width_at ws n.a + n.b ≤ 64 = rw p.2 k.narrow in
+      (record { some = p.1; word = omega arith; below = u.below }, w)
 
   extension-width : (e : shape n ≡ extension) {x : Vector} → Is n.a x → x.width + n.b ≡ width_at ws i
-  unfolding width_as
-  extension-width e u =
-      ap (λ (a : ℕ). a + n.b) u.width ∙ sym (open-width extension e ∙ ap (λ (x : ℕ). x + n.b) (width-before ws i k.exists n.a (extension-operand e)))
+  extension-width e u = ap (λ (a : ℕ). a + n.b) u.width ∙ (extension-lower e).2
 
   pub extension-room : (e : shape n ≡ extension) {x : Vector} → Is n.a x → x.width + n.b ≤ 64
   extension-room e u = rw (extension-width e u) k.narrow
@@ -467,7 +515,7 @@ module _ {nodes bits ws vw : List ℕ} {entry : List (Option ℕ)} {row : List �
   unfolding value_as is_bool applied
   extension-arm e f m {x} {r} u w q =
       to_vector extension e refl r
-      (λ vars ag. rw (from_vector vars ag n.a x (extension-lower e) u, m) (ap₂ values.vector (sym w) (sym q)))
+      (λ vars ag. rw (from_vector vars ag n.a x (extension-lower e).0 u, m) (ap₂ values.vector (sym w) (sym q)))
       (w ∙ extension-width e u)
 
   -- ---------------------------------------------------------------- ite
@@ -512,28 +560,36 @@ module _ {nodes bits ws vw : List ℕ} {entry : List (Option ℕ)} {row : List �
 
   -- ---------------------------------------------------------------- Bools
 
-  pub negation-lower : shape n ≡ negation → Under true n.a
+  pub negation-lower : shape n ≡ negation → Under true n.a × (width_at ws n.a ≡ 1)
   unfolding wf_as operands_as
   negation-lower e =
-      under (formula n.a) (and_0 (operand_ready ns below (formula n.a)) _ (open-operands negation e))
-      (earlier-width ws i k.exists 1 n.a (open-wf negation e)).0
+      let c = earlier-width ws i k.exists 1 n.a (open-wf negation e) in
+      (under (formula n.a) (and_0 (operand_ready ns below (formula n.a)) _ (open-operands negation e)) c.0, c.1)
+
+  -- a Bool's number is 0 or 1
+  pub bit-of : (j x : ℕ) → width_at ws j ≡ 1 → Numbered j x → x < 2
+  bit-of j x w u = rw w at u.below
 
   pub negation-arm : (e : shape n ≡ negation) {x r : Vector} → Is n.a x → r.width ≡ 1 → eqb r.number 1 ≡ not (eqb x.number 1) → Is i r
   unfolding value_as is_bool applied meanings shapes width_as
   negation-arm e {x} {r} u w q =
       let m : meaning n.kind ≡ values.negation = ap meaning (only is_negation refl 29 tt (ap is_negation e)) in
       to-truth negation e refl r
-      (λ vars ag. rw (from-truth vars ag n.a x (negation-lower e) u, m) (ap truth (sym q))) (w ∙ sym (open-width negation e))
+      (λ vars ag. rw (from-truth vars ag n.a x (negation-lower e).0 u, m) (ap truth (sym q))) (w ∙ sym (open-width negation e))
 
-  pub connective-lower : shape n ≡ connective → Under true n.a × Under true n.b
+  pub connective-lower : shape n ≡ connective → Under true n.a × Under true n.b × (width_at ws n.a ≡ 1) × (width_at ws n.b ≡ 1)
   unfolding wf_as operands_as bool_bin_wf
   connective-lower e =
       let t = open-wf connective e in
       let c = earlier-width ws i k.exists 1 n.a (and_0 (earlier_of (take i ws) 1 n.a) _ t) in
       let d = earlier-width ws i k.exists 1 n.b (and-1 (earlier_of (take i ws) 1 n.a) _ t) in
       let s = open-operands connective e in
-      let s₁ = and-1 (operand_ready ns below (formula n.a)) _ s in
-      (under (formula n.a) (and_0 (operand_ready ns below (formula n.a)) _ s) c.0, under (formula n.b) (and_0 (operand_ready ns below (formula n.b)) _ s₁) d.0)
+      let s₁ = and-1 (operand_ready ns below (formula n.a)) _ s in (
+        under (formula n.a) (and_0 (operand_ready ns below (formula n.a)) _ s) c.0,
+        under (formula n.b) (and_0 (operand_ready ns below (formula n.b)) _ s₁) d.0,
+        c.1,
+        d.1,
+      )
 
   pub connective-arm : (e : shape n ≡ connective) (f : Bool → Bool → Bool) → meaning n.kind ≡ values.connective f → {x y r : Vector} → Is n.a x → Is n.b y
       → r.width ≡ 1 → eqb r.number 1 ≡ f (eqb x.number 1) (eqb y.number 1) → Is i r

@@ -32,5 +32,5 @@ names_clear-requires c =
       aligned = columns-aligned _ c.args.formed.now.formed.columns;
     }
 
-pub let_filled-requires : goal.let_filled-requires
-let_filled-requires c = some-shared (problem_at c.args.formed.now.problem.now) c.in-Some.is c.shared_nodes-shared.ensures
+pub invariant_of-operators : goal.invariant_of-operators
+invariant_of-operators c = record { flags = some-shared (problem_at c.args.formed.now.problem.now) c.in-Some.is c.shared_nodes-shared.ensures }

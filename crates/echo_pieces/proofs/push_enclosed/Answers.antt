@@ -6,4 +6,4 @@ use Rattle.echo_pieces.proofs.push_enclosed.Goals as goal
 
 pub returns-then-w-le-WORD : goal.returns-then-w-le-WORD
 returns-then-w-le-WORD c =
-    written-enclosed _ _ _ _ _ _ _ _ _ _ _ refl refl refl (omega arith) c.copy_from_slice.ensures.after c.copy_word.ensures c.copy_from_slice-then-w-le-WORD.ensures.after c.moved.ensures
+    written-enclosed _ _ _ _ _ _ _ _ _ _ _ refl refl refl (omega arith) c.copy_word.ensures c.copy_word-then-w-le-WORD.ensures c.copy_word-then-w-le-WORD-2.ensures c.moved.ensures

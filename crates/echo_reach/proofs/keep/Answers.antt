@@ -1,5 +1,5 @@
 -- `keep` meets its contract: the marks of the first nodes are those of shared nodes.
-use Rattle.std.proofs.Common.{arith, ap, Bool, ◌&&◌, false, get_or}
+use Rattle.std.proofs.Common.{arith, refl}
 use Rattle.echo_reach.specs.Marks.{both-none, both-more}
 use Rattle.echo_reach.proofs.keep.Goals as goal
 
@@ -7,4 +7,7 @@ pub loop-i-init : goal.loop-i-init
 loop-i-init c = both-none _ _
 
 pub loop-i-preserved : goal.loop-i-preserved
-loop-i-preserved c = both-more c.loop-i.invariant (omega (arith, c.loop-i.invariant.size)) (ap (λ (b : Bool). b && get_or c.loop-i.marks c.loop-i.i false) c.flagged.ensures)
+loop-i-preserved c = both-more c.loop-i.invariant (omega (arith, c.loop-i.invariant.size)) refl
+
+pub bounds-marks-i : goal.bounds-marks-i
+bounds-marks-i c = omega (arith, c.loop-i.invariant.size)

@@ -7,21 +7,21 @@ use Rattle.short_records.proofs.write_long.Goals as goal
 pub loop-from-init : goal.loop-from-init
 loop-from-init c = filling-none _ _ _
 
-pub slice_bounds-copy_from_slice-end : goal.slice_bounds-copy_from_slice-end
-slice_bounds-copy_from_slice-end c =
+pub slice_bounds-copy-end : goal.slice_bounds-copy-end
+slice_bounds-copy-end c =
     record-fits c.loop-from.invariant (omega arith) c.requires.0 c.requires.1 _ c.short_size-size.ensures.0
 
 pub overflow_add-at : goal.overflow_add-at
 overflow_add-at c =
     omega (arith, fits c.loop-from.invariant (omega arith) c.requires.0 c.requires.1 _ c.short_size-size.ensures.0, small c.loop-from.invariant (omega arith) c.requires.0 c.requires.1 _ c.short_size-size.ensures.0)
 
-pub slice_bounds-copy_from_slice-end-in-loop-from : goal.slice_bounds-copy_from_slice-end-in-loop-from
-slice_bounds-copy_from_slice-end-in-loop-from c =
+pub slice_bounds-copy-end-in-loop-from : goal.slice_bounds-copy-end-in-loop-from
+slice_bounds-copy-end-in-loop-from c =
     omega (arith, inside c.loop-from.invariant (omega arith) c.requires.0 c.requires.1 _ c.short_size-size.ensures.0)
 
 pub slice_bounds-fill-end : goal.slice_bounds-fill-end
 slice_bounds-fill-end c =
-    zeros-fit c.loop-from.invariant (omega arith) c.requires.0 c.requires.1 _ c.short_size-size.ensures.0 c.copy_from_slice.ensures.after
+    zeros-fit c.loop-from.invariant (omega arith) c.requires.0 c.requires.1 _ c.short_size-size.ensures.0 c.copy.ensures
 
 pub overflow_add-from : goal.overflow_add-from
 overflow_add-from c =
@@ -37,7 +37,7 @@ loop-from-smaller c =
 
 pub loop-from-preserved : goal.loop-from-preserved
 loop-from-preserved c =
-    filling-more c.loop-from.invariant (omega arith) c.requires.0 c.requires.1 _ c.short_size-size.ensures.0 c.copy_from_slice.ensures.after (c.fill.ensures.after (λ y e. search rules))
+    filling-more c.loop-from.invariant (omega arith) c.requires.0 c.requires.1 _ c.short_size-size.ensures.0 c.copy.ensures (c.fill.ensures.after (λ y e. search rules))
 
 pub returns : goal.returns
 returns c =

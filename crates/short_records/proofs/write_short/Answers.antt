@@ -9,8 +9,8 @@ use Rattle.short_records.proofs.write_short.Goals as goal
 pub loop-i-init : goal.loop-i-init
 loop-i-init c = writing-none _ _ _
 
-pub slice_bounds-copy_from_slice-end : goal.slice_bounds-copy_from_slice-end
-slice_bounds-copy_from_slice-end c =
+pub slice_bounds-copy-end : goal.slice_bounds-copy-end
+slice_bounds-copy-end c =
     copy-fits c.loop-i.invariant (omega arith) (omega arith) c.requires _ c.short_size-size.ensures.0
 
 pub overflow_add-at : goal.overflow_add-at
@@ -19,7 +19,7 @@ overflow_add-at c =
 
 pub loop-i-preserved : goal.loop-i-preserved
 loop-i-preserved c =
-    writing_more c.loop-i.invariant (omega arith) (omega arith) c.requires _ c.short_size-size.ensures.0 c.copy_from_slice.ensures.after
+    writing_more c.loop-i.invariant (omega arith) (omega arith) c.requires _ c.short_size-size.ensures.0 c.copy.ensures
 
 pub returns : goal.returns
 returns c =

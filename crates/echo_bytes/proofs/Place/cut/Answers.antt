@@ -6,7 +6,7 @@ use Rattle.echo_bytes.proofs.Place.cut.Goals as goal
 
 pub returns-then-self-out : goal.returns-then-self-out
 returns-then-self-out c =
-    written-moved _ _ _ _ _ _ c.fitting-k.ensures refl (over-part _ _ _ _ _ _ refl (omega (arith, c.fitting-k.ensures)) c.copy_from_slice.ensures.after) c.moved.ensures
+    written-moved _ _ _ _ _ _ c.fitting-k.ensures refl (over-part _ _ _ _ _ _ refl (omega (arith, c.fitting-k.ensures)) c.copy.ensures) c.moved.ensures
 
 pub returns : goal.returns
 returns c = written_none _ _ _ _ c.if-self-out.false refl c.moved-2.ensures

@@ -25,13 +25,13 @@ pub binary-requires : goal.binary-requires
 binary-requires t c = let k = known c.args.self.now c.args.row.now c.args.i c.requires (node_of c.node_at-n.result) c.node_at-n.ensures in same-widths k (binary-pair k (sym c.from.ensures.shape ∙ ap shape_in c.in-Binary.is)) c.value-x.ensures c.value-y.ensures
 
 pub value-x-requires-in-Rotation : goal.value-x-requires-in-Rotation
-value-x-requires-in-Rotation t c = let k = known c.args.self.now c.args.row.now c.args.i c.requires (node_of c.node_at-n.result) c.node_at-n.ensures in let o = rotation-lower k (sym c.from.ensures.shape ∙ ap shape_in c.in-Rotation.is) in (falls-to o.less c.decreases, o.good)
+value-x-requires-in-Rotation t c = let k = known c.args.self.now c.args.row.now c.args.i c.requires (node_of c.node_at-n.result) c.node_at-n.ensures in let o = (rotation-lower k (sym c.from.ensures.shape ∙ ap shape_in c.in-Rotation.is)).0 in (falls-to o.less c.decreases, o.good)
 
 pub rotation-requires : goal.rotation-requires
 rotation-requires t c = let k = known c.args.self.now c.args.row.now c.args.i c.requires (node_of c.node_at-n.result) c.node_at-n.ensures in rotation-turned k (sym c.from.ensures.shape ∙ ap shape_in c.in-Rotation.is) c.value-x-in-Rotation.ensures (rotation-amount k c.args.self.now.filled (sym c.from.ensures.shape ∙ ap shape_in c.in-Rotation.is) c.get-in-Rotation.ensures)
 
 pub value-x-requires-in-Extraction : goal.value-x-requires-in-Extraction
-value-x-requires-in-Extraction t c = let k = known c.args.self.now c.args.row.now c.args.i c.requires (node_of c.node_at-n.result) c.node_at-n.ensures in let o = extraction-lower k (sym c.from.ensures.shape ∙ ap shape_in c.in-Extraction.is) in (falls-to o.less c.decreases, o.good)
+value-x-requires-in-Extraction t c = let k = known c.args.self.now c.args.row.now c.args.i c.requires (node_of c.node_at-n.result) c.node_at-n.ensures in let o = (extraction-lower k (sym c.from.ensures.shape ∙ ap shape_in c.in-Extraction.is)).0 in (falls-to o.less c.decreases, o.good)
 
 pub extract-requires : goal.extract-requires
 extract-requires t c = let k = known c.args.self.now c.args.row.now c.args.i c.requires (node_of c.node_at-n.result) c.node_at-n.ensures in extraction-places k (sym c.from.ensures.shape ∙ ap shape_in c.in-Extraction.is) c.value-x-in-Extraction.ensures
@@ -46,7 +46,7 @@ pub concat-requires : goal.concat-requires
 concat-requires t c = let k = known c.args.self.now c.args.row.now c.args.i c.requires (node_of c.node_at-n.result) c.node_at-n.ensures in concat-room k (sym c.from.ensures.shape ∙ ap shape_in c.in-Concat.is) c.value-x-in-Concat.ensures c.value-y-in-Concat.ensures
 
 pub value-x-requires-in-Extension : goal.value-x-requires-in-Extension
-value-x-requires-in-Extension t c = let k = known c.args.self.now c.args.row.now c.args.i c.requires (node_of c.node_at-n.result) c.node_at-n.ensures in let o = extension-lower k (sym c.from.ensures.shape ∙ ap shape_in c.in-Extension.is) in (falls-to o.less c.decreases, o.good)
+value-x-requires-in-Extension t c = let k = known c.args.self.now c.args.row.now c.args.i c.requires (node_of c.node_at-n.result) c.node_at-n.ensures in let o = (extension-lower k (sym c.from.ensures.shape ∙ ap shape_in c.in-Extension.is)).0 in (falls-to o.less c.decreases, o.good)
 
 pub extension-requires : goal.extension-requires
 extension-requires t c = let k = known c.args.self.now c.args.row.now c.args.i c.requires (node_of c.node_at-n.result) c.node_at-n.ensures in extension-room k (sym c.from.ensures.shape ∙ ap shape_in c.in-Extension.is) c.value-x-in-Extension.ensures
@@ -70,7 +70,7 @@ pub comparison-requires : goal.comparison-requires
 comparison-requires t c = let k = known c.args.self.now c.args.row.now c.args.i c.requires (node_of c.node_at-n.result) c.node_at-n.ensures in same-widths k (comparison-pair k (sym c.from.ensures.shape ∙ ap shape_in c.in-Comparison.is)) c.value-x-in-Comparison.ensures c.value-y-in-Comparison.ensures
 
 pub value-x-requires-in-Negation : goal.value-x-requires-in-Negation
-value-x-requires-in-Negation t c = let k = known c.args.self.now c.args.row.now c.args.i c.requires (node_of c.node_at-n.result) c.node_at-n.ensures in let o = negation-lower k (sym c.from.ensures.shape ∙ ap shape_in c.in-Negation.is) in (falls-to o.less c.decreases, o.good)
+value-x-requires-in-Negation t c = let k = known c.args.self.now c.args.row.now c.args.i c.requires (node_of c.node_at-n.result) c.node_at-n.ensures in let o = (negation-lower k (sym c.from.ensures.shape ∙ ap shape_in c.in-Negation.is)).0 in (falls-to o.less c.decreases, o.good)
 
 pub value-x-requires-in-Connective : goal.value-x-requires-in-Connective
 value-x-requires-in-Connective t c = let k = known c.args.self.now c.args.row.now c.args.i c.requires (node_of c.node_at-n.result) c.node_at-n.ensures in let o = (connective-lower k (sym c.from.ensures.shape ∙ ap shape_in c.in-Connective.is)).0 in (falls-to o.less c.decreases, o.good)
@@ -79,7 +79,7 @@ pub value-y-requires-in-Connective : goal.value-y-requires-in-Connective
 value-y-requires-in-Connective t c = let k = known c.args.self.now c.args.row.now c.args.i c.requires (node_of c.node_at-n.result) c.node_at-n.ensures in let o = (connective-lower k (sym c.from.ensures.shape ∙ ap shape_in c.in-Connective.is)).1 in (falls-to o.less c.decreases, o.good)
 
 pub value-x-requires-in-Unary : goal.value-x-requires-in-Unary
-value-x-requires-in-Unary t c = let k = known c.args.self.now c.args.row.now c.args.i c.requires (node_of c.node_at-n.result) c.node_at-n.ensures in let o = unary-lower k (sym c.from.ensures.shape ∙ ap shape_in c.in-Unary.is) in (falls-to o.less c.decreases, o.good)
+value-x-requires-in-Unary t c = let k = known c.args.self.now c.args.row.now c.args.i c.requires (node_of c.node_at-n.result) c.node_at-n.ensures in let o = (unary-lower k (sym c.from.ensures.shape ∙ ap shape_in c.in-Unary.is)).0 in (falls-to o.less c.decreases, o.good)
 
 pub new-requires : goal.new-requires
 new-requires t c = let k = known c.args.self.now c.args.row.now c.args.i c.requires (node_of c.node_at-n.result) c.node_at-n.ensures in record {
