@@ -1,7 +1,8 @@
 -- Parts of an arena and the names of a table.
 use Rattle.std.specs.Prelude.{ℕ, ◌+◌, ◌-◌, ◌≤◌, ◌<◌, ◌≡◌, Bool, true, false, ◌&&◌, ◌||◌, not, eqb, take, drop}
 use Rattle.std.proofs.Math.Path.{refl, sym}
-use Rattle.std.proofs.Common.{ap, ◌∙◌, arith, le_of_eq, drop_of_length-le, length-take-le, take_all, le-leb}
+use Rattle.std.proofs.Common.{ap, ◌∙◌, arith, le_of_eq, drop_of_length-le, length-take-le, take_all, le-leb, length-drop, get_or-drop}
+use Rattle.std.proofs.Math.Decide.{dec_lt}
 use mathlib.Core.List.{List, [], ◌∷◌, ◌++◌, append_assoc, append-nil}
 use Rattle.std.proofs.Math.Bool.{and-false}
 use Rattle.std.proofs.Math.ListN.{length, get_or}
@@ -11,7 +12,7 @@ use Rattle.lists.specs.Tests.{same, in_list, every}
 use Rattle.lists.specs.Build.{length-tabulate, get_or-tabulate}
 use Rattle.echo_spec.specs.Input.{part, names_of}
 use Rattle.echo_spec.specs.Names.{byte_ok, first_ok, reserved, entry_ok, table_ok}
-use Rattle.echo_names.specs.Steps.{drop-step, take_step, in_list-append}
+use Rattle.echo_names.specs.Steps.{same_not, drop-step, take_step, in_list-append}
 
 -- ---------------------------------------------------------------- parts
 
@@ -27,6 +28,40 @@ part_in arena start len h = rw (le-leb (start + len) (length arena) h, part) ref
 pub part-lent : (arena : List ℕ) (start len : ℕ) → start + len ≤ length arena → take (start + len - start) (drop start arena) ≡ part arena start len
 part-lent arena start len h =
     let e : start + len - start ≡ len = omega arith in rw (part_in arena start len h, e) refl
+
+-- the part as long as a name
+pub part-named : (arena name : List ℕ) (start len : ℕ) → len ≡ length name → start + len ≤ length arena
+    → take (start + length name - start) (drop start arena) ≡ part arena start len
+part-named arena name start len e h = rw (← e) (part-lent arena start len h)
+
+-- ---------------------------------------------------------------- a name beside a part, by its numbers
+
+-- a name with a first byte is no part of another length
+pub other-length : (arena name : List ℕ) (start len : ℕ) → (length name ≡ 0 → ⊥) → (len ≡ length name → ⊥) → same name (part arena start len) ≡ false
+other-length arena name start len f g = same_not name (part arena start len) (apart (dec_lt (length arena) (start + len)))
+  where
+    apart : Dec (length arena < start + len) → name ≡ part arena start len → ⊥
+    apart (yes h) e = f (ap length (e ∙ part_out arena start len h))
+    apart (no h) e =
+        let d = length-drop start arena in
+        let t = length-take-le len (drop start arena) (omega arith) in
+        let l = ap length (e ∙ part_in arena start len (omega arith)) in
+        g (omega arith)
+
+-- nor one that is not there
+pub not-inside : (arena name : List ℕ) (start len : ℕ) → (length name ≡ 0 → ⊥) → length arena < start + len → same name (part arena start len) ≡ false
+not-inside arena name start len f h = same_not name (part arena start len) (λ e. f (ap length (e ∙ part_out arena start len h)))
+
+-- nor one with another last byte
+pub other-last : (arena name : List ℕ) (start len : ℕ) → (length name ≡ 0 → ⊥) → len ≡ length name → start + len ≤ length arena
+    → (get_or arena (start + (length name - 1)) 0 ≡ get_or name (length name - 1) 0 → ⊥) → same name (part arena start len) ≡ false
+other-last arena name start len f l h g = same_not name (part arena start len) (λ e. g (sym (last e)))
+  where
+    last : name ≡ part arena start len → get_or name (length name - 1) 0 ≡ get_or arena (start + (length name - 1)) 0
+    last e =
+        let k : length name - 1 < len = omega arith in
+        ap (λ (x : List ℕ). get_or x (length name - 1) 0) (e ∙ part_in arena start len h)
+        ∙ get_or-take len (drop start arena) (length name - 1) 0 k ∙ get_or-drop start arena (length name - 1) 0
 
 -- ---------------------------------------------------------------- the names of a table
 
