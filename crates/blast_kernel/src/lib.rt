@@ -195,7 +195,7 @@ fn all_zero(operands: &[u64]) -> bool
 }
 
 // Is the kind known, and is each operand that it does not have 0. Ruled out: kind 39 as known; a unary node whose third operand
-// alone is looked at.
+// alone is looked at, or is not.
 #[tactic(auto, unfolding(echo_spec::specs::Input::node_encoded))]
 pub fn node_encoded(n: Node) -> bool
     ensures { result ≡ input.node_encoded (node_of n) }

@@ -71,8 +71,8 @@ fn same_rest(a: &[u8], b: &[u8], i: usize) -> bool
 }
 
 // Are the two the same bytes?
-// Kept: by blocks, of which all bytes are looked at. With `starts_with` in `stands` of script_names a release with long chains of names of 32 bytes
-// took 1.56 of the time.
+// Kept: by blocks, of which all bytes are looked at. With `starts_with` in place of this in `stands` of script_names a release with long chains of
+// names of 32 bytes took 1.56 of the time that it takes with this.
 // Ruled out: one that compares no more bytes than the shorter has; one that leaves the last byte out.
 pub fn same_bytes(a: &[u8], b: &[u8]) -> bool
     ensures { result ≡ same a.now b.now }
@@ -204,8 +204,8 @@ impl<'a> NameTable<'a> {
 
     // Is it the name of entry k? What tells most names apart is looked at first, and by itself: the length, and the last byte, since names that differ
     // mostly do so at the end.
-    // Kept: by the entry's numbers. Where the part was made first, and told from the name by its own length, the check of 512 names took 1.2 to 1.4 of
-    // the time.
+    // Kept: by the entry's numbers. Where the part was made first, and told from the name by its own length, a script with 512 names took 1.2 to 1.4 of
+    // the instructions, and 1.1 of the time.
     fn same_name(&self, k: usize, name: &[u8]) -> bool
         requires { k < length self.now.starts.now }
         ensures { result ≡ same name.now («part_of» self.now.arena.now (get_or self.now.starts.now k 0) (get_or self.now.lens.now k 0)) }
