@@ -19,7 +19,7 @@ use Rattle.script_entries.specs.Entries.{ArgumentsAt, NextArgument}
 use Rattle.script_heads.specs.HeadLaws.{byte-there, byte-here, byte-apart, Standing, ended, stands, standing, no-argument, no-sort, width-zero, width-proper}
 use Rattle.script_terms.specs.States.{sort_from, State, waits, index, stored, rest, after, state_of, Held, Usable, enough, Going, Asking, SortAt, told_at}
 use Rattle.script_terms.specs.StateLaws.{Asks, left, left-high, rest-next, close-rest, own-close, stored-close, index-else, value-else, stored-else, own-else, waits-empty, waits-else}
-use Rattle.script_terms.specs.Turns.{AfterIs, closed_as, ClosedIs, NoneFrom, DoneFrom, OperandFrom, NextSays, NextIs, Turned, Turn, Came}
+use Rattle.script_terms.specs.Turns.{AfterIs, closed_as, ClosedIs, NoneFrom, DoneFrom, OperandFrom, NextSays, NextIs, Turned, Turn, TurnWithin, NextTo, NextWithin, MovedTo, Came}
 use Rattle.script_terms.specs.OperandLaws.{width-sort, not-zero}
 use Rattle.script_terms.specs.declared.TermState.{TermState}
 use Rattle.script_terms.specs.declared.Stores.{Stores}
@@ -289,20 +289,24 @@ module _ (s : List ℕ) (w : TermState) (p : ℕ) (D : Declarations) (a : ℕ) (
   says : NextSays s D p w x.held.sorts r
   says = h D x.held.sorts x.held.call
 
-  pub more-none : r ≡ None → Turn s D a p p Failed false
+  pub more-none : r ≡ None → TurnWithin s D a p p Failed false
   more-none q = record {
-    turned = λ f l. let (g, m, e) = x.reads f l in e ∙ ap (λ (o : State). rest g D o (drop p s)) x.held.is ∙ y.reads g m;
-    further = λ e. absurd (subst T (sym e) tt);
+    turn = record {
+      turned = λ f l. let (g, m, e) = x.reads f l in e ∙ ap (λ (o : State). rest g D o (drop p s)) x.held.is ∙ y.reads g m;
+      further = λ e. absurd (subst T (sym e) tt);
+    };
     high = x.high;
   }
     where
       y : NoneFrom s D p now
       y = subst (NextSays s D p w x.held.sorts) q says
 
-  pub more-done : {n e : ℕ} → r ≡ Some (Whole n e) → Turn s D a p e (Done n) false
+  pub more-done : {n e : ℕ} → r ≡ Some (Whole n e) → TurnWithin s D a p e (Done n) false
   more-done {n} {e} q = record {
-    turned = (low, y.2.high, λ f l. let (g, k, t) = x.reads f l in t ∙ ap (λ (o : State). rest g D o (drop p s)) x.held.is ∙ y.2.reads g k);
-    further = λ k. absurd (subst T (sym k) tt);
+    turn = record {
+      turned = (low, y.2.high, λ f l. let (g, k, t) = x.reads f l in t ∙ ap (λ (o : State). rest g D o (drop p s)) x.held.is ∙ y.2.reads g k);
+      further = λ k. absurd (subst T (sym k) tt);
+    };
     high = y.2.high;
   }
     where
@@ -312,16 +316,18 @@ module _ (s : List ℕ) (w : TermState) (p : ℕ) (D : Declarations) (a : ℕ) (
       low : a < e
       low = ⊎_elim (λ k. let m = x.moved k.0 k.1 in let l = y.0 in omega arith) (λ k. let m = x.low in let l = y.1 k in omega arith) (whether-done w)
 
-  pub more-operand : {d : TermState} {e : ℕ} → r ≡ Some (Operand d e) → Turn s D a p e d true
+  pub more-operand : {d : TermState} {e : ℕ} → r ≡ Some (Operand d e) → TurnWithin s D a p e d true
   more-operand {d} {e} q = record {
-    turned = record {
-      state = state_of x.held.sorts d;
-      held = record { sorts = x.held.sorts; is = refl; call = λ p m k. x.held.call p m (y.0 p m k) };
-      low = let m = x.low in let l = y.1.low in omega arith;
-      high = y.1.high;
-      reads = λ f l. let (g, m, t) = x.reads f l in let (k, n, u) = y.1.reads g m in (k, n, t ∙ ap (λ (o : State). rest g D o (drop p s)) x.held.is ∙ u);
+    turn = record {
+      turned = record {
+        state = state_of x.held.sorts d;
+        held = record { sorts = x.held.sorts; is = refl; call = λ p m k. x.held.call p m (y.0 p m k) };
+        low = let m = x.low in let l = y.1.low in omega arith;
+        high = y.1.high;
+        reads = λ f l. let (g, m, t) = x.reads f l in let (k, n, u) = y.1.reads g m in (k, n, t ∙ ap (λ (o : State). rest g D o (drop p s)) x.held.is ∙ u);
+      };
+      further = λ _. y.1.low;
     };
-    further = λ _. y.1.low;
     high = y.1.high;
   }
     where
@@ -329,6 +335,10 @@ module _ (s : List ℕ) (w : TermState) (p : ℕ) (D : Declarations) (a : ℕ) (
       y = subst (NextSays s D p w x.held.sorts) q says
 
 -- ---------------------------------------------------------------- turns
+
+-- the turns alone, wherever the place lies
+pub next-to : {s : List ℕ} {w w' : TermState} {p p' : ℕ} {r : Bool} → NextWithin s p w p' w' r × MovedTo s p p' w' r → NextTo s p w p' w' r × MovedTo s p p' w' r
+next-to x = (λ D a g. (x.0 D a g).turn, x.1)
 
 pub went : {s : List ℕ} {w w' : TermState} {D : Declarations} {a n p : ℕ} (x : Came s D a w n p) → Held s w' (after x.state (sort_from n)) → Going s D a w' p
 went x h = record { state = _; held = h; low = let l = x.low in omega arith; moved = λ n k. x.low; high = x.high; reads = x.reads }

@@ -99,10 +99,17 @@ Turned s D a p w false = SortAt s D a (told_at w p)
 pub record Turn (s : List ℕ) (D : Declarations) (a p p' : ℕ) (w' : TermState) (r : Bool) : Type 0 where
   pub turned : Turned s D a p' w' r
   pub further : r ≡ true → p < p'
+
+-- one turn, and the place lies in the script, whether or not the term has a sort
+pub record TurnWithin (s : List ℕ) (D : Declarations) (a p p' : ℕ) (w' : TermState) (r : Bool) : Type 0 where
+  pub turn : Turn s D a p p' w' r
   pub high : p' ≤ length s
 
 abbrev pub NextTo : List ℕ → ℕ → TermState → ℕ → TermState → Bool → Type 0
 NextTo s p w p' w' r = (D : Declarations) (a : ℕ) → Going s D a w p → Turn s D a p p' w' r
+
+abbrev pub NextWithin : List ℕ → ℕ → TermState → ℕ → TermState → Bool → Type 0
+NextWithin s p w p' w' r = (D : Declarations) (a : ℕ) → Going s D a w p → TurnWithin s D a p p' w' r
 
 -- ---------------------------------------------------------------- heads
 

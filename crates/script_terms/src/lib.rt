@@ -10,7 +10,7 @@ ghost use Rattle.echo_spec.specs.TreeSorts.{bool, bits};
 ghost use Rattle.script_entries.specs.Entries.{Declares};
 ghost use Rattle.script_heads.specs.Heads.{HeadAt};
 ghost use Rattle.script_terms.specs.States.{State, sort_from, after, Held, Usable, Going, SortedBy, SortAt};
-ghost use Rattle.script_terms.specs.Turns.{numeral_count, state_from, StateIs, JoinedIs, AfterIs, ClosedIs, NextIs, StandsAt, NextTo, MovedTo, OpenedIs, head_end, BeforeIs};
+ghost use Rattle.script_terms.specs.Turns.{numeral_count, state_from, StateIs, JoinedIs, AfterIs, ClosedIs, NextIs, StandsAt, NextWithin, MovedTo, OpenedIs, head_end, BeforeIs};
 
 use blast_kernel::Shape;
 use refusals::MAX_ROTATED;
@@ -283,7 +283,7 @@ fn next_at(s: &[u8], p: usize, w: TermState) -> Option<Next>
 // answers apart.
 pub fn more(s: &[u8], at: &mut usize, w: &mut TermState) -> bool
     requires { (at.old ≤ length s.now) × Usable s.now w.old }
-    ensures { NextTo s.now at.old w.old at.new w.new result × MovedTo s.now at.old at.new w.new result }
+    ensures { NextWithin s.now at.old w.old at.new w.new result × MovedTo s.now at.old at.new w.new result }
 {
     match next_at(s, *at, *w) {
         None => {

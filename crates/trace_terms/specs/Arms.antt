@@ -321,8 +321,8 @@ module _ {nodes bits ws vw : List ℕ} {entry : List (Option ℕ)} {row : List �
       let b = both-lower s e q o.0 o.1 in
       record { first = b.0; second = b.1; some = o.2; same = o.3 }
 
-  pub same-widths : (p : Pair false) {x y : Vector} → Is n.a x → Is n.b y → y.width ≡ x.width
-  same-widths p u v = v.width ∙ sym p.same ∙ sym u.width
+  pub same-widths : width_at ws n.a ≡ width_at ws n.b → {x y : Vector} → Is n.a x → Is n.b y → y.width ≡ x.width
+  same-widths e u v = v.width ∙ sym e ∙ sym u.width
 
   pub binary-pair : shape n ≡ binary → Pair false
   unfolding wf_as operands_as
@@ -346,7 +346,7 @@ module _ {nodes bits ws vw : List ℕ} {entry : List (Option ℕ)} {row : List �
       let p = binary-pair e in
       to_vector binary e refl r
       (λ vars ag.
-      rw (from_vector vars ag n.a x p.first u, from_vector vars ag n.b y p.second v, m, same-widths p u v, eqb_same x.width) (ap₂ values.vector (sym w) (sym q)))
+      rw (from_vector vars ag n.a x p.first u, from_vector vars ag n.b y p.second v, m, same-widths p.same u v, eqb_same x.width) (ap₂ values.vector (sym w) (sym q)))
       (w ∙ u.width ∙ binary-width e)
 
   pub comparison-pair : shape n ≡ comparison → Pair false
@@ -360,7 +360,7 @@ module _ {nodes bits ws vw : List ℕ} {entry : List (Option ℕ)} {row : List �
       let p = comparison-pair e in
       to-truth comparison e refl r
       (λ vars ag.
-      rw (from_vector vars ag n.a x p.first u, from_vector vars ag n.b y p.second v, m, same-widths p u v, eqb_same x.width) (ap truth (sym (q ∙ g))))
+      rw (from_vector vars ag n.a x p.first u, from_vector vars ag n.b y p.second v, m, same-widths p.same u v, eqb_same x.width) (ap truth (sym (q ∙ g))))
       (w ∙ sym (open-width comparison e))
 
   -- ---------------------------------------------------------------- one vector
@@ -391,10 +391,14 @@ module _ {nodes bits ws vw : List ℕ} {entry : List (Option ℕ)} {row : List �
 
   -- ---------------------------------------------------------------- rotations
 
+  rotation-operands : shape n ≡ rotation → (n.a < i) × (n.b < i) × (0 < width_at ws n.a) × (width_at ws n.a ≡ width_at ws n.b)
+  unfolding wf_as
+  rotation-operands e = bin-operands ws i k.exists n.a n.b (open-wf rotation e)
+
   pub rotation-lower : shape n ≡ rotation → Under false n.a × (0 < width_at ws i) × (width_at ws n.a ≡ width_at ws i) × (n.b < i)
-  unfolding wf_as width_as operands_as
+  unfolding width_as operands_as
   rotation-lower e =
-      let o = bin-operands ws i k.exists n.a n.b (open-wf rotation e) in
+      let o = rotation-operands e in
       let t = open-operands rotation e in
       let w : width_at ws n.a ≡ width_at ws i = sym (open-width rotation e ∙ width-before ws i k.exists n.a o.0) in
       (under (vector n.a) (and_0 (operand_ready ns below (vector n.a)) _ t) o.0, rw w at o.2, w, o.1)

@@ -3,7 +3,7 @@ use Rattle.std.proofs.Common.{◌≡◌, ℕ, refl, ap, [], subst, arith, Option
 use Rattle.std.specs.Option.{ok_or}
 use Rattle.std.proofs.lemmas.Result.{err_from_is_err_and}
 use Rattle.heap_laws.specs.Within.{within-parts}
-use Rattle.script_terms.specs.TurnLaws.{held-usable}
+use Rattle.script_terms.specs.TurnLaws.{held-usable, next-to}
 use Rattle.script_place.specs.declared.Unread.TheVariants.{NoScript, Limit}
 use Rattle.script_place.specs.Terms.{BegunTo}
 use Rattle.script_place.specs.Going.{open-opens, done_at, nothing-at, deep-at}
@@ -67,14 +67,14 @@ place_term-more-requires t c = ((c.loop-heap.invariant.reads c.requires.0 c.requ
 
 pub place_term-place-requires : goal.place_term-place-requires
 place_term-place-requires t c = (
-  (let b = (asking c.loop-heap.invariant c.more.ensures c.loop-heap-test.true c.requires.0 c.requires.1).low in let d = (asking c.loop-heap.invariant c.more.ensures c.loop-heap-test.true c.requires.0 c.requires.1).high in omega arith),
+  (let b = (asking c.loop-heap.invariant (next-to c.more.ensures) c.loop-heap-test.true c.requires.0 c.requires.1).low in let d = (asking c.loop-heap.invariant (next-to c.more.ensures) c.loop-heap-test.true c.requires.0 c.requires.1).high in omega arith),
   (c.loop-heap.invariant.ready.declarations, c.loop-heap.invariant.ready.known, c.loop-heap.invariant.ready.state),
 )
 
 pub place_term-returns-in_err-z-in-Open : goal.place_term-returns-in_err-z-in-Open
 place_term-returns-in_err-z-in-Open t c =
     let p = err_from_is_err_and c.from_residual-in_err-z-in-Open.result c.from_residual-in_err-z-in-Open.ensures.1 in
-    rw (p.1, p.2) (turn-not c.loop-heap.invariant c.more.ensures c.loop-heap-test.true _ c.in_err-z-in-Open.ensures)
+    rw (p.1, p.2) (turn-not c.loop-heap.invariant (next-to c.more.ensures) c.loop-heap-test.true _ c.in_err-z-in-Open.ensures)
 
 pub place_term-pushed-requires : goal.place_term-pushed-requires
 place_term-pushed-requires t c = ready-pushable c.loop-heap.invariant.ready c.in_ok-z-in-Open.z c.in_ok-z-in-Open.ensures
@@ -82,16 +82,16 @@ place_term-pushed-requires t c = ready-pushable c.loop-heap.invariant.ready c.in
 pub place_term-returns-in_err-pushed-in-Open : goal.place_term-returns-in_err-pushed-in-Open
 place_term-returns-in_err-pushed-in-Open t c =
     let p = err_from_is_err_and c.from_residual-in_err-pushed-in-Open.result c.from_residual-in_err-pushed-in-Open.ensures.1 in
-    rw (p.1, p.2) (turn-over c.loop-heap.invariant c.more.ensures c.loop-heap-test.true c.in_ok-z-in-Open.ensures c.pushed.new.heap _ c.in_err-pushed-in-Open.ensures)
+    rw (p.1, p.2) (turn-over c.loop-heap.invariant (next-to c.more.ensures) c.loop-heap-test.true c.in_ok-z-in-Open.ensures c.pushed.new.heap _ c.in_err-pushed-in-Open.ensures)
 
 pub place_term-step-requires : goal.place_term-step-requires
-place_term-step-requires t c = ((asking c.loop-heap.invariant c.more.ensures c.loop-heap-test.true c.requires.0 c.requires.1).state, (asking c.loop-heap.invariant c.more.ensures c.loop-heap-test.true c.requires.0 c.requires.1).held)
+place_term-step-requires t c = ((asking c.loop-heap.invariant (next-to c.more.ensures) c.loop-heap-test.true c.requires.0 c.requires.1).state, (asking c.loop-heap.invariant (next-to c.more.ensures) c.loop-heap-test.true c.requires.0 c.requires.1).held)
 
 pub place_term-loop-heap-smaller : goal.place_term-loop-heap-smaller
-place_term-loop-heap-smaller t c = let a = (turn-next c.loop-heap.invariant c.more.ensures c.loop-heap-test.true c.in_ok-z-in-Open.ensures c.pushed.new.heap tt c.in_ok-pushed-in-Open.ensures c.one_more-v.ensures c.step.ensures) in omega (arith, a.1, a.2)
+place_term-loop-heap-smaller t c = let a = (turn-next c.loop-heap.invariant (next-to c.more.ensures) c.loop-heap-test.true c.in_ok-z-in-Open.ensures c.pushed.new.heap tt c.in_ok-pushed-in-Open.ensures c.one_more-v.ensures c.step.ensures) in omega (arith, a.1, a.2)
 
 pub place_term-loop-heap-preserved : goal.place_term-loop-heap-preserved
-place_term-loop-heap-preserved t c = (turn-next c.loop-heap.invariant c.more.ensures c.loop-heap-test.true c.in_ok-z-in-Open.ensures c.pushed.new.heap tt c.in_ok-pushed-in-Open.ensures c.one_more-v.ensures c.step.ensures).0
+place_term-loop-heap-preserved t c = (turn-next c.loop-heap.invariant (next-to c.more.ensures) c.loop-heap-test.true c.in_ok-z-in-Open.ensures c.pushed.new.heap tt c.in_ok-pushed-in-Open.ensures c.one_more-v.ensures c.step.ensures).0
 
 pub place_term-returns-in-Done : goal.place_term-returns-in-Done
 place_term-returns-in-Done t c = done_at c.in_ok-x.x (told c.args.script.now c.args.at c.in_ok-x.ensures.ok_part c.head_at.ensures) c.in-Done.p (subst (BegunTo c.in_ok-x.x c.args.at) c.in-Done.is c.begin.ensures)
@@ -109,16 +109,16 @@ place_term-returns-in_ok-node-in-Nullary t c =
     (Ok c.in_ok-node-in-Nullary.node) (Ok c.placed_at.result) c.in_ok-node-in-Nullary.ensures (ap Ok c.placed_at.ensures)
 
 pub place_term-returns-in_default : goal.place_term-returns-in_default
-place_term-returns-in_default t c = end_none c.loop-heap.invariant c.more.ensures c.loop-heap-test.false c.in_default.not-Done
+place_term-returns-in_default t c = end_none c.loop-heap.invariant (next-to c.more.ensures) c.loop-heap-test.false c.in_default.not-Done
 
 pub place_term-overflow_sub-e : goal.place_term-overflow_sub-e
-place_term-overflow_sub-e t c = end-low c.loop-heap.invariant c.more.ensures c.loop-heap-test.false c.in-Done-w.field-0 c.in-Done-w.is c.requires.0 c.requires.1
+place_term-overflow_sub-e t c = end-low c.loop-heap.invariant (next-to c.more.ensures) c.loop-heap-test.false c.in-Done-w.field-0 c.in-Done-w.is c.requires.0 c.requires.1
 
 pub place_term-closed-requires : goal.place_term-closed-requires
-place_term-closed-requires t c = end-closes c.loop-heap.invariant c.more.ensures c.loop-heap-test.false c.in-Done-w.field-0 c.in-Done-w.is c.requires.1 c.requires.2
+place_term-closed-requires t c = end-closes c.loop-heap.invariant (next-to c.more.ensures) c.loop-heap-test.false c.in-Done-w.field-0 c.in-Done-w.is c.requires.1 c.requires.2
 
 pub place_term-returns-in-Done-w : goal.place_term-returns-in-Done-w
-place_term-returns-in-Done-w t c = end-placed c.loop-heap.invariant c.more.ensures c.loop-heap-test.false c.in-Done-w.field-0 c.in-Done-w.is c.requires.1 c.requires.2 _ c.closed.result c.closed.ensures
+place_term-returns-in-Done-w t c = end-placed c.loop-heap.invariant (next-to c.more.ensures) c.loop-heap-test.false c.in-Done-w.field-0 c.in-Done-w.is c.requires.1 c.requires.2 _ c.closed.result c.closed.ensures
 
 pub place-returns : goal.place-returns
 place-returns t c = c.place_term.ensures

@@ -22,7 +22,7 @@ pub value-y-requires : goal.value-y-requires
 value-y-requires t c = let k = known c.args.self.now c.args.row.now c.args.i c.requires (node_of c.node_at-n.result) c.node_at-n.ensures in let o = (binary-pair k (sym c.from.ensures.shape ∙ ap shape_in c.in-Binary.is)).second in (falls-to o.less c.decreases, o.good)
 
 pub binary-requires : goal.binary-requires
-binary-requires t c = let k = known c.args.self.now c.args.row.now c.args.i c.requires (node_of c.node_at-n.result) c.node_at-n.ensures in same-widths k (binary-pair k (sym c.from.ensures.shape ∙ ap shape_in c.in-Binary.is)) c.value-x.ensures c.value-y.ensures
+binary-requires t c = let k = known c.args.self.now c.args.row.now c.args.i c.requires (node_of c.node_at-n.result) c.node_at-n.ensures in same-widths k (binary-pair k (sym c.from.ensures.shape ∙ ap shape_in c.in-Binary.is)).same c.value-x.ensures c.value-y.ensures
 
 pub value-x-requires-in-Rotation : goal.value-x-requires-in-Rotation
 value-x-requires-in-Rotation t c = let k = known c.args.self.now c.args.row.now c.args.i c.requires (node_of c.node_at-n.result) c.node_at-n.ensures in let o = (rotation-lower k (sym c.from.ensures.shape ∙ ap shape_in c.in-Rotation.is)).0 in (falls-to o.less c.decreases, o.good)
@@ -67,7 +67,7 @@ pub value-y-requires-in-Comparison : goal.value-y-requires-in-Comparison
 value-y-requires-in-Comparison t c = let k = known c.args.self.now c.args.row.now c.args.i c.requires (node_of c.node_at-n.result) c.node_at-n.ensures in let o = (comparison-pair k (sym c.from.ensures.shape ∙ ap shape_in c.in-Comparison.is)).second in (falls-to o.less c.decreases, o.good)
 
 pub comparison-requires : goal.comparison-requires
-comparison-requires t c = let k = known c.args.self.now c.args.row.now c.args.i c.requires (node_of c.node_at-n.result) c.node_at-n.ensures in same-widths k (comparison-pair k (sym c.from.ensures.shape ∙ ap shape_in c.in-Comparison.is)) c.value-x-in-Comparison.ensures c.value-y-in-Comparison.ensures
+comparison-requires t c = let k = known c.args.self.now c.args.row.now c.args.i c.requires (node_of c.node_at-n.result) c.node_at-n.ensures in same-widths k (comparison-pair k (sym c.from.ensures.shape ∙ ap shape_in c.in-Comparison.is)).same c.value-x-in-Comparison.ensures c.value-y-in-Comparison.ensures
 
 pub value-x-requires-in-Negation : goal.value-x-requires-in-Negation
 value-x-requires-in-Negation t c = let k = known c.args.self.now c.args.row.now c.args.i c.requires (node_of c.node_at-n.result) c.node_at-n.ensures in let o = (negation-lower k (sym c.from.ensures.shape ∙ ap shape_in c.in-Negation.is)).0 in (falls-to o.less c.decreases, o.good)
